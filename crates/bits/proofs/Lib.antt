@@ -1,0 +1,5 @@
+-- The laws of bits, of sums and of counted members, for the crates above.
+pub mod BitLaws
+pub mod Trailing
+pub mod TotalLaws
+pub mod CountLaws

@@ -1,0 +1,28 @@
+-- A set of numbers below 64 in one word of 64 bits: q is a member where bit q is 1.
+use Prim.Native.Nat.{ℕ, _/_, _%_, _^_, _<_, _≤_}
+use mathlib.Core.Path.{_≡_}
+use mathlib.Core.Logic.{_↔_}
+use Rattle.bits.specs.Totals.{total}
+
+-- Bit q of x.
+unfoldable pub bit : ℕ → ℕ → ℕ
+bit x q = x / 2 ^ q % 2
+
+-- q is a member of x.
+abbrev pub Has : ℕ → ℕ → Type 0
+Has x q = bit x q ≡ 1
+
+-- The members of x are the numbers of Q.
+abbrev pub Members : ℕ → (ℕ → Type 0) → Type 0
+Members x Q = (k : ℕ) → Has x k ↔ Q k
+
+-- q is the lowest member of a word.
+pub record Lowest (word q : ℕ) : Type 0 where
+  pub small : q < 64
+  pub member : Has word q
+  pub least : (k : ℕ) → k < q → Has word k → ⊥
+
+-- n is the number of members of a word.
+pub record Counted (word n : ℕ) : Type 0 where
+  pub number : n ≡ total (bit word) 64
+  pub small : n ≤ 64
