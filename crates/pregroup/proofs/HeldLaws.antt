@@ -1,13 +1,10 @@
--- How the code's numbers say what the calculus asks: a row has no bit from 64 on, the bias keeps successors and parity, and so two held
--- simple types could contract exactly when their exponents follow each other and the rows relate them, turned round where odd.
-use Prim.Native.Nat.{ℕ, zero, suc, _+_, _/_, _%_, _^_, _≤_, _<_}
-use native.Mathlib.Nat.{lt-of-lt-of-le, div-eq-of-lt}
+-- How the code's numbers say what the calculus asks: the bias keeps successors and parity, and so two held simple types could contract
+-- exactly when their exponents follow each other and the rows relate them, turned round where odd.
+use Prim.Native.Nat.{ℕ, zero, suc, _+_, _%_}
 use native.Mathlib.Numerals.{add-one}
-use native.Mathlib.Omega.{arith}
 use mathlib.Core.Path.{_≡_, refl, sym, ap, _∙_}
 use mathlib.Core.Logic.{_↔_}
 use mathlib.Core.Bool.{Bool, true, false, false≢true}
-use lib.Pow.{pow-mono}
 use borrow.Author.Tests.{eq-eqb, ne-eqb}
 use lib.IntN.{ℤ, pos, negℤ, sucℤ, _+ℤ_, _-ℤ_, sucℤ-+ℤ, -ℤ-+ℤ-cancel}
 use Rattle.pregroup.specs.Types.{even}
@@ -15,13 +12,6 @@ use Rattle.pregroup.specs.Order.{Relation, Turned}
 use Rattle.pregroup.specs.Vanish.{Contracts}
 use Rattle.pregroup.specs.Held.{bias, held}
 use Rattle.pregroup.proofs.Exponents.{even-suc}
-
--- A word of 64 bits has no bit 64 or above.
-pub no-bit-past : (x q : ℕ) → x < 2 ^ 64 → 64 ≤ q → x / 2 ^ q % 2 ≡ 1 → ⊥
-no-bit-past x q small past bit =
-    let none : x / 2 ^ q ≡ 0 = div-eq-of-lt (lt-of-lt-of-le small (pow-mono past)) in
-    let h : 0 % 2 ≡ 1 = rw none at bit in
-    omega arith
 
 -- The bias keeps successors ..
 bias-suc : (x : ℕ) → pos (suc x) -ℤ pos bias ≡ sucℤ (pos x -ℤ pos bias)

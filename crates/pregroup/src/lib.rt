@@ -17,11 +17,7 @@ pub fn stands_below(rows: &[u64], p: u8, q: u8) -> bool
     if rows.len() <= at {
         return false;
     }
-    let row = rows[at];
-    if 64 <= q {
-        return false;
-    }
-    (row >> q) % 2 == 1
+    bits::has(rows[at], q)
 }
 
 // Whether the simple types a^(x) and b^(y), in this order, could contract, with their exponents raised by the bias.
