@@ -50,6 +50,12 @@ pub bit-absent : (x q : ℕ) → (Has x q → ⊥) → bit x q ≡ 0
 bit-absent x q =
     on-digits (λ i j. (i ≡ 1 → ⊥) → i ≡ 0) (λ h. refl) (λ h. refl) (λ h. absurd (h refl)) (λ h. absurd (h refl)) (bit x q) 0 (bit-small x q) (zero-lt-suc 1)
 
+-- A number is a member or not.
+pub has-or-not : (x q : ℕ) → Has x q ⊎ (Has x q → ⊥)
+has-or-not x q =
+    on-digits (λ i j. (i ≡ 1) ⊎ (i ≡ 1 → ⊥)) (inr (λ h. omega arith)) (inr (λ h. omega arith)) (inl refl) (inl refl) (bit x q) 0 (bit-small x q)
+    (zero-lt-suc 1)
+
 -- A word has q where another has it: the bit is no larger.
 pub bit-le : (x y q : ℕ) → (Has x q → Has y q) → bit x q ≤ bit y q
 bit-le x y q =

@@ -1,0 +1,53 @@
+-- Rows that hold the closure of a book's pairs hold as many pairs as the closure has: bit by bit they are the test `below`, and past the
+-- last type there is nothing.
+use Prim.Native.Nat.{ℕ, _≤_, _<_}
+use mathlib.Core.Path.{_≡_, refl, sym, ap, _∙_}
+use mathlib.Core.Logic.{_↔_, Iff·trans, Iff·symm}
+use mathlib.Core.Bool.{Bool, true, false, cond, false≢true}
+use mathlib.Core.List.{List}
+use native.Mathlib.Omega.{arith}
+use lib.ListN.{getD}
+use Rattle.bits.specs.Bits.{bit, Has}
+use Rattle.bits.specs.Totals.{total}
+use Rattle.bits.proofs.BitLaws.{bit-absent}
+use Rattle.bits.proofs.TotalLaws.{total-same, total-ends, total-none}
+use Rattle.pregroup.specs.Held.{InRows}
+use Rattle.order.specs.Closed.{Closed, Pair, Listed, DeclaredPairs, below, closedCount}
+use Rattle.order.specs.Rows.{Hold, pairsIn}
+use Rattle.order.proofs.ClosureLaws.{closed-within}
+use Rattle.order.proofs.Decision.{below-decides}
+
+-- A bit that a test says.
+bit-of-test : (x q : ℕ) (t : Bool) → Has x q ↔ (t ≡ true) → bit x q ≡ cond t 1 0
+bit-of-test x q true h = h .1 refl
+bit-of-test x q false h = bit-absent x q (λ m. false≢true (h .0 m))
+
+module _ (types : ℕ) (pairs : List Pair) (rows : List ℕ) (few : types ≤ 64) (declared : DeclaredPairs types pairs)
+    (hold : Hold rows (Closed types (Listed pairs))) where
+  row : ℕ → ℕ
+  row p = getD rows p 0
+
+  -- Past the last type there is nothing.
+  lower-declared : (p q : ℕ) → Has (getD rows p 0) q → p < types
+  unfolding InRows
+  lower-declared p q m = closed-within declared p q (hold p q .0 m) .0
+
+  upper-declared : (p q : ℕ) → Has (getD rows p 0) q → q < types
+  unfolding InRows
+  upper-declared p q m = closed-within declared p q (hold p q .0 m) .1
+
+  bit-is-below : (p q : ℕ) → bit (getD rows p 0) q ≡ cond (below types pairs p q) 1 0
+  unfolding InRows
+  bit-is-below p q = bit-of-test (getD rows p 0) q (below types pairs p q) (Iff·trans (hold p q) (Iff·symm (below-decides types pairs declared p q)))
+
+  row-count : (p : ℕ) → total (bit (getD rows p 0)) 64 ≡ total (λ q. cond (below types pairs p q) 1 0) types
+  row-count p =
+      total-ends (bit (getD rows p 0)) 64 types few (λ q h. bit-absent (getD rows p 0) q (λ m. omega (arith, upper-declared p q m)))
+      ∙ total-same (bit (getD rows p 0)) (λ q. cond (below types pairs p q) 1 0) types (λ q h. bit-is-below p q)
+
+  pub pairs-in-closed : pairsIn rows ≡ closedCount types pairs
+  unfolding pairsIn closedCount
+  pairs-in-closed =
+      total-ends (λ p. total (bit (getD rows p 0)) 64) 64 types few
+      (λ p h. total-none (bit (getD rows p 0)) 64 (λ q. bit-absent (getD rows p 0) q (λ m. omega (arith, lower-declared p q m))))
+      ∙ total-same (λ p. total (bit (getD rows p 0)) 64) (λ p. total (λ q. cond (below types pairs p q) 1 0) types) types (λ p h. row-count p)

@@ -1,0 +1,3 @@
+-- The order of a book: the closure of its pairs, and how many pairs it has.
+pub mod Closed
+pub mod Rows

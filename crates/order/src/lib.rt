@@ -1,0 +1,59 @@
+// The order of a book: the reflexive and transitive closure of its pairs, computed once and held as 64 rows of 64 bits, with the number of
+// its pairs. Bit q of row p says p ≤ q.
+ghost use Prim.Native.Nat.{_<_};
+ghost use mathlib.Core.Path.{_≡_};
+ghost use Rattle.bits.specs.Bits.{Members};
+ghost use Rattle.pregroup.specs.Held.{InRows};
+ghost use Rattle.order.specs.Closed.{Closed};
+ghost use Rattle.order.specs.Rows.{Hold, DeclaredRows, pairsIn};
+
+// How many basic types a book may have at most, and so the number of rows and of bits in a row.
+pub const MAX_TYPES: usize = 64;
+
+// A closed order. A row past the last type holds nothing.
+pub struct Order {
+    pub rows: [u64; 64],
+}
+
+// All that stands at or above p: a walk along the pairs. What is to be gone on from is in `todo`, what was gone on from in `seen`.
+pub fn reach(direct: &[u64; 64], p: u8) -> u64
+    requires { ⌜ p < 64 ⌝ }
+    ensures { λ r. ⌜ Members r (Closed 64 (InRows (now (direct .entry))) p) ⌝ }
+{
+    let mut seen = 0u64;
+    let mut todo = bits::with(0, p);
+    while todo != 0 {
+        let q = bits::lowest(todo);
+        seen = bits::with(seen, q);
+        todo = bits::minus(bits::union(todo, direct[q as usize]), seen);
+    }
+    seen
+}
+
+// The closure of a book's pairs, which are given as rows.
+pub fn close(direct: &[u64; 64], types: usize) -> Order
+    requires { ⌜ DeclaredRows types (now direct) ⌝ }
+    ensures { λ r. ⌜ Hold (r .rows) (Closed types (InRows (now (direct .entry)))) ⌝ }
+{
+    let mut rows = [0u64; 64];
+    let mut p = 0;
+    while p < types {
+        rows[p] = reach(direct, p as u8);
+        p += 1;
+    }
+    Order { rows }
+}
+
+// How many pairs p ≤ q the order has, p ≤ p included.
+pub fn count_pairs(order: Order) -> u64
+    ensures { λ r. ⌜ r ≡ pairsIn (order .rows) ⌝ }
+{
+    let rows = order.rows;
+    let mut sum = 0u64;
+    let mut p = 0;
+    while p < MAX_TYPES {
+        sum += bits::count(rows[p]);
+        p += 1;
+    }
+    sum
+}
