@@ -4,7 +4,7 @@ use native.Mathlib.Omega.{arith}
 use mathlib.Core.Path.{_≡_, sym, ap, ap₂, _∙_}
 use lib.Arith.{lt-one}
 use lib.Count.{ones, ones-step}
-use Rattle.bits.specs.Bits.{bit, Has}
+use Rattle.bits.specs.Bits.{bit, Has, size}
 use Rattle.bits.specs.Totals.{total}
 use Rattle.bits.proofs.BitLaws.{bit-zero, bit-suc, bit-small, bit-absent, bit-le}
 use Rattle.bits.proofs.Trailing.{half-lt}
@@ -17,10 +17,10 @@ ones-total (suc k) x h =
     ones-step x ∙ ap₂ _+_ (sym (bit-zero x)) (ones-total k (x / 2) (half-lt k h) ∙ total-same (bit (x / 2)) (λ q. bit x (suc q)) k (λ q h. sym (bit-suc x q)))
     ∙ sym (total-first (bit x) k)
 
-pub members-at-most : (x : ℕ) → total (bit x) 64 ≤ 64
-members-at-most x = total-at-most (bit x) 64 (λ k. omega (arith, bit-small x k))
+pub size-at-most : (x : ℕ) → size x ≤ 64
+size-at-most x = total-at-most (bit x) 64 (λ k. omega (arith, bit-small x k))
 
 -- y has what x has, and q besides.
-pub members-grow : (x y q : ℕ) → ((k : ℕ) → Has x k → Has y k) → q < 64 → (Has x q → ⊥) → Has y q → total (bit x) 64 < total (bit y) 64
-members-grow x y q more small out member =
+pub size-grows : (x y q : ℕ) → ((k : ℕ) → Has x k → Has y k) → q < 64 → (Has x q → ⊥) → Has y q → size x < size y
+size-grows x y q more small out member =
     total-lt (bit x) (bit y) 64 q (λ k. bit-le x y k (more k)) small (omega (arith, bit-absent x q out))

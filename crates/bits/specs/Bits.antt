@@ -16,13 +16,17 @@ Has x q = bit x q ≡ 1
 abbrev pub Members : ℕ → (ℕ → Type 0) → Type 0
 Members x Q = (k : ℕ) → Has x k ↔ Q k
 
+-- How many members x has.
+abbrev pub size : ℕ → ℕ
+size x = total (bit x) 64
+
 -- q is the lowest member of a word.
 pub record Lowest (word q : ℕ) : Type 0 where
   pub small : q < 64
   pub member : Has word q
   pub least : (k : ℕ) → k < q → Has word k → ⊥
 
--- n is the number of members of a word.
+-- n is the number of members of a word, which are no more than its bits.
 pub record Counted (word n : ℕ) : Type 0 where
-  pub number : n ≡ total (bit word) 64
+  pub number : n ≡ size word
   pub small : n ≤ 64

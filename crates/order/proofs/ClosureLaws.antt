@@ -1,7 +1,10 @@
 -- The closure is an order over the declared types, and goes along with the relation that it closes.
-use Prim.Native.Nat.{ℕ, _≤_, _<_}
-use mathlib.Core.Logic.{_↔_}
+use Prim.Native.Nat.{ℕ, _<_}
+use mathlib.Core.Logic.{_↔_, Iff·trans}
+use mathlib.Core.List.{List}
 use Rattle.pregroup.specs.Order.{Relation, IsOrder}
+use Rattle.pregroup.specs.Held.{InRows}
+use Rattle.order.specs.Rows.{Hold}
 use Rattle.order.specs.Closed.{Closed, reflexive, pair, transitive, Within}
 
 -- What R relates, S relates: the closures too.
@@ -13,6 +16,11 @@ closed-map f (transitive c d) = transitive (closed-map f c) (closed-map f d)
 pub closed-iff :
     {types : ℕ} {R S : Relation} → ((p q : ℕ) → R p q ↔ S p q) → (p q : ℕ) → Closed types R p q ↔ Closed types S p q
 closed-iff same p q = (closed-map (λ p q. same p q .0), closed-map (λ p q. same p q .1))
+
+-- Rows that hold the closure of rows that hold R hold the closure of R.
+pub hold-closed :
+    {types : ℕ} {R : Relation} (direct rows : List ℕ) → Hold direct R → Hold rows (Closed types (InRows direct)) → Hold rows (Closed types R)
+hold-closed direct rows before after p q = Iff·trans (after p q) (closed-iff before p q)
 
 -- The closure relates declared types only, if R does.
 pub closed-within : {types : ℕ} {R : Relation} → Within types R → Within types (Closed types R)

@@ -1,19 +1,16 @@
 -- `below` decides the closure of declared pairs: it is reflexive, transitive and relates each pair, and so relates all that the closure
 -- does; what it relates, the closure relates.
-use Prim.Native.Nat.{ℕ, _<_}
-use mathlib.Core.Path.{_≡_, refl, sym, ap, _∙_, subst}
-use mathlib.Core.Logic.{_↔_, _⊎_, inl, inr, ⊎-elim}
-use mathlib.Core.Bool.{Bool, true, false, cond, _&&_, false≢true}
-use mathlib.Core.List.{List, [], _∷_, List·Memᴰ, List·Memᴰ·head, List·Memᴰ·tail}
 use borrow.Author.Tests.{eqb-true, eq-eqb, ltb-true, lt-ltb}
+use Prim.Native.Nat.{ℕ, _<_}
+use mathlib.Core.Path.{_≡_, refl}
+use mathlib.Core.Logic.{_↔_, _⊎_, inl, inr, ⊎-elim}
+use mathlib.Core.Bool.{Bool, true, false, cond, false≢true}
+use mathlib.Core.List.{List, [], _∷_, List·Memᴰ·head, List·Memᴰ·tail}
 use lib.Dec.{eqb, ltb}
 use Rattle.pregroup.specs.Tests.{Decides}
+use Rattle.pregroup.proofs.Decision.{both}
 use Rattle.order.specs.Closed.{Closed, reflexive, pair, transitive, Pair, Listed, DeclaredPairs, below}
 use Rattle.order.proofs.ClosureLaws.{closed-map}
-
-both : (a b : Bool) → (a && b ≡ true) ↔ ((a ≡ true) × (b ≡ true))
-both true b = (λ h. (refl, h), λ t. t .1)
-both false b = (λ h. (h, absurd (false≢true h)), λ t. t .0)
 
 -- The test with one pair more.
 either : (before to from : Bool) → (cond before true (cond to from false) ≡ true) ↔ ((before ≡ true) ⊎ ((to ≡ true) × (from ≡ true)))

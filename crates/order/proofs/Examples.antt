@@ -1,7 +1,7 @@
 -- The closed order at work: antt computes the number of its pairs for small books.
 use Prim.Native.Nat.{ℕ}
 use mathlib.Core.Path.{_≡_, refl}
-use mathlib.Core.List.{List, [], _∷_}
+use mathlib.Core.List.{[], _∷_}
 use Rattle.bits.specs.Totals.{total}
 use Rattle.order.specs.Closed.{Pair, below, closedCount}
 

@@ -1,33 +1,34 @@
--- The walk that `reach` makes from p along R: what was gone on from and what is to be gone on from stand at or above p, and whatever R
--- relates to the former is in one of the two. With nothing left to go on from, the former is all that stands at or above p.
+-- The walk that `reach` makes from p along R: the types passed and those ahead stand at or above p, and whatever R relates a type passed to
+-- is passed or ahead. With nothing ahead, the types passed are all that stand at or above p.
 use Prim.Native.Nat.{ℕ, _<_}
 use mathlib.Core.Path.{_≡_, refl, sym, subst}
 use mathlib.Core.Logic.{_↔_, _⊎_, inl, inr, ⊎-elim}
-use Rattle.bits.specs.Bits.{bit, Has, Members, Lowest}
-use Rattle.bits.specs.Totals.{total}
+use Rattle.bits.specs.Bits.{Has, Members, Lowest, size}
 use Rattle.bits.proofs.BitLaws.{empty-has-none, has-or-not}
-use Rattle.bits.proofs.CountLaws.{members-grow}
+use Rattle.bits.proofs.CountLaws.{size-grows}
 use Rattle.pregroup.specs.Order.{Relation}
 use Rattle.order.specs.Closed.{Closed, reflexive, pair, transitive}
+use Rattle.order.specs.Rows.{maxTypes}
 
+-- `seen` are the types passed, `todo` those ahead.
 pub record Walked (R : Relation) (p seen todo : ℕ) : Type 0 where
   pub start : Has seen p ⊎ Has todo p
-  pub passed : (k : ℕ) → Has seen k → Closed 64 R p k
-  pub ahead : (k : ℕ) → Has todo k → Closed 64 R p k
+  pub passed : (k : ℕ) → Has seen k → Closed maxTypes R p k
+  pub ahead : (k : ℕ) → Has todo k → Closed maxTypes R p k
   pub kept : (k m : ℕ) → Has seen k → R k m → Has seen m ⊎ Has todo m
   pub apart : (k : ℕ) → Has todo k → Has seen k → ⊥
 
--- At the start only p is to be gone on from.
-pub walk-starts : (R : Relation) (p todo : ℕ) → p < 64 → Members todo (λ k. Has 0 k ⊎ (k ≡ p)) → Walked R p 0 todo
+-- At the start only p is ahead.
+pub walk-starts : (R : Relation) (p todo : ℕ) → p < maxTypes → Members todo (λ k. Has 0 k ⊎ (k ≡ p)) → Walked R p 0 todo
 walk-starts R p todo h only = record {
   start = inr (only p .1 (inr refl));
   passed = λ k m. absurd (empty-has-none k m);
-  ahead = λ k m. ⊎-elim (λ z. absurd (empty-has-none k z)) (λ e. subst (λ (n : ℕ). Closed 64 R p n) (sym e) (reflexive h)) (only k .0 m);
+  ahead = λ k m. ⊎-elim (λ z. absurd (empty-has-none k z)) (λ e. subst (λ (n : ℕ). Closed maxTypes R p n) (sym e) (reflexive h)) (only k .0 m);
   kept = λ k l m r. absurd (empty-has-none k m);
   apart = λ k m z. empty-has-none k z;
 }
 
--- One turn: q leaves what is ahead, and what R relates it to joins that.
+-- One turn: q is passed, and what R relates it to is ahead.
 module _ (R : Relation) (p seen todo q row joined seen′ todo′ : ℕ)
     (before : Walked R p seen todo)
     (lowest : Lowest todo q)
@@ -35,11 +36,11 @@ module _ (R : Relation) (p seen todo q row joined seen′ todo′ : ℕ)
     (seen-says : Members seen′ (λ k. Has seen k ⊎ (k ≡ q)))
     (joined-says : Members joined (λ k. Has todo k ⊎ Has row k))
     (todo-says : Members todo′ (λ k. Has joined k × (Has seen′ k → ⊥))) where
-  -- What was ahead, or joins it, is passed or ahead.
+  -- What was ahead, or comes to be, is passed or ahead.
   still : (m : ℕ) → Has joined m → Has seen′ m ⊎ Has todo′ m
   still m j = ⊎-elim inl (λ out. inr (todo-says m .1 (j, out))) (has-or-not seen′ m)
 
-  at-q : Closed 64 R p q
+  at-q : Closed maxTypes R p q
   at-q = before .ahead q (lowest .member)
 
   turned-start : Has seen p ⊎ Has todo p → Has seen′ p ⊎ Has todo′ p
@@ -53,26 +54,27 @@ module _ (R : Relation) (p seen todo q row joined seen′ todo′ : ℕ)
   pub walk-turns : Walked R p seen′ todo′
   walk-turns = record {
     start = turned-start (before .start);
-    passed = λ k h. ⊎-elim (before .passed k) (λ e. subst (λ (n : ℕ). Closed 64 R p n) (sym e) at-q) (seen-says k .0 h);
+    passed = λ k h. ⊎-elim (before .passed k) (λ e. subst (λ (n : ℕ). Closed maxTypes R p n) (sym e) at-q) (seen-says k .0 h);
     ahead =
-      λ k h. ⊎-elim (before .ahead k) (λ m. transitive at-q (pair (row-says k .1 m))) (joined-says k .0 (todo-says k .0 h .0));
+        λ k h. ⊎-elim (before .ahead k) (λ m. transitive at-q (pair (row-says k .1 m))) (joined-says k .0 (todo-says k .0 h .0));
     kept = λ k m h r. turned-kept k m r (seen-says k .0 h);
     apart = λ k h. todo-says k .0 h .1;
   }
 
-  -- More was passed.
-  pub walk-grows : total (bit seen) 64 < total (bit seen′) 64
-  walk-grows =
-      members-grow seen seen′ q (λ k h. seen-says k .1 (inl h)) (lowest .small) (before .apart q (lowest .member))
-      (seen-says q .1 (inr refl))
+-- Each turn passes one number more.
+pub walk-grows :
+    {R : Relation} {p seen todo q : ℕ} (seen′ : ℕ) → Walked R p seen todo → Lowest todo q → Members seen′ (λ k. Has seen k ⊎ (k ≡ q))
+    → size seen < size seen′
+walk-grows {seen} {q} seen′ before lowest says =
+    size-grows seen seen′ q (λ k h. says k .1 (inl h)) (lowest .small) (before .apart q (lowest .member)) (says q .1 (inr refl))
 
--- Nothing is left: what was passed is closed under R, and so under its closure.
+-- Nothing is ahead: what was passed is closed under R, and so under its closure.
 module _ (R : Relation) (p seen : ℕ) (walked : Walked R p seen 0) where
-  ends-kept : {k m : ℕ} → Closed 64 R k m → Has seen k → Has seen m
+  ends-kept : {k m : ℕ} → Closed maxTypes R k m → Has seen k → Has seen m
   ends-kept (reflexive h) s = s
   ends-kept (pair {p = k} {q = m} r) s = ⊎-elim (λ t. t) (λ z. absurd (empty-has-none m z)) (walked .kept k m s r)
   ends-kept (transitive c d) s = ends-kept d (ends-kept c s)
 
-  pub walk-ends : Members seen (Closed 64 R p)
+  pub walk-ends : Members seen (Closed maxTypes R p)
   walk-ends k =
       (walked .passed k, λ c. ends-kept c (⊎-elim (λ t. t) (λ z. absurd (empty-has-none p z)) (walked .start)))

@@ -5,20 +5,20 @@ ghost use mathlib.Core.Path.{_≡_};
 ghost use Rattle.bits.specs.Bits.{Members};
 ghost use Rattle.pregroup.specs.Held.{InRows};
 ghost use Rattle.order.specs.Closed.{Closed};
-ghost use Rattle.order.specs.Rows.{Hold, DeclaredRows, pairsIn};
+ghost use Rattle.order.specs.Rows.{maxTypes, Hold, DeclaredRows, pairsIn};
 
 // How many basic types a book may have at most, and so the number of rows and of bits in a row.
 pub const MAX_TYPES: usize = 64;
 
 // A closed order. A row past the last type holds nothing.
 pub struct Order {
-    pub rows: [u64; 64],
+    pub rows: [u64; MAX_TYPES],
 }
 
-// All that stands at or above p: a walk along the pairs. What is to be gone on from is in `todo`, what was gone on from in `seen`.
-pub fn reach(direct: &[u64; 64], p: u8) -> u64
-    requires { ⌜ p < 64 ⌝ }
-    ensures { λ r. ⌜ Members r (Closed 64 (InRows (now (direct .entry))) p) ⌝ }
+// All that stands at or above p: a walk along the pairs, with the types passed in `seen` and those ahead in `todo`.
+fn reach(direct: &[u64; MAX_TYPES], p: u8) -> u64
+    requires { ⌜ p < maxTypes ⌝ }
+    ensures { λ r. ⌜ Members r (Closed maxTypes (InRows (now (direct .entry))) p) ⌝ }
 {
     let mut seen = 0u64;
     let mut todo = bits::with(0, p);
@@ -31,11 +31,11 @@ pub fn reach(direct: &[u64; 64], p: u8) -> u64
 }
 
 // The closure of a book's pairs, which are given as rows.
-pub fn close(direct: &[u64; 64], types: usize) -> Order
+pub fn close(direct: &[u64; MAX_TYPES], types: usize) -> Order
     requires { ⌜ DeclaredRows types (now direct) ⌝ }
     ensures { λ r. ⌜ Hold (r .rows) (Closed types (InRows (now (direct .entry)))) ⌝ }
 {
-    let mut rows = [0u64; 64];
+    let mut rows = [0u64; MAX_TYPES];
     let mut p = 0;
     while p < types {
         rows[p] = reach(direct, p as u8);

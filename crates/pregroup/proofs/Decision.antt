@@ -19,7 +19,8 @@ same-right (pos m) (negsuc n) = (λ h. absurd (false≢true h), λ e. cc)
 same-right (negsuc m) (pos n) = (λ h. absurd (false≢true h), λ e. cc)
 same-right (negsuc m) (negsuc n) = (λ h. ap negsuc (eqb-true m n h), λ e. eq-eqb m n (cc))
 
-both : (a b : Bool) → (a && b ≡ true) ↔ ((a ≡ true) × (b ≡ true))
+-- Both of two tests.
+pub both : (a b : Bool) → (a && b ≡ true) ↔ ((a ≡ true) × (b ≡ true))
 both true b = (λ h. (refl, h), λ t. t .1)
 both false b = (λ h. (h, absurd (false≢true h)), λ t. t .0)
 

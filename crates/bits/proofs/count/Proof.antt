@@ -1,7 +1,7 @@
 -- `bits::count` meets its contract: the set bits are the sum of the bits.
+use native.Mathlib.Omega.{arith}
 use lib.Count.{ones-le}
 use Rattle.bits.proofs.CountLaws.{ones-total}
-use native.Mathlib.Omega.{arith}
 use Rattle.bits.proofs.count.Statement.{statement}
 use Rattle.bits.proofs.count.Tie as tie
 

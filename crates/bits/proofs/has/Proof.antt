@@ -1,10 +1,10 @@
 -- `bits::has` meets its contract: a bit from 64 on is 0, and any other bit is tested.
 use borrow.Author.Tests.{eqb-true, eq-eqb}
+use borrow.Author.Needs.{needs}
+use native.Mathlib.Omega.{arith}
 use mathlib.Core.Bool.{false≢true}
 use Rattle.bits.specs.Bits.{bit}
 use Rattle.bits.proofs.BitLaws.{no-bit-past}
-use borrow.Author.Needs.{needs}
-use native.Mathlib.Omega.{arith}
 use Rattle.bits.proofs.has.Statement.{statement}
 use Rattle.bits.proofs.has.Tie as tie
 

@@ -1,6 +1,6 @@
 -- `bits::lowest` meets its contract: trailing zeros find the lowest member.
-use Rattle.bits.proofs.Trailing.{trailing-lt, trailing-lowest}
 use native.Mathlib.Omega.{arith}
+use Rattle.bits.proofs.Trailing.{trailing-lt, trailing-lowest}
 use Rattle.bits.proofs.lowest.Statement.{statement}
 use Rattle.bits.proofs.lowest.Tie as tie
 

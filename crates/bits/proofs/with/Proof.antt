@@ -1,11 +1,11 @@
 -- `bits::with` meets its contract: nothing is shifted out, and a power of two has one member.
+use borrow.Author.Needs.{needs}
 use Prim.Native.Nat.{_*_, _%_, _^_}
 use native.Mathlib.Nat.{one-mul}
+use native.Mathlib.Omega.{arith}
 use mathlib.Core.Path.{_≡_}
 use lib.Pow.{shl-exact}
 use Rattle.bits.proofs.BitLaws.{with-members}
-use borrow.Author.Needs.{needs}
-use native.Mathlib.Omega.{arith}
 use Rattle.bits.proofs.with.Statement.{statement}
 use Rattle.bits.proofs.with.Tie as tie
 

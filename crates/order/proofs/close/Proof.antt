@@ -1,14 +1,11 @@
+-- `order::close` meets its contract: its loop fills the rows as proofs/Filling.antt says.
 use Prim.Native.Nat.{_-_, _≤_}
+use native.Mathlib.Omega.{arith}
 use mathlib.Core.Path.{_≡_}
 use Rattle.pregroup.specs.Held.{InRows}
 use Rattle.order.proofs.Filling.{Filled, fill-starts, fill-one, fill-ends}
-use borrow.Author.Needs.{needs}
-use native.Mathlib.Omega.{arith}
 use Rattle.order.proofs.close.Statement.{statement}
 use Rattle.order.proofs.close.Tie as tie
-use Rattle.order.proofs.close.Reads as reads
-use Rattle.order.proofs.close.Lts as lts
-use Rattle.order.proofs.reach.Reads as reach-reads
 
 abbrev Inv-loop : tie.InvT-loop
 Inv-loop direct types rows₀ p₀ rows p = (p ≤ types) × Filled (InRows direct) rows p

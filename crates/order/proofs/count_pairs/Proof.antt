@@ -1,20 +1,17 @@
+-- `order::count_pairs` meets its contract: the sum so far is that of the rows passed, and small enough to fit.
 use Prim.Native.Nat.{_+_, _-_, _*_, _≤_}
 use native.Mathlib.Numerals.{add-one}
+use native.Mathlib.Omega.{arith}
 use mathlib.Core.Path.{_≡_, refl, ap₂}
 use lib.ListN.{getD}
-use Rattle.bits.specs.Bits.{bit}
+use Rattle.bits.specs.Bits.{size}
 use Rattle.bits.specs.Totals.{total}
 use Rattle.order.specs.Rows.{pairsIn}
-use borrow.Author.Needs.{needs}
-use native.Mathlib.Omega.{arith}
 use Rattle.order.proofs.count_pairs.Statement.{statement}
 use Rattle.order.proofs.count_pairs.Tie as tie
-use Rattle.order.proofs.count_pairs.Reads as reads
-use Rattle.order.proofs.count_pairs.Lts as lts
-use Rattle.bits.proofs.count.Reads as count-reads
 
 abbrev Inv-loop : tie.InvT-loop
-Inv-loop rows sum₀ p₀ sum p = (p ≤ 64) × (sum ≤ 64 * p) × (sum ≡ total (λ k. total (bit (getD rows k 0)) 64) p)
+Inv-loop rows sum₀ p₀ sum p = (p ≤ 64) × (sum ≤ 64 * p) × (sum ≡ total (λ k. size (getD rows k 0)) p)
 
 abbrev μ-loop : tie.MeasureT-loop
 μ-loop rows sum₀ p₀ sum p = 64 - p

@@ -1,28 +1,21 @@
+-- `order::reach` meets its contract: its loop is the walk of proofs/Walk.antt, and each turn passes one number more of 64.
+use Prim.Native.Nat.{_-_}
+use native.Mathlib.Omega.{arith}
 use mathlib.Core.Path.{_≡_}
 use mathlib.Core.Logic.{Iff·rfl}
 use lib.ListN.{getD}
-use Prim.Native.Nat.{_-_}
-use Rattle.bits.specs.Bits.{bit}
-use Rattle.bits.specs.Totals.{total}
-use Rattle.bits.proofs.CountLaws.{members-at-most}
+use Rattle.bits.specs.Bits.{size}
+use Rattle.bits.proofs.CountLaws.{size-at-most}
 use Rattle.pregroup.specs.Held.{InRows}
 use Rattle.order.proofs.Walk.{Walked, walk-starts, walk-turns, walk-grows, walk-ends}
-use borrow.Author.Needs.{needs}
-use native.Mathlib.Omega.{arith}
 use Rattle.order.proofs.reach.Statement.{statement}
 use Rattle.order.proofs.reach.Tie as tie
-use Rattle.order.proofs.reach.Reads as reads
-use Rattle.order.proofs.reach.Lts as lts
-use Rattle.bits.proofs.lowest.Reads as lowest-reads
-use Rattle.bits.proofs.minus.Reads as minus-reads
-use Rattle.bits.proofs.union.Reads as union-reads
-use Rattle.bits.proofs.with.Reads as with-reads
 
 abbrev Inv-loop : tie.InvT-loop
 Inv-loop direct p seen₀ todo₀ seen todo = Walked (InRows direct) p seen todo
 
 abbrev μ-loop : tie.MeasureT-loop
-μ-loop direct p seen₀ todo₀ seen todo = 64 - total (bit seen) 64
+μ-loop direct p seen₀ todo₀ seen todo = 64 - size seen
 
 with-requires : tie.Need-with-requires Inv-loop μ-loop
 with-requires c κs = omega arith
@@ -52,13 +45,10 @@ minus-requires : tie.Need-minus-requires Inv-loop μ-loop
 minus-requires c κs = omega arith
 
 loop-less : tie.Need-loop-less Inv-loop μ-loop
-unfolding InRows
 loop-less c =
+    let put = c .before .before .before .with2 in
     let chosen = c .before .before .before .before in
-    let direct = chosen .before .before .before .before .args .direct .now in
-    omega (arith, members-at-most (c .before .before .before .with2 .result),
-    walk-grows (InRows direct) _ _ _ _ (getD direct (chosen .lowest .result) 0) _ _ _ (chosen .before .before .loop .inv) (chosen .lowest .ensures) (λ m. Iff·rfl)
-    (c .before .before .before .with2 .ensures) (c .before .union .ensures) (c .minus .ensures))
+    omega (arith, size-at-most (put .result), walk-grows (put .result) (chosen .before .before .loop .inv) (chosen .lowest .ensures) (put .ensures))
 
 loop-again : tie.Need-loop-again Inv-loop μ-loop
 unfolding InRows
