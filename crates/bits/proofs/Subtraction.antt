@@ -4,7 +4,6 @@ use native.Mathlib.Nat.{pow-suc}
 use native.Mathlib.Decide.{decLe}
 use native.Mathlib.Omega.{arith}
 use mathlib.Core.Path.{_≡_, refl, sym, ap, _∙_}
-use mathlib.Core.Logic.{_↔_}
 use Rattle.bits.specs.Bits.{bit, Has, Members}
 use Rattle.bits.proofs.BitLaws.{bit-zero, bit-suc, no-bit-past}
 
