@@ -1,0 +1,95 @@
+-- The format at work, by evaluation: what both books of document 01 hold and answer, and a book for each refusal 1 to 10, with records that
+-- break several rules at once.
+use Prim.Native.Nat.{ℕ, zero, suc, _+_, _/_, _%_}
+use mathlib.Core.Path.{_≡_, refl}
+use mathlib.Core.Bool.{Bool}
+use mathlib.Core.List.{List, [], _∷_, _++_, map}
+use lib.ListN.{length, replicate}
+use lib.IntN.{pos, negsuc}
+use Rattle.bits.specs.Totals.{total}
+use Rattle.pregroup.specs.Types.{PregroupType, _⁽_⁾, plain}
+use Rattle.order.specs.Closed.{below, closedCount}
+use Rattle.book.specs.Format.{Bytes, Book, Entry, Parsed, accepted, refused, every, twoBytes, kindOf, letter, nameByte, isName, wordByte, exponentOf, simplesOf, isEntry, cutShort, notListed, badLayout, numbersIn, undeclared, exponentsIn, exponentListed, exponentOutside, sameBytes, nameUsed, secondTarget, tooMany, firstFault, bodyFault, recordFault, add, ended, recordsFrom, parse}
+use Rattle.book.specs.Check.{bookCheck}
+use Rattle.book.specs.declared.BookCheck.{BookCheck}
+use Rattle.book.specs.declared.BookCheck.the-variants.{Accepted, Refused}
+use Rattle.book.proofs.PaperBooks.{recordOf, typeRecord, pairRecord, entryRecord, targetRecord, join, fetch, bed4, ward7, urgently, admit, site, go, please, firstBook, secondBook}
+
+abbrev entry : Bytes → PregroupType → Entry
+entry word type = record { word = word; type = type }
+
+-- The contents of the first book.
+contents : parse firstBook ≡ accepted (record {
+  names = (111 ∷ []) ∷ (112 ∷ []) ∷ (119 ∷ []) ∷ (117 ∷ []) ∷ [];
+  pairs = record { lower = 3; upper = 2 } ∷ [];
+  entries =
+      entry fetch (plain 0 ∷ 1 ⁽ negsuc 0 ⁾ ∷ [])
+      ∷ entry fetch (plain 0 ∷ 2 ⁽ negsuc 0 ⁾ ∷ 1 ⁽ negsuc 0 ⁾ ∷ [])
+      ∷ entry bed4 (plain 1 ∷ [])
+      ∷ entry ward7 (plain 3 ∷ [])
+      ∷ entry urgently (0 ⁽ pos 1 ⁾ ∷ plain 0 ∷ [])
+      ∷ entry admit (plain 0 ∷ 3 ⁽ negsuc 0 ⁾ ∷ [])
+      ∷ entry site (plain 2 ∷ [])
+      ∷ entry go (plain 0 ∷ [])
+      ∷ entry please (plain 0 ∷ 0 ⁽ negsuc 0 ⁾ ∷ [])
+      ∷ [];
+  target = 0;
+})
+unfolding every twoBytes kindOf letter nameByte isName wordByte exponentOf simplesOf isEntry cutShort notListed badLayout numbersIn undeclared exponentsIn exponentListed exponentOutside sameBytes nameUsed secondTarget tooMany firstFault bodyFault recordFault add ended recordsFrom parse
+contents = refl
+
+-- A book, and what its check answers.
+abbrev Row : Type 0
+Row = Bytes × BookCheck
+
+-- Two types, a and b.
+abbrev ab : Bytes
+ab = typeRecord (97 ∷ []) ++ typeRecord (98 ∷ [])
+
+-- As many basic types as wanted, with names of a letter and two digits.
+typesOf : ℕ → Bytes
+typesOf zero = []
+typesOf (suc n) = typesOf n ++ typeRecord (97 ∷ (48 + n / 10) ∷ (48 + n % 10) ∷ [])
+
+abbrev rows : List Row
+rows =
+    (firstBook, Accepted 4 9 5)
+    ∷ (secondBook, Accepted 5 10 6)
+    -- 1: over 65,535 bytes, whatever they are
+    ∷ (replicate 65536 0, Refused 1 0)
+    -- 2: three bytes of a head; a body one byte short, of an unlisted kind
+    ∷ (ab ++ (1 ∷ 0 ∷ 4 ∷ []), Refused 2 10)
+    ∷ (ab ++ (2 ∷ 0 ∷ 9 ∷ 0 ∷ 0 ∷ []), Refused 2 10)
+    -- 3: kinds 0 and 257; both bytes of the kind count
+    ∷ (recordOf 0 [], Refused 3 0)
+    ∷ (ab ++ recordOf 257 (99 ∷ []), Refused 3 10)
+    -- 4: a name that starts with a digit; a pair of three bytes; 13 simple types, one of them undeclared and one with a bad exponent
+    ∷ (typeRecord (57 ∷ 97 ∷ []), Refused 4 0)
+    ∷ (ab ++ recordOf 2 (0 ∷ 1 ∷ 0 ∷ []), Refused 4 10)
+    ∷ (ab ++ entryRecord go (9 ∷ 0 ∷ 0 ∷ 100 ∷ replicate 22 0), Refused 4 10)
+    -- 5: a pair with an undeclared type; an entry whose first exponent is bad and whose last type is undeclared; an undeclared second target
+    ∷ (ab ++ pairRecord 0 2, Refused 5 10)
+    ∷ (ab ++ entryRecord go (0 ∷ 9 ∷ 2 ∷ 0 ∷ []), Refused 5 10)
+    ∷ (ab ++ targetRecord 0 ++ targetRecord 2, Refused 5 15)
+    -- 6: exponents 9 and −9; 8 and −8 pass
+    ∷ (ab ++ entryRecord go (0 ∷ 0 ∷ 0 ∷ 9 ∷ []), Refused 6 10)
+    ∷ (ab ++ entryRecord go (0 ∷ 247 ∷ []), Refused 6 10)
+    ∷ (ab ++ targetRecord 1 ++ entryRecord go (0 ∷ 8 ∷ 0 ∷ 248 ∷ []), Accepted 2 1 2)
+    -- 7: a name used before, also by the 65th type
+    ∷ (ab ++ typeRecord (98 ∷ []), Refused 7 10)
+    ∷ (typesOf 64 ++ typeRecord (97 ∷ 48 ∷ 48 ∷ []), Refused 7 448)
+    -- 8: a second target, also the same one again
+    ∷ (ab ++ targetRecord 0 ++ targetRecord 0, Refused 8 15)
+    -- 9: a 65th basic type
+    ∷ (typesOf 65 ++ targetRecord 0, Refused 9 448)
+    -- 10: no target; its value is the book's length
+    ∷ ([], Refused 10 0)
+    ∷ (ab, Refused 10 10)
+    -- the earliest bad record decides; pairs count wherever they stand, cycles and repeats too
+    ∷ (ab ++ recordOf 9 [] ++ typeRecord [], Refused 3 10)
+    ∷ (ab ++ targetRecord 0 ++ pairRecord 0 1 ++ pairRecord 1 0 ++ pairRecord 1 0, Accepted 2 0 4)
+    ∷ []
+
+evaluated : map (λ (r : Row). bookCheck (r .0)) rows ≡ map (λ (r : Row). r .1) rows
+unfolding every twoBytes kindOf letter nameByte isName wordByte exponentOf simplesOf isEntry cutShort notListed badLayout numbersIn undeclared exponentsIn exponentListed exponentOutside sameBytes nameUsed secondTarget tooMany firstFault bodyFault recordFault add ended recordsFrom parse below closedCount total typesOf
+evaluated = refl

@@ -1,0 +1,97 @@
+-- Which rules each kind of record can break, in their order: the fault of a body, kind by kind.
+use Prim.Native.Nat.{ℕ, _≤_, _<_}
+use native.Mathlib.Omega.{arith}
+use mathlib.Core.Path.{_≡_, refl, _∙_}
+use mathlib.Core.Bool.{Bool, true, false, not, cond, _&&_}
+use mathlib.Core.List.{List, [], _∷_}
+use lib.Dec.{leb, eqb}
+use borrow.Author.Tests.{lt-ltb, le-ltb}
+use lib.ListN.{length, getD}
+use Rattle.order.specs.Rows.{maxTypes}
+use Rattle.book.proofs.Bools.{and-true}
+use Rattle.book.specs.Format.{Bytes, Kind, basic-type, order-pair, entry, target, unlisted, every, notListed, isName, isEntry, badLayout, numbersIn, declaredAmong, undeclared, exponentsIn, exponentListed, exponentOutside, nameUsed, secondTarget, tooMany, maxEntries, firstFault, bodyFault, bases, exponents, simplesOf, typePart}
+
+-- Every one of one, and of two.
+pub every-one : (test : ℕ → Bool) (body : Bytes) → length body ≡ 1 → every test body ≡ test (getD {A = ℕ} body 0 0)
+unfolding every
+every-one test [] h = absurd (omega arith)
+every-one test (x ∷ []) h = and-true (test x)
+every-one test (x ∷ y ∷ body) h = absurd (omega arith)
+
+pub every-two : (test : ℕ → Bool) (body : Bytes) → length body ≡ 2 → every test body ≡ test (getD {A = ℕ} body 0 0) && test (getD {A = ℕ} body 1 0)
+unfolding every
+every-two test [] h = absurd (omega arith)
+every-two test (x ∷ []) h = absurd (omega arith)
+every-two test (x ∷ y ∷ []) h = rw (and-true (test y))
+every-two test (x ∷ y ∷ z ∷ body) h = absurd (omega arith)
+
+-- Whether one number, and whether two, are declared among n.
+module _ (n : ℕ) (body : Bytes) where
+  pub one-no : length body ≡ 1 → n ≤ getD {A = ℕ} body 0 0 → every (declaredAmong n) body ≡ false
+  one-no h l = every-one (declaredAmong n) body h ∙ le-ltb _ _ l
+
+  pub one-yes : length body ≡ 1 → getD {A = ℕ} body 0 0 < n → every (declaredAmong n) body ≡ true
+  one-yes h l = every-one (declaredAmong n) body h ∙ lt-ltb _ _ l
+
+  pub two-first-no : length body ≡ 2 → n ≤ getD {A = ℕ} body 0 0 → every (declaredAmong n) body ≡ false
+  two-first-no h l = rw (every-two (declaredAmong n) body h, le-ltb (getD {A = ℕ} body 0 0) n l)
+
+  pub two-second-no : length body ≡ 2 → getD {A = ℕ} body 0 0 < n → n ≤ getD {A = ℕ} body 1 0 → every (declaredAmong n) body ≡ false
+  two-second-no h k l = rw (every-two (declaredAmong n) body h, lt-ltb (getD {A = ℕ} body 0 0) n k, le-ltb (getD {A = ℕ} body 1 0) n l)
+
+  pub two-yes : length body ≡ 2 → getD {A = ℕ} body 0 0 < n → getD {A = ℕ} body 1 0 < n → every (declaredAmong n) body ≡ true
+  two-yes h k l = rw (every-two (declaredAmong n) body h, lt-ltb (getD {A = ℕ} body 0 0) n k, lt-ltb (getD {A = ℕ} body 1 0) n l)
+
+module _ (body : Bytes) (names : List Bytes) (entries : ℕ) (seen : Bool) where
+  pub name-rules :
+      bodyFault basic-type body names entries seen
+      ≡ cond (not (isName body)) 4 (cond (nameUsed basic-type body names) 7 (cond (leb maxTypes (length names)) 9 0))
+  unfolding bodyFault firstFault notListed badLayout undeclared numbersIn every exponentOutside exponentsIn secondTarget tooMany
+  name-rules = refl
+
+  pub pair-rules :
+      bodyFault order-pair body names entries seen
+      ≡ cond (not (eqb (length body) 2)) 4 (cond (not (every (declaredAmong (length names)) body)) 5 0)
+  unfolding bodyFault firstFault notListed badLayout undeclared numbersIn every exponentOutside exponentsIn nameUsed secondTarget tooMany
+  pair-rules = refl
+
+  pub entry-rules :
+      bodyFault entry body names entries seen
+      ≡ cond (not (isEntry body)) 4
+      (cond (not (every (declaredAmong (length names)) (bases (simplesOf (typePart body))))) 5
+      (cond (not (every exponentListed (exponents (simplesOf (typePart body))))) 6 (cond (leb maxEntries entries) 9 0)))
+  unfolding bodyFault firstFault notListed badLayout undeclared numbersIn exponentOutside exponentsIn nameUsed secondTarget tooMany
+  entry-rules = refl
+
+  pub target-rules :
+      bodyFault target body names entries seen
+      ≡ cond (not (eqb (length body) 1)) 4 (cond (not (every (declaredAmong (length names)) body)) 5 (cond seen 8 0))
+  unfolding bodyFault firstFault notListed badLayout undeclared numbersIn every exponentOutside exponentsIn nameUsed secondTarget tooMany
+  target-rules = refl
+
+  -- The same by the answers of the tests.
+  pub name-faults :
+      {layout used full : Bool} → isName body ≡ layout → nameUsed basic-type body names ≡ used → leb maxTypes (length names) ≡ full
+      → bodyFault basic-type body names entries seen ≡ cond (not layout) 4 (cond used 7 (cond full 9 0))
+  name-faults l u f = rw (name-rules, l, u, f)
+
+  pub pair-faults :
+      {layout declared : Bool} → eqb (length body) 2 ≡ layout → every (declaredAmong (length names)) body ≡ declared
+      → bodyFault order-pair body names entries seen ≡ cond (not layout) 4 (cond (not declared) 5 0)
+  pair-faults l d = rw (pair-rules, l, d)
+
+  pub entry-faults :
+      {layout declared listed full : Bool} → isEntry body ≡ layout
+      → every (declaredAmong (length names)) (bases (simplesOf (typePart body))) ≡ declared
+      → every exponentListed (exponents (simplesOf (typePart body))) ≡ listed → leb maxEntries entries ≡ full
+      → bodyFault entry body names entries seen ≡ cond (not layout) 4 (cond (not declared) 5 (cond (not listed) 6 (cond full 9 0)))
+  entry-faults l d e f = rw (entry-rules, l, d, e, f)
+
+  pub target-faults :
+      {layout declared : Bool} → eqb (length body) 1 ≡ layout → every (declaredAmong (length names)) body ≡ declared
+      → bodyFault target body names entries seen ≡ cond (not layout) 4 (cond (not declared) 5 (cond seen 8 0))
+  target-faults l d = rw (target-rules, l, d)
+
+  pub unlisted-faults : bodyFault unlisted body names entries seen ≡ 3
+  unfolding bodyFault firstFault notListed
+  unlisted-faults = refl

@@ -1,0 +1,272 @@
+-- What is kept behind a record that breaks no rule stands for the draft with the record added: a law for each kind of record.
+use Prim.Native.Nat.{ℕ, _+_, _≤_, _<_}
+use native.Mathlib.Numerals.{add-one}
+use native.Mathlib.Omega.{arith}
+use native.Mathlib.Decide.{ℕ-discrete, decLt}
+use mathlib.Core.Path.{_≡_, refl, sym, ap, ap₂, subst, _∙_}
+use mathlib.Core.Logic.{_↔_, _⊎_, inl, inr, ⊎-elim}
+use mathlib.Core.Bool.{Bool, true, false, cond}
+use mathlib.Core.List.{List, [], _∷_, _++_, map, map-append, List·Memᴰ, List·Memᴰ·append-cases, Memᴰ·append-left, Memᴰ·append-right, List·Memᴰ·eq-of-singleton, List·Memᴰ·head}
+use mathlib.Core.Option.{Option, some, none}
+use lib.Dec.{ltb}
+use lib.ListN.{length, getD, take, set, length-map, length-set}
+use lib.Seq.{take-suc-set, getD-set-same, getD-set-other}
+use borrow.Author.Tests.{lt-ltb}
+use Rattle.bits.specs.Bits.{Has, Members}
+use Rattle.pregroup.specs.Types.{Basic}
+use Rattle.pregroup.specs.Held.{InRows}
+use Rattle.order.specs.Closed.{Pair, Within, Listed}
+use Rattle.order.specs.Rows.{maxTypes, Hold}
+use Rattle.book.specs.Format.{Bytes, Entry, Draft, Kind, basic-type, order-pair, entry, target, unlisted, twoBytes, bodyAt, nextAt, kindAt, bodyFault, recordFault, isSome, entryOf, add, maxEntries}
+use Rattle.book.specs.Kept.{bodiesAt, Whole, targetKept, Store, store, Roomy, Sound, Keeps, nextFault, nextDraft, Taking}
+use Rattle.book.specs.declared.Progress.{Progress}
+use Rattle.book.proofs.Names.{bodies-length}
+use Rattle.book.proofs.WholeRecords.{kind-4, kind-other}
+use Rattle.book.proofs.NoFault.{no-fault-whole, no-fault-body, name-no-fault, pair-no-fault, entry-no-fault, target-no-fault, unlisted-fault}
+
+-- One offset more.
+whole-more : (bytes : Bytes) (offsets : List ℕ) (n at : ℕ) → n < length offsets → nextAt bytes at ≤ length bytes → Whole bytes offsets n → Whole bytes (set offsets n at) (n + 1)
+whole-more bytes offsets n at room whole w = record { room = omega (arith, length-set offsets n at); whole = each }
+  where
+    each : (i : ℕ) → i < n + 1 → nextAt bytes (getD {A = ℕ} (set offsets n at) i 0) ≤ length bytes
+    each i h = go (ℕ-discrete i n)
+      where
+        go : Dec (i ≡ n) → nextAt bytes (getD {A = ℕ} (set offsets n at) i 0) ≤ length bytes
+        go (yes e) = rw (e, getD-set-same offsets n at 0 room) whole
+        go (no d) = rw (getD-set-other offsets n i at 0 d) (w .whole i (omega (arith, d)))
+
+bodies-more : (bytes : Bytes) (offsets : List ℕ) (n at : ℕ) → n < length offsets → bodiesAt bytes (set offsets n at) (n + 1) ≡ bodiesAt bytes offsets n ++ (bodyAt bytes at ∷ [])
+bodies-more bytes offsets n at room = rw (add-one n, take-suc-set offsets n at room) (map-append (bodyAt bytes) (take n offsets) (at ∷ []))
+
+-- One pair more.
+listed-more :
+    (pairs : List Pair) (a b p q : ℕ) → Listed (pairs ++ (record { lower = a; upper = b } ∷ [])) p q ↔ (Listed pairs p q ⊎ ((p ≡ a) × (q ≡ b)))
+listed-more pairs a b p q = (
+  λ m.
+      ⊎-elim inl
+      (λ (l : List·Memᴰ pq (ab ∷ [])).
+      let e : pq ≡ ab = List·Memᴰ·eq-of-singleton l in
+      inr (ap (λ (x : Pair). x .lower) e, ap (λ (x : Pair). x .upper) e)) (List·Memᴰ·append-cases pairs m),
+  ⊎-elim (λ l. Memᴰ·append-left (ab ∷ []) l) (λ t. Memᴰ·append-right pairs (List·Memᴰ·head (λ i. record { lower = t .0 i; upper = t .1 i }))),
+)
+  where
+    pq : Pair
+    pq = record { lower = p; upper = q }
+
+    ab : Pair
+    ab = record { lower = a; upper = b }
+
+hold-more :
+    (rows : List ℕ) (pairs : List Pair) (a b w : ℕ) → a < length rows → Members w (λ k. Has (getD {A = ℕ} rows a 0) k ⊎ (k ≡ b)) → Hold rows (Listed pairs)
+    → Hold (set rows a w) (Listed (pairs ++ (record { lower = a; upper = b } ∷ [])))
+unfolding InRows
+hold-more rows pairs a b w room members hold p q = go (ℕ-discrete p a)
+  where
+    go : Dec (p ≡ a) → Has (getD {A = ℕ} (set rows a w) p 0) q ↔ Listed (pairs ++ (record { lower = a; upper = b } ∷ [])) p q
+    go (yes e) =
+        rw (e, getD-set-same rows a w 0 room) (
+          λ h. listed-more pairs a b a q .1 (⊎-elim (λ k. inl (hold a q .0 k)) (λ k. inr (refl, k)) (members q .0 h)),
+          λ m. members q .1 (⊎-elim (λ l. inl (hold a q .1 l)) (λ t. inr (t .1)) (listed-more pairs a b a q .0 m)),
+        )
+    go (no d) =
+        rw (getD-set-other rows a p w 0 d) (
+          λ h. listed-more pairs a b p q .1 (inl (hold p q .0 h)),
+          λ m. ⊎-elim (λ l. hold p q .1 l) (λ t. absurd (d (t .0))) (listed-more pairs a b p q .0 m),
+        )
+
+within-more :
+    (rows : List ℕ) (types a b w : ℕ) → a < length rows → a < types → b < types → Members w (λ k. Has (getD {A = ℕ} rows a 0) k ⊎ (k ≡ b))
+    → Within types (InRows rows) → Within types (InRows (set rows a w))
+unfolding InRows
+within-more rows types a b w room small smaller members within p q = go (ℕ-discrete p a)
+  where
+    go : Dec (p ≡ a) → Has (getD {A = ℕ} (set rows a w) p 0) q → (p < types) × (q < types)
+    go (yes e) h =
+        let k : Has w q = rw (e, getD-set-same rows a w 0 room) at h in
+        (omega arith, ⊎-elim (λ l. within a q l .1) (λ l. omega arith) (members q .0 k))
+    go (no d) h = within p q (rw (getD-set-other rows a p w 0 d) at h)
+
+-- Whether there is a target, by what is kept.
+some-kept : (t : ℕ) (b : Bool) → isSome (cond b (some t) none) ≡ b
+some-kept t true = refl
+some-kept t false = refl
+
+module _ (bytes : Bytes) (s : Store) (p : Progress) (sound : Sound bytes s p) where
+  names-count : length (bodiesAt bytes (s .names) (p .types)) ≡ p .types
+  names-count = bodies-length bytes (s .names) (p .types) (sound .names-whole .room)
+
+  entries-count : (d : Draft) → Keeps bytes s p d → length (d .entries) ≡ p .entries
+  entries-count d k =
+      ap length (k .entries) ∙ length-map (bodiesAt bytes (s .entries) (p .entries)) entryOf ∙ bodies-length bytes (s .entries) (p .entries) (sound .entries-whole .room)
+
+  -- The fault of the next record, by what is kept.
+  abbrev pub Found : ℕ → Type 0
+  Found fault = fault ≡ recordFault bytes (p .at) (bodiesAt bytes (s .names) (p .types)) (p .entries) (ltb (p .target) maxTypes)
+
+  pub fault-kept : (fault : ℕ) → Found fault → (d : Draft) → Keeps bytes s p d → nextFault bytes p d ≡ fault
+  fault-kept fault found d k =
+      ap (λ (names : List Bytes). recordFault bytes (p .at) names (length (d .entries)) (isSome (d .target))) (k .names)
+      ∙ ap₂ (λ (n : ℕ) (seen : Bool). recordFault bytes (p .at) (bodiesAt bytes (s .names) (p .types)) n seen) (entries-count d k)
+      (ap isSome (k .target) ∙ some-kept (p .target) (ltb (p .target) maxTypes))
+      ∙ sym found
+
+  module _ (found : Found 0) where
+    pub whole : nextAt bytes (p .at) ≤ length bytes
+    whole = no-fault-whole bytes (p .at) _ _ _ (sym found)
+
+    body-fault : {kind : Kind} → kindAt bytes (p .at) ≡ kind → bodyFault kind (bodyAt bytes (p .at)) (bodiesAt bytes (s .names) (p .types)) (p .entries) (ltb (p .target) maxTypes) ≡ 0
+    body-fault k = no-fault-body bytes (p .at) _ _ _ (sym found) k
+
+    -- The places that the code reads and writes are there.
+    pub name-place : kindAt bytes (p .at) ≡ basic-type → p .types < maxTypes
+    name-place kind = let few = name-no-fault _ _ _ _ (body-fault kind) in omega (arith, names-count)
+
+    pub entry-place : kindAt bytes (p .at) ≡ entry → p .entries < maxEntries
+    entry-place kind = entry-no-fault _ _ _ _ (body-fault kind) .3
+
+    pub pair-place : kindAt bytes (p .at) ≡ order-pair
+        → (length (bodyAt bytes (p .at)) ≡ 2) × (getD {A = ℕ} (bodyAt bytes (p .at)) 0 0 < p .types) × (getD {A = ℕ} (bodyAt bytes (p .at)) 1 0 < p .types)
+    pair-place kind =
+        let fine = pair-no-fault _ _ _ _ (body-fault kind) in
+        (fine .0, omega (arith, names-count), omega (arith, names-count))
+
+    pub target-place : kindAt bytes (p .at) ≡ target → (length (bodyAt bytes (p .at)) ≡ 1) × (getD {A = ℕ} (bodyAt bytes (p .at)) 0 0 < p .types)
+    target-place kind = let fine = target-no-fault _ _ _ _ (body-fault kind) in (fine .0, omega (arith, names-count))
+
+    -- A record that breaks no rule and is of none of the first three kinds is a target.
+    pub kind-left : (n : ℕ) → n ≡ twoBytes bytes (p .at + 2) → (n ≡ 1 → ⊥) → (n ≡ 2 → ⊥) → (n ≡ 3 → ⊥) → kindAt bytes (p .at) ≡ target
+    kind-left n e a b c = go (ℕ-discrete n 4)
+      where
+        go : Dec (n ≡ 4) → kindAt bytes (p .at) ≡ target
+        go (yes d) = kind-4 _ (sym e ∙ d)
+        go (no d) =
+            absurd (unlisted-fault _ _ _ _ (body-fault (kind-other _ (λ k. a (e ∙ k)) (λ k. b (e ∙ k)) (λ k. c (e ∙ k)) (λ k. d (e ∙ k)))))
+
+  module _ (found : Found 0) (next : ℕ) (on : next ≡ nextAt bytes (p .at)) where
+    pub name-taken : kindAt bytes (p .at) ≡ basic-type
+        → Taking bytes s p (store (set (s .names) (p .types) (p .at)) (s .entries) (s .direct)) (record { at = next; types = p .types + 1; entries = p .entries; target = p .target })
+    unfolding add
+    name-taken kind =
+        let few = name-place found kind in
+        let room : p .types < length (s .names) = omega (arith, sound .roomy .names-room) in
+        record {
+          sound = record {
+            short = sound .short;
+            reached = rw on (whole found);
+            roomy = record {
+              names-room = omega (arith, length-set (s .names) (p .types) (p .at), sound .roomy .names-room);
+              entries-room = sound .roomy .entries-room;
+              rows = sound .roomy .rows;
+            };
+            few-types = omega arith;
+            few-entries = sound .few-entries;
+            target-kept = sound .target-kept;
+            names-whole = whole-more bytes (s .names) (p .types) (p .at) room (whole found) (sound .names-whole);
+            entries-whole = sound .entries-whole;
+            within = λ a b h. let t = sound .within a b h in (omega arith, omega arith);
+          };
+          on = on;
+          right = λ d k. (
+            fault-kept 0 found d k,
+            rw kind
+                (record {
+                  names = ap (λ (l : List Bytes). l ++ (bodyAt bytes (p .at) ∷ [])) (k .names) ∙ sym (bodies-more bytes (s .names) (p .types) (p .at) room);
+                  pairs = k .pairs;
+                  entries = k .entries;
+                  target = k .target;
+                }),
+          );
+        }
+
+    pub entry-taken : kindAt bytes (p .at) ≡ entry
+        → Taking bytes s p (store (s .names) (set (s .entries) (p .entries) (p .at)) (s .direct)) (record { at = next; types = p .types; entries = p .entries + 1; target = p .target })
+    unfolding add
+    entry-taken kind =
+        let few = entry-place found kind in
+        let room : p .entries < length (s .entries) = omega (arith, sound .roomy .entries-room) in
+        record {
+          sound = record {
+            short = sound .short;
+            reached = rw on (whole found);
+            roomy = record {
+              names-room = sound .roomy .names-room;
+              entries-room = omega (arith, length-set (s .entries) (p .entries) (p .at), sound .roomy .entries-room);
+              rows = sound .roomy .rows;
+            };
+            few-types = sound .few-types;
+            few-entries = omega arith;
+            target-kept = sound .target-kept;
+            names-whole = sound .names-whole;
+            entries-whole = whole-more bytes (s .entries) (p .entries) (p .at) room (whole found) (sound .entries-whole);
+            within = sound .within;
+          };
+          on = on;
+          right = λ d k. (
+            fault-kept 0 found d k,
+            rw kind
+                (record {
+                  names = k .names;
+                  pairs = k .pairs;
+                  entries =
+                      ap (λ (l : List Entry). l ++ (entryOf (bodyAt bytes (p .at)) ∷ [])) (k .entries)
+                      ∙ sym (map-append entryOf (bodiesAt bytes (s .entries) (p .entries)) (bodyAt bytes (p .at) ∷ []))
+                      ∙ ap (map entryOf) (sym (bodies-more bytes (s .entries) (p .entries) (p .at) room));
+                  target = k .target;
+                }),
+          );
+        }
+
+    pub pair-taken : kindAt bytes (p .at) ≡ order-pair → (lower upper row : ℕ) → lower ≡ getD {A = ℕ} (bodyAt bytes (p .at)) 0 0 → upper ≡ getD {A = ℕ} (bodyAt bytes (p .at)) 1 0
+        → Members row (λ k. Has (getD {A = ℕ} (s .direct) lower 0) k ⊎ (k ≡ upper))
+        → Taking bytes s p (store (s .names) (s .entries) (set (s .direct) lower row)) (record { at = next; types = p .types; entries = p .entries; target = p .target })
+    unfolding add
+    pair-taken kind lower upper row lo up members =
+        let fine = pair-place found kind in
+        let room : lower < length (s .direct) = omega (arith, fine .1, sound .few-types, sound .roomy .rows) in
+        record {
+          sound = record {
+            short = sound .short;
+            reached = rw on (whole found);
+            roomy = record {
+              names-room = sound .roomy .names-room;
+              entries-room = sound .roomy .entries-room;
+              rows = length-set (s .direct) lower row ∙ sound .roomy .rows;
+            };
+            few-types = sound .few-types;
+            few-entries = sound .few-entries;
+            target-kept = sound .target-kept;
+            names-whole = sound .names-whole;
+            entries-whole = sound .entries-whole;
+            within = within-more (s .direct) (p .types) lower upper row room (omega (arith, fine .1)) (omega (arith, fine .2)) members (sound .within);
+          };
+          on = on;
+          right = λ d k. (
+            fault-kept 0 found d k,
+            rw (kind, ← lo, ← up)
+                (record { names = k .names; pairs = hold-more (s .direct) (d .pairs) lower upper row room members (k .pairs); entries = k .entries; target = k .target }),
+          );
+        }
+
+    pub target-taken : kindAt bytes (p .at) ≡ target → (t : ℕ) → t ≡ getD {A = ℕ} (bodyAt bytes (p .at)) 0 0
+        → Taking bytes s p s (record { at = next; types = p .types; entries = p .entries; target = t })
+    unfolding add
+    target-taken kind t e =
+        let few : t < maxTypes = omega (arith, target-place found kind .1, sound .few-types) in
+        record {
+          sound = record {
+            short = sound .short;
+            reached = rw on (whole found);
+            roomy = sound .roomy;
+            few-types = sound .few-types;
+            few-entries = sound .few-entries;
+            target-kept = omega arith;
+            names-whole = sound .names-whole;
+            entries-whole = sound .entries-whole;
+            within = sound .within;
+          };
+          on = on;
+          right = λ d k. (
+            fault-kept 0 found d k,
+            rw kind (record { names = k .names; pairs = k .pairs; entries = k .entries; target = ap some (sym e) ∙ sym (ap (λ (b : Bool). cond b (some t) none) (lt-ltb t maxTypes few)) }),
+          );
+        }

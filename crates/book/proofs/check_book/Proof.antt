@@ -1,0 +1,63 @@
+-- `book::check_book` meets its contract: a refusal is passed on, and of an accepted book the closed order is counted.
+use borrow.Author.Needs.{needs}
+use mathlib.Core.Path.{ap, _∙_}
+use Prim.Native.Nat.{ℕ}
+use native.Mathlib.Omega.{arith}
+use Rattle.book.specs.declared.BookCheck.the-variants.{Accepted}
+use Rattle.book.proofs.Checking.{no-pairs, opened-rows, check-accepted, check-refused}
+use Rattle.book.proofs.check_book.Statement.{statement}
+use Rattle.book.proofs.check_book.Tie as tie
+use Rattle.book.proofs.check_book.Reads as reads
+use Rattle.book.proofs.check_book.Lts as lts
+use Rattle.book.proofs.records.scan_book.Reads as scan-book-reads
+use Rattle.order.proofs.close.Reads as close-reads
+use Rattle.order.proofs.count_pairs.Reads as count-pairs-reads
+
+slice-aggregate-scan-book : tie.Need-slice-aggregate-scan-book
+slice-aggregate-scan-book c = search needs
+
+slice-aggregate-scan-book-2 : tie.Need-slice-aggregate-scan-book-2
+slice-aggregate-scan-book-2 c = search needs
+
+slice-aggregate-scan-book-3 : tie.Need-slice-aggregate-scan-book-3
+slice-aggregate-scan-book-3 c = search needs
+
+scan-book-requires : tie.Need-scan-book-requires
+scan-book-requires c κs = (omega arith, no-pairs 64)
+
+enum-known-scan : tie.Need-enum-known-scan
+enum-known-scan c = search needs
+
+enum-known-scan-2 : tie.Need-enum-known-scan-2
+enum-known-scan-2 c = search needs
+
+close-requires : tie.Need-close-requires
+close-requires c κs =
+    let o = rw (c .before .before .scan2 .given .1) at (c .before .before .before .before .before .before .before .scan-book .ensures) in
+    opened-rows _ _ _ _ _ (o .0) (o .1)
+
+count-pairs-requires : tie.Need-count-pairs-requires
+count-pairs-requires c κs = search needs
+
+returns : tie.Need-returns
+returns c = check-refused _ _ _ (rw (c .before .scan .given .1) at (c .before .before .before .before .before .before .scan-book .ensures))
+
+returns-2 : tie.Need-returns-2
+returns-2 c =
+    let o = rw (c .before .before .before .before .scan2 .given .1) at (c .before .before .before .before .before .before .before .before .before .scan-book .ensures) in
+    ap (Accepted (c .before .before .before .before .scan2 .given .0 .0) (c .before .before .before .before .scan2 .given .0 .1 .0)) (c .count-pairs .ensures) ∙ check-accepted _ _ _ _ _ (o .0) (o .1) _ (c .before .close .ensures)
+
+pub check-book-spec : {M : Type 1} → statement M
+check-book-spec =
+    tie.close
+    (tie.spec
+    slice-aggregate-scan-book
+    slice-aggregate-scan-book-2
+    slice-aggregate-scan-book-3
+    scan-book-requires
+    enum-known-scan
+    enum-known-scan-2
+    close-requires
+    count-pairs-requires
+    returns
+    returns-2)

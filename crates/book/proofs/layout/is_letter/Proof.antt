@@ -1,0 +1,19 @@
+-- `book::layout::is_letter` meets its contract: the range that led to each answer decides the test.
+use native.Mathlib.Omega.{arith}
+use Rattle.book.proofs.Bools.{letter-yes, letter-no}
+use Rattle.book.proofs.layout.is_letter.Statement.{statement}
+use Rattle.book.proofs.layout.is_letter.Tie as tie
+use Rattle.book.proofs.layout.is_letter.Reads as reads
+use Rattle.book.proofs.layout.is_letter.Lts as lts
+
+returns : tie.Need-returns
+returns c = letter-yes _ (omega arith)
+
+returns-2 : tie.Need-returns-2
+returns-2 c = letter-no _ (omega arith)
+
+returns-3 : tie.Need-returns-3
+returns-3 c = letter-no _ (omega arith)
+
+pub is-letter-spec : {M : Type 1} → statement M
+is-letter-spec = tie.close (tie.spec returns returns-2 returns-3)

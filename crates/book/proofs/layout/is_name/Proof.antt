@@ -1,0 +1,45 @@
+-- `book::layout::is_name` meets its contract: the tests come in the order of the definition.
+use borrow.Author.Needs.{needs}
+use native.Mathlib.Omega.{arith}
+use mathlib.Core.Path.{sym, _∙_}
+use borrow.Author.Tests.{not-true, not-false}
+use Rattle.book.proofs.Layouts.{name-length-no, name-first-no, name-rest}
+use Rattle.book.proofs.layout.is_name.Statement.{statement}
+use Rattle.book.proofs.layout.is_name.Tie as tie
+use Rattle.book.proofs.layout.is_name.Reads as reads
+use Rattle.book.proofs.layout.is_name.Lts as lts
+use Rattle.book.proofs.layout.all_name_bytes.Reads as all-name-bytes-reads
+use Rattle.book.proofs.layout.is_letter.Reads as is-letter-reads
+
+returns : tie.Need-returns
+returns c = name-length-no _ (omega arith)
+
+returns-2 : tie.Need-returns-2
+returns-2 c = name-length-no _ (omega arith)
+
+shared-slice-read-is-letter : tie.Need-shared-slice-read-is-letter
+shared-slice-read-is-letter c = search needs
+
+is-letter-requires : tie.Need-is-letter-requires
+is-letter-requires c κs = search needs
+
+returns-3 : tie.Need-returns-3
+returns-3 c = name-first-no _ (omega arith) (sym (c .before .is-letter .ensures) ∙ not-true _ (c .if3 .taken))
+
+all-name-bytes-requires : tie.Need-all-name-bytes-requires
+all-name-bytes-requires c κs = search needs
+
+returns-4 : tie.Need-returns-4
+returns-4 c = c .all-name-bytes .ensures ∙ name-rest _ (omega arith) (sym (c .before .before .is-letter .ensures) ∙ not-false _ (c .before .if3 .left))
+
+pub is-name-spec : {M : Type 1} → statement M
+is-name-spec =
+    tie.close
+    (tie.spec
+    returns
+    returns-2
+    shared-slice-read-is-letter
+    is-letter-requires
+    returns-3
+    all-name-bytes-requires
+    returns-4)

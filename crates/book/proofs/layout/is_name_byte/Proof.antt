@@ -1,0 +1,25 @@
+-- `book::layout::is_name_byte` meets its contract: the range that led to each answer decides the test.
+use native.Mathlib.Omega.{arith}
+use Rattle.book.proofs.Bools.{name-letter, name-digit, name-byte-no}
+use Rattle.book.proofs.layout.is_name_byte.Statement.{statement}
+use Rattle.book.proofs.layout.is_name_byte.Tie as tie
+use Rattle.book.proofs.layout.is_name_byte.Reads as reads
+use Rattle.book.proofs.layout.is_name_byte.Lts as lts
+
+returns : tie.Need-returns
+returns c = name-digit _ (omega arith)
+
+returns-2 : tie.Need-returns-2
+returns-2 c = name-letter _ (omega arith)
+
+returns-3 : tie.Need-returns-3
+returns-3 c = name-byte-no _ (omega arith) (omega arith)
+
+returns-4 : tie.Need-returns-4
+returns-4 c = name-byte-no _ (omega arith) (omega arith)
+
+returns-5 : tie.Need-returns-5
+returns-5 c = name-byte-no _ (omega arith) (omega arith)
+
+pub is-name-byte-spec : {M : Type 1} → statement M
+is-name-byte-spec = tie.close (tie.spec returns returns-2 returns-3 returns-4 returns-5)

@@ -1,0 +1,45 @@
+-- `book::rules::name_fault` meets its contract: the tests come in the order of their numbers.
+use borrow.Author.Needs.{needs}
+use mathlib.Core.Path.{sym, refl, ap, _∙_}
+use borrow.Author.Tests.{not-true, not-false, le-leb, lt-leb}
+use lib.ListN.{length}
+use native.Mathlib.Omega.{arith}
+use Rattle.book.proofs.Names.{bodies-length}
+use Rattle.book.specs.Kept.{bodiesAt}
+use Rattle.book.proofs.Faults.{name-faults}
+use Rattle.book.proofs.rules.name_fault.Statement.{statement}
+use Rattle.book.proofs.rules.name_fault.Tie as tie
+use Rattle.book.proofs.rules.name_fault.Reads as reads
+use Rattle.book.proofs.rules.name_fault.Lts as lts
+use Rattle.book.proofs.layout.is_name.Reads as is-name-reads
+use Rattle.book.proofs.rules.name_used.Reads as name-used-reads
+
+is-name-requires : tie.Need-is-name-requires
+is-name-requires c κs = search needs
+
+returns : tie.Need-returns
+returns c = λ entries seen. sym (name-faults _ _ entries seen (sym (c .before .is-name .ensures) ∙ not-true _ (c .if1 .taken)) refl refl)
+
+name-used-requires : tie.Need-name-used-requires
+name-used-requires c κs = search needs
+
+returns-2 : tie.Need-returns-2
+returns-2 c = λ entries seen. sym (name-faults _ _ entries seen (sym (c .before .before .before .is-name .ensures) ∙ not-false _ (c .before .before .if1 .left)) (sym (c .before .name-used .ensures) ∙ c .if2 .taken) refl)
+
+returns-3 : tie.Need-returns-3
+returns-3 c =
+    let a = c .before .before .before .before .before .before .before .before .args in
+    let names = bodiesAt (a .book .now) (a .names .now) (a .types) in
+    let count = bodies-length (a .book .now) (a .names .now) (a .types) (c .before .before .before .before .before .before .before .before .pre .room) in
+    λ entries seen. sym (name-faults _ names entries seen (sym (c .before .before .before .before .is-name .ensures) ∙ not-false _ (c .before .before .before .if1 .left)) (sym (c .before .before .name-used .ensures) ∙ c .before .if2 .left) (le-leb 64 (length names) (omega arith)))
+
+returns-4 : tie.Need-returns-4
+returns-4 c =
+    let a = c .before .before .before .before .before .before .before .before .args in
+    let names = bodiesAt (a .book .now) (a .names .now) (a .types) in
+    let count = bodies-length (a .book .now) (a .names .now) (a .types) (c .before .before .before .before .before .before .before .before .pre .room) in
+    λ entries seen. sym (name-faults _ names entries seen (sym (c .before .before .before .before .is-name .ensures) ∙ not-false _ (c .before .before .before .if1 .left)) (sym (c .before .before .name-used .ensures) ∙ c .before .if2 .left) (lt-leb 64 (length names) (omega arith)))
+
+pub name-fault-spec : {M : Type 1} → statement M
+name-fault-spec =
+    tie.close (tie.spec is-name-requires returns name-used-requires returns-2 returns-3 returns-4)

@@ -1,0 +1,109 @@
+-- What the code keeps of a book while it reads it: where each basic type's and each entry's record starts, the order pairs as rows, and
+-- how far it has come.
+use Prim.Native.Nat.{ℕ, _+_, _≤_, _<_}
+use mathlib.Core.Path.{_≡_}
+use mathlib.Core.Bool.{Bool, true, false, cond}
+use mathlib.Core.List.{List, [], _∷_, map}
+use mathlib.Core.Option.{Option, none, some}
+use lib.Dec.{ltb}
+use lib.ListN.{length, getD, take}
+use Rattle.pregroup.specs.Types.{Basic}
+use Rattle.pregroup.specs.Held.{InRows}
+use Rattle.order.specs.Closed.{Within, Listed}
+use Rattle.order.specs.Rows.{maxTypes, Hold}
+use Rattle.book.specs.Format.{Bytes, Book, Draft, Parsed, accepted, refused, parse, bodyAt, nextAt, entryOf, maxBytes, maxEntries, kindAt, add, recordFault, isSome}
+use Rattle.book.specs.declared.Progress.{Progress}
+use Rattle.book.specs.declared.Taken.{Taken}
+use Rattle.book.specs.declared.Taken.the-variants.{Next, Bad}
+use Rattle.book.specs.declared.Scan.{Scan}
+use Rattle.book.specs.declared.Scan.the-variants.{Accepted, Refused}
+
+-- The bodies of the first records whose offsets are kept.
+abbrev pub bodiesAt : Bytes → List ℕ → ℕ → List Bytes
+bodiesAt bytes offsets count = map (bodyAt bytes) (take count offsets)
+
+-- The first offsets are those of records that are there whole.
+pub record Whole (bytes : Bytes) (offsets : List ℕ) (count : ℕ) : Type 0 where
+  pub room : count ≤ length offsets
+  pub whole : (i : ℕ) → i < count → nextAt bytes (getD {A = ℕ} offsets i 0) ≤ length bytes
+
+-- A target is kept as its number, and as 64 where there is none: no basic type has that number.
+abbrev pub targetKept : ℕ → Option Basic
+targetKept target = cond (ltb target maxTypes) (some target) none
+
+-- What the lent arrays hold: the offsets of the basic types' records and of the entries' records, and the order pairs as rows.
+pub record Store : Type 0 where
+  pub names : List ℕ
+  pub entries : List ℕ
+  pub direct : List ℕ
+
+abbrev pub store : List ℕ → List ℕ → List ℕ → Store
+store names entries direct = record { names = names; entries = entries; direct = direct }
+
+-- There is room for all that a book may have.
+pub record Roomy (s : Store) : Type 0 where
+  pub names-room : maxTypes ≤ length (s .names)
+  pub entries-room : maxEntries ≤ length (s .entries)
+  pub rows : length (s .direct) ≡ maxTypes
+
+-- The rows hold no pair yet.
+abbrev pub NoPairs : List ℕ → Type 0
+NoPairs direct = (p q : ℕ) → InRows direct p q → ⊥
+
+-- The numbers that are kept lie within their limits, and the offsets are those of whole records.
+pub record Sound (bytes : Bytes) (s : Store) (p : Progress) : Type 0 where
+  pub short : length bytes ≤ maxBytes
+  pub reached : p .at ≤ length bytes
+  pub roomy : Roomy s
+  pub few-types : p .types ≤ maxTypes
+  pub few-entries : p .entries ≤ maxEntries
+  pub target-kept : p .target ≤ maxTypes
+  pub names-whole : Whole bytes (s .names) (p .types)
+  pub entries-whole : Whole bytes (s .entries) (p .entries)
+  pub within : Within (p .types) (InRows (s .direct))
+
+-- What is kept stands for the draft d.
+pub record Keeps (bytes : Bytes) (s : Store) (p : Progress) (d : Draft) : Type 0 where
+  pub names : d .names ≡ bodiesAt bytes (s .names) (p .types)
+  pub pairs : Hold (s .direct) (Listed (d .pairs))
+  pub entries : d .entries ≡ map entryOf (bodiesAt bytes (s .entries) (p .entries))
+  pub target : d .target ≡ targetKept (p .target)
+
+-- The fault of the record that comes next, and the draft with it.
+abbrev pub nextFault : Bytes → Progress → Draft → ℕ
+nextFault bytes p d = recordFault bytes (p .at) (d .names) (length (d .entries)) (isSome (d .target))
+
+abbrev pub nextDraft : Bytes → Progress → Draft → Draft
+nextDraft bytes p d = add (kindAt bytes (p .at)) (bodyAt bytes (p .at)) d
+
+-- A record taken in: s and p become s′ and p′.
+pub record Taking (bytes : Bytes) (s : Store) (p : Progress) (s′ : Store) (p′ : Progress) : Type 0 where
+  pub sound : Sound bytes s′ p′
+  pub on : p′ .at ≡ nextAt bytes (p .at)
+  pub right : (d : Draft) → Keeps bytes s p d → (nextFault bytes p d ≡ 0) × Keeps bytes s′ p′ (nextDraft bytes p d)
+
+-- A record refused with a number.
+pub record Refusing (bytes : Bytes) (s : Store) (p : Progress) (number : ℕ) : Type 0 where
+  pub some-number : number ≡ 0 → ⊥
+  pub faulty : (d : Draft) → Keeps bytes s p d → nextFault bytes p d ≡ number
+
+abbrev pub TakenSays : Bytes → Store → Progress → Store → Taken → Type 0
+TakenSays bytes s p s′ (Next p′) = Taking bytes s p s′ p′
+TakenSays bytes s p s′ (Bad number) = Refusing bytes s p number
+
+-- What is kept of an accepted book B.
+pub record Opened (bytes : Bytes) (s : Store) (types count target : ℕ) (B : Book) : Type 0 where
+  pub parsed : parse bytes ≡ accepted B
+  pub few-types : types ≤ maxTypes
+  pub few-entries : count ≤ maxEntries
+  pub names-whole : Whole bytes (s .names) types
+  pub entries-whole : Whole bytes (s .entries) count
+  pub within : Within types (InRows (s .direct))
+  pub names : B .names ≡ bodiesAt bytes (s .names) types
+  pub pairs : Hold (s .direct) (Listed (B .pairs))
+  pub entries : B .entries ≡ map entryOf (bodiesAt bytes (s .entries) count)
+  pub chosen : B .target ≡ target
+
+abbrev pub ScanSays : Bytes → Store → Scan → Type 0
+ScanSays bytes s (Accepted types count target) = (B : Book) × Opened bytes s types count target B
+ScanSays bytes s (Refused number value) = parse bytes ≡ refused number value

@@ -1,0 +1,152 @@
+// The layout of a record's body: byte ranges for names, words and exponents, and the layouts built from them. Every test says
+// what the definition of the same name in specs/Format says.
+ghost use mathlib.Core.Path.{_≡_};
+ghost use mathlib.Core.Bool.{true};
+ghost use Prim.Native.Nat.{_+_, _≤_, _<_};
+ghost use lib.ListN.{length};
+ghost use Rattle.book.specs.Format.{twoBytes, bodyAt, nextAt, letter, nameByte, isName, wordByte, exponentOf, exponentListed, isEntry, typePart, every};
+
+pub const MAX_NAME: usize = 15;
+
+pub const MAX_WORD: usize = 31;
+
+pub const MAX_SIMPLES: usize = 12;
+
+pub fn wide(byte: u8) -> usize
+    ensures { λ r. ⌜ (r ≡ byte) × (r < 256) ⌝ }
+{
+    byte as usize
+}
+
+// The little-endian number of the two bytes from `at` on.
+pub fn two_bytes(bytes: &[u8], at: usize) -> usize
+    requires { ⌜ at + 1 < length (now bytes) ⌝ }
+    ensures { λ r. ⌜ r ≡ twoBytes (now (bytes .entry)) at ⌝ }
+{
+    wide(bytes[at]) + 256 * wide(bytes[at + 1])
+}
+
+// The body of the record at an offset, which is there whole.
+pub fn body_at(book: &[u8], at: usize) -> &[u8]
+    requires { ⌜ nextAt (now book) at ≤ length (now book) ⌝ }
+    ensures { λ r. ⌜ now r ≡ bodyAt (now (book .entry)) at ⌝ }
+{
+    let start = at + 4;
+    let end = start + two_bytes(book, at);
+    &book[start..end]
+}
+
+fn is_letter(byte: u8) -> bool
+    ensures { λ r. ⌜ r ≡ letter byte ⌝ }
+{
+    match byte {
+        b'a'..=b'z' => true,
+        _ => false,
+    }
+}
+
+fn is_name_byte(byte: u8) -> bool
+    ensures { λ r. ⌜ r ≡ nameByte byte ⌝ }
+{
+    match byte {
+        b'a'..=b'z' | b'0'..=b'9' => true,
+        _ => false,
+    }
+}
+
+fn is_word_byte(byte: u8) -> bool
+    ensures { λ r. ⌜ r ≡ wordByte byte ⌝ }
+{
+    match byte {
+        33..=126 => true,
+        _ => false,
+    }
+}
+
+// Whether a byte holds an exponent from -8 to 8, in two's complement.
+pub fn is_exponent(byte: u8) -> bool
+    ensures { λ r. ⌜ r ≡ exponentListed (exponentOf byte) ⌝ }
+{
+    match byte {
+        0..=8 | 248..=255 => true,
+        _ => false,
+    }
+}
+
+fn all_name_bytes(bytes: &[u8]) -> bool
+    ensures { λ r. ⌜ r ≡ every nameByte (now (bytes .entry)) ⌝ }
+{
+    let mut i = 0;
+    while i < bytes.len() {
+        if !is_name_byte(bytes[i]) {
+            return false;
+        }
+        i += 1;
+    }
+    true
+}
+
+fn all_word_bytes(bytes: &[u8]) -> bool
+    ensures { λ r. ⌜ r ≡ every wordByte (now (bytes .entry)) ⌝ }
+{
+    let mut i = 0;
+    while i < bytes.len() {
+        if !is_word_byte(bytes[i]) {
+            return false;
+        }
+        i += 1;
+    }
+    true
+}
+
+// Whether a body is a basic type's: 1 to 15 bytes, a letter first.
+pub fn is_name(body: &[u8]) -> bool
+    ensures { λ r. ⌜ r ≡ isName (now (body .entry)) ⌝ }
+{
+    if body.len() < 1 {
+        return false;
+    }
+    if MAX_NAME < body.len() {
+        return false;
+    }
+    if !is_letter(body[0]) {
+        return false;
+    }
+    all_name_bytes(body)
+}
+
+// Whether a body is an entry's: the word's length, the word, then pairs of a type number and an exponent.
+pub fn is_entry(body: &[u8]) -> bool
+    ensures { λ r. ⌜ r ≡ isEntry (now (body .entry)) ⌝ }
+{
+    if body.len() < 1 {
+        return false;
+    }
+    let length = wide(body[0]);
+    if length < 1 {
+        return false;
+    }
+    if MAX_WORD < length {
+        return false;
+    }
+    if body.len() <= length {
+        return false;
+    }
+    if !all_word_bytes(&body[1..1 + length]) {
+        return false;
+    }
+    let rest = body.len() - 1 - length;
+    if rest % 2 != 0 {
+        return false;
+    }
+    rest <= 2 * MAX_SIMPLES
+}
+
+// The part of an entry's body that holds its type.
+pub fn type_part(body: &[u8]) -> &[u8]
+    requires { ⌜ isEntry (now body) ≡ true ⌝ }
+    ensures { λ r. ⌜ now r ≡ typePart (now (body .entry)) ⌝ }
+{
+    let start = 1 + wide(body[0]);
+    &body[start..]
+}

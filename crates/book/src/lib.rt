@@ -1,0 +1,77 @@
+// A book: any bytes at all, accepted with its contents or refused by the first rule it breaks.
+ghost use mathlib.Core.Path.{_≡_};
+ghost use Rattle.book.specs.Check.{bookCheck};
+use order::MAX_TYPES;
+use rules::MAX_ENTRIES;
+
+pub mod layout;
+pub mod records;
+pub mod rules;
+
+// How far a book has been read: the offset of the next record, how many basic types and entries there were, and the target, or
+// `NO_TARGET` where there was none.
+pub struct Progress {
+    pub at: usize,
+    pub types: usize,
+    pub entries: usize,
+    pub target: u8,
+}
+
+// What taking a record in gives: the progress behind it, or the number that it is refused with.
+pub enum Taken {
+    Next(Progress),
+    Bad(u32),
+}
+
+// What reading all records gives: the book's counts and its target, or the number of the refusal and the value returned with it.
+pub enum Scan {
+    Accepted {
+        types: usize,
+        entries: usize,
+        target: u8,
+    },
+    Refused {
+        number: u32,
+        value: usize,
+    },
+}
+
+// What the book check answers: the number of basic types, of entries and of pairs p ≤ q in the closed order; or the number of the refusal
+// and the value returned with it.
+pub enum BookCheck {
+    Accepted {
+        types: usize,
+        entries: usize,
+        pairs: u64,
+    },
+    Refused {
+        number: u32,
+        value: usize,
+    },
+}
+
+// Checks a book alone: any bytes, of any length. The book is not written to.
+pub fn check_book(book: &[u8]) -> BookCheck
+    ensures { λ r. ⌜ r ≡ bookCheck (now (book .entry)) ⌝ }
+{
+    let mut names = [0u16; MAX_TYPES];
+    let mut entries = [0u16; MAX_ENTRIES];
+    let mut direct = [0u64; MAX_TYPES];
+    let scan = records::scan_book(book, &mut names, &mut entries, &mut direct);
+    match scan {
+        Scan::Refused { number, value } => BookCheck::Refused { number, value },
+        Scan::Accepted {
+            types,
+            entries: count,
+            target: _,
+        } => {
+            let order = order::close(&direct, types);
+            let pairs = order::count_pairs(order);
+            BookCheck::Accepted {
+                types,
+                entries: count,
+                pairs: pairs,
+            }
+        }
+    }
+}

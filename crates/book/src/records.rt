@@ -1,0 +1,121 @@
+// All records of a book, one behind another, read where they stand. What is kept of them goes into lent arrays.
+use crate::Progress;
+use crate::Scan;
+use crate::Taken;
+use crate::layout::body_at;
+use crate::layout::two_bytes;
+use crate::layout::wide;
+use crate::rules::MAX_ENTRIES;
+use crate::rules::record_fault;
+use order::MAX_TYPES;
+ghost use mathlib.Core.Path.{_≡_};
+ghost use Prim.Native.Nat.{ℕ, _+_, _≤_, _<_};
+ghost use lib.ListN.{length};
+ghost use Rattle.pregroup.specs.Held.{InRows};
+ghost use Rattle.order.specs.Rows.{maxTypes};
+ghost use Rattle.book.specs.Format.{maxEntries};
+ghost use Rattle.book.specs.Kept.{store, Roomy, NoPairs, Sound, TakenSays, ScanSays};
+
+pub const MAX_BYTES: usize = 65535;
+
+pub const NO_TARGET: u8 = 64;
+
+// Takes the next record in: its offset, its pair or its target is kept, or it is refused.
+fn take_record(
+    book: &[u8],
+    names: &mut [u16],
+    entries: &mut [u16],
+    direct: &mut [u64],
+    p: Progress,
+) -> Taken
+    requires { ⌜ Sound (now book) (store (now names) (now entries) (now direct)) p ⌝ }
+    ensures { λ r. ⌜ TakenSays (now (book .entry)) (store (now (names .entry)) (now (entries .entry)) (now (direct .entry))) p (store (now (names .exit)) (now (entries .exit)) (now (direct .exit))) r ⌝ }
+{
+    let at = p.at;
+    let types = p.types;
+    let count = p.entries;
+    let target = p.target;
+    let fault = record_fault(book, at, names, types, count, target < NO_TARGET);
+    if fault != 0 {
+        return Taken::Bad(fault);
+    }
+    let body = body_at(book, at);
+    let next = at + 4 + body.len();
+    let kind = two_bytes(book, at + 2);
+    match kind {
+        1 => {
+            names[types] = at as u16;
+            Taken::Next(Progress {
+                at: next,
+                types: types + 1,
+                entries: count,
+                target,
+            })
+        }
+        2 => {
+            let lower = wide(body[0]);
+            direct[lower] = bits::with(direct[lower], body[1]);
+            Taken::Next(Progress {
+                at: next,
+                types,
+                entries: count,
+                target,
+            })
+        }
+        3 => {
+            entries[count] = at as u16;
+            Taken::Next(Progress {
+                at: next,
+                types,
+                entries: count + 1,
+                target,
+            })
+        }
+        _ => Taken::Next(Progress {
+            at: next,
+            types,
+            entries: count,
+            target: body[0],
+        }),
+    }
+}
+
+// Reads all records of a book. Of an accepted book the arrays hold where its basic types and entries stand, and its pairs.
+pub fn scan_book(book: &[u8], names: &mut [u16], entries: &mut [u16], direct: &mut [u64]) -> Scan
+    requires { ⌜ Roomy (store (now names) (now entries) (now direct)) × NoPairs (now direct) ⌝ }
+    ensures { λ r. ⌜ ScanSays (now (book .entry)) (store (now (names .exit)) (now (entries .exit)) (now (direct .exit))) r ⌝ }
+{
+    if MAX_BYTES < book.len() {
+        return Scan::Refused {
+            number: 1,
+            value: 0,
+        };
+    }
+    let mut p = Progress {
+        at: 0,
+        types: 0,
+        entries: 0,
+        target: NO_TARGET,
+    };
+    while p.at < book.len() {
+        let taken = take_record(book, names, entries, direct, p);
+        match taken {
+            Taken::Next(next) => p = next,
+            Taken::Bad(number) => return Scan::Refused {
+                number,
+                value: p.at,
+            },
+        }
+    }
+    if p.target == NO_TARGET {
+        return Scan::Refused {
+            number: 10,
+            value: book.len(),
+        };
+    }
+    Scan::Accepted {
+        types: p.types,
+        entries: p.entries,
+        target: p.target,
+    }
+}

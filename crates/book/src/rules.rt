@@ -1,0 +1,170 @@
+// The rules for one record: which of the numbers 2 to 9 it is refused with, the smallest, or 0. The functions go by the record's kind,
+// each over the record's body as a part of the book.
+use crate::layout::body_at;
+use crate::layout::is_entry;
+use crate::layout::is_exponent;
+use crate::layout::is_name;
+use crate::layout::two_bytes;
+use crate::layout::type_part;
+use crate::layout::wide;
+use order::MAX_TYPES;
+ghost use mathlib.Core.Path.{_≡_};
+ghost use mathlib.Core.Bool.{Bool};
+ghost use mathlib.Core.List.{List};
+ghost use Prim.Native.Nat.{ℕ, _+_, _%_, _≤_, _<_};
+ghost use lib.ListN.{length};
+ghost use Rattle.book.specs.Format.{Bytes, Kind, every, simplesOf, bases, declaredAmong, exponents, exponentListed, nameUsed, bodyFault, recordFault};
+ghost use Rattle.book.specs.Kept.{bodiesAt, Whole};
+
+pub const MAX_ENTRIES: usize = 1024;
+
+// A kept offset as a number of its own width.
+pub fn offset(kept: u16) -> usize
+    ensures { λ r. ⌜ r ≡ kept ⌝ }
+{
+    kept as usize
+}
+
+// Whether all type numbers of a type are below the number of basic types.
+fn all_declared(part: &[u8], types: usize) -> bool
+    requires { ⌜ length (now part) % 2 ≡ 0 ⌝ }
+    ensures { λ r. ⌜ r ≡ every (declaredAmong types) (bases (simplesOf (now (part .entry)))) ⌝ }
+{
+    let mut i = 0;
+    while i < part.len() {
+        if types <= wide(part[i]) {
+            return false;
+        }
+        i += 2;
+    }
+    true
+}
+
+// Whether all exponents of a type are from -8 to 8.
+fn all_exponents(part: &[u8]) -> bool
+    requires { ⌜ length (now part) % 2 ≡ 0 ⌝ }
+    ensures { λ r. ⌜ r ≡ every exponentListed (exponents (simplesOf (now (part .entry)))) ⌝ }
+{
+    let mut i = 0;
+    while i < part.len() {
+        if !is_exponent(part[i + 1]) {
+            return false;
+        }
+        i += 2;
+    }
+    true
+}
+
+// Whether a body is the name of one of the basic types whose records start at the kept offsets.
+fn name_used(book: &[u8], names: &[u16], types: usize, body: &[u8]) -> bool
+    requires { ⌜ Whole (now book) (now names) types ⌝ }
+    ensures { λ r. ⌜ r ≡ nameUsed Kind.basic-type (now (body .entry)) (bodiesAt (now (book .entry)) (now (names .entry)) types) ⌝ }
+{
+    let mut i = 0;
+    while i < types {
+        if check::same(body, body_at(book, offset(names[i]))) {
+            return true;
+        }
+        i += 1;
+    }
+    false
+}
+
+// The rules for a basic type: its layout, a name used before, one too many.
+fn name_fault(book: &[u8], names: &[u16], types: usize, body: &[u8]) -> u32
+    requires { ⌜ Whole (now book) (now names) types ⌝ }
+    ensures { λ r. ⌜ ((entries : ℕ) (seen : Bool) → r ≡ bodyFault Kind.basic-type (now (body .entry)) (bodiesAt (now (book .entry)) (now (names .entry)) types) entries seen) ⌝ }
+{
+    if !is_name(body) {
+        return 4;
+    }
+    if name_used(book, names, types, body) {
+        return 7;
+    }
+    if MAX_TYPES <= types {
+        return 9;
+    }
+    0
+}
+
+// The rules for an order pair: its layout, and two declared type numbers.
+fn pair_fault(body: &[u8], types: usize) -> u32
+    ensures { λ r. ⌜ ((names : List Bytes) (entries : ℕ) (seen : Bool) → length names ≡ types → r ≡ bodyFault Kind.order-pair (now (body .entry)) names entries seen) ⌝ }
+{
+    if body.len() != 2 {
+        return 4;
+    }
+    if types <= wide(body[0]) {
+        return 5;
+    }
+    if types <= wide(body[1]) {
+        return 5;
+    }
+    0
+}
+
+// The rules for an entry: its layout, declared type numbers, exponents from -8 to 8, one too many.
+fn entry_fault(body: &[u8], types: usize, entries: usize) -> u32
+    ensures { λ r. ⌜ ((names : List Bytes) (seen : Bool) → length names ≡ types → r ≡ bodyFault Kind.entry (now (body .entry)) names entries seen) ⌝ }
+{
+    if !is_entry(body) {
+        return 4;
+    }
+    let part = type_part(body);
+    if !all_declared(part, types) {
+        return 5;
+    }
+    if !all_exponents(part) {
+        return 6;
+    }
+    if MAX_ENTRIES <= entries {
+        return 9;
+    }
+    0
+}
+
+// The rules for a target: its layout, a declared type number, no target before.
+fn target_fault(body: &[u8], types: usize, seen: bool) -> u32
+    ensures { λ r. ⌜ ((names : List Bytes) (entries : ℕ) → length names ≡ types → r ≡ bodyFault Kind.target (now (body .entry)) names entries seen) ⌝ }
+{
+    if body.len() != 1 {
+        return 4;
+    }
+    if types <= wide(body[0]) {
+        return 5;
+    }
+    if seen {
+        return 8;
+    }
+    0
+}
+
+// The rules for the record at an offset of the book: the smallest number that it is refused with, or 0.
+pub fn record_fault(
+    book: &[u8],
+    at: usize,
+    names: &[u16],
+    types: usize,
+    entries: usize,
+    seen: bool,
+) -> u32
+    requires { ⌜ (at ≤ length (now book)) × Whole (now book) (now names) types ⌝ }
+    ensures { λ r. ⌜ r ≡ recordFault (now (book .entry)) at (bodiesAt (now (book .entry)) (now (names .entry)) types) entries seen ⌝ }
+{
+    if book.len() - at < 4 {
+        return 2;
+    }
+    let left = book.len() - at - 4;
+    if left < two_bytes(book, at) {
+        return 2;
+    }
+    let body = body_at(book, at);
+    let kind = two_bytes(book, at + 2);
+    match kind {
+        1 => name_fault(book, names, types, body),
+        2 => pair_fault(body, types),
+        3 => entry_fault(body, types, entries),
+        4 => target_fault(body, types, seen),
+        _ => 3,
+    }
+}
