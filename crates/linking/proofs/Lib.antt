@@ -1,0 +1,2 @@
+-- Theorems on linkings and readings.
+pub mod Examples
