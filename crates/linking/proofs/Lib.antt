@@ -1,2 +1,6 @@
 -- Theorems on linkings and readings.
+pub mod Stretches
+pub mod Linked
+pub mod Positions
+pub mod Reduction
 pub mod Examples
