@@ -3,4 +3,6 @@ pub mod Stretches
 pub mod Linked
 pub mod Positions
 pub mod Reduction
+pub mod Comparison
+pub mod Greedy
 pub mod Examples

@@ -4,6 +4,7 @@ use Prim.Native.Nat.{ℕ, zero, suc, _+_, _-_, _≤_, _<_}
 use mathlib.Core.Path.{_≡_, refl, sym, _∙_, ap, subst}
 use mathlib.Core.List.{List, [], _∷_, _++_}
 use native.Mathlib.Omega.{arith}
+use lib.IntN.{ℤ, pos}
 use lib.ListN.{length, getD, replicate, length-append, length-replicate}
 use Rattle.pregroup.specs.Types.{Basic, Simple, PregroupType, plain}
 use Rattle.pregroup.specs.Order.{Relation}
@@ -22,6 +23,17 @@ pub record Link (Le : Relation) (X : PregroupType) (P : List ℕ) (i k : ℕ) : 
 pub data Linked (Le : Relation) (X : PregroupType) (P : List ℕ) : ℕ → ℕ → Type 0 where
   nothing : {i j : ℕ} → i ≡ j → Linked Le X P i j
   linked : {i j : ℕ} (k : ℕ) → Link Le X P i k → k < j → Linked Le X P (suc i) k → Linked Le X P (suc k) j → Linked Le X P i j
+
+-- The string from position i on is parted: one position is unlinked, plain and at or below the target; the stretches before and behind
+-- it are linked.
+pub record Parted (Le : Relation) (s : Basic) (X : PregroupType) (P : List ℕ) (i : ℕ) : Type 0 where
+  pub unlinked : ℕ
+  pub unlinked-at : (i ≤ unlinked) × (unlinked ≤ length X)
+  pub own : partner P unlinked ≡ unlinked
+  pub is-plain : simpleAt X unlinked .exponent ≡ pos 0
+  pub below : Le (simpleAt X unlinked .base) s
+  pub before : Linked Le X P i unlinked
+  pub behind : Linked Le X P (suc unlinked) (suc (length X))
 
 -- What is linked vanishes.
 pub vanish-of-linked :

@@ -12,7 +12,7 @@ use Rattle.pregroup.specs.Types.{Basic, Simple, PregroupType}
 use Rattle.pregroup.specs.Order.{Relation}
 use Rattle.pregroup.specs.Vanish.{Contracts}
 use Rattle.linking.specs.Linking.{Position, simpleAt, partner, IsLinking}
-use Rattle.linking.proofs.Linked.{Link, Linked, nothing, linked}
+use Rattle.linking.proofs.Linked.{Link, Linked, nothing, linked, Parted}
 
 -- Where m stands to k.
 pub data Placed (m k : ℕ) : Type 0 where
@@ -98,17 +98,6 @@ module _ {Le : Relation} {X : PregroupType} {P : List ℕ} where
   inside-of-linked {i} (linked k l b u w) m h g =
       inside-at l b (λ n. inside-of-linked u n) (λ n. inside-of-linked w n) h g (placed m i) (placed m k)
 
--- One unlinked position, and linked stretches before and behind it.
-pub record Parted (Le : Relation) (s : Basic) (X : PregroupType) (P : List ℕ) : Type 0 where
-  pub count : length P ≡ length X
-  pub unlinked : ℕ
-  pub unlinked-at : Position X unlinked
-  pub own : partner P unlinked ≡ unlinked
-  pub is-plain : simpleAt X unlinked .exponent ≡ pos 0
-  pub below : Le (simpleAt X unlinked .base) s
-  pub before : Linked Le X P 1 unlinked
-  pub behind : Linked Le X P (suc unlinked) (suc (length X))
-
 -- What holds at a position of a parted string: it is the unlinked one u, or it is linked, not over u.
 data Cases (Le : Relation) (X : PregroupType) (P : List ℕ) (u i : ℕ) : Type 0 where
   itself : i ≡ u → Cases Le X P u i
@@ -149,7 +138,7 @@ abbrev Closed : List ℕ → ℕ → ℕ → Type 0
 Closed P i j = (m : ℕ) → i ≤ m → m < j → (i ≤ partner P m) × (partner P m < j) × (partner P m ≡ m → ⊥)
 
 module _ {Le : Relation} {s : Basic} {X : PregroupType} {P : List ℕ} where
-  cases : (t : Parted Le s X P) (i : ℕ) → Position X i → Cases Le X P (t .unlinked) i
+  cases : (t : Parted Le s X P 1) (i : ℕ) → Position X i → Cases Le X P (t .unlinked) i
   cases t i p = at (placed i (t .unlinked))
     where
       at : Placed i (t .unlinked) → Cases Le X P (t .unlinked) i
@@ -159,11 +148,11 @@ module _ {Le : Relation} {s : Basic} {X : PregroupType} {P : List ℕ} where
       at (same e) = itself e
       at (over h) = beside (widened (omega arith) (omega arith) (inside-of-linked (t .behind) i h (omega arith))) (λ g. absurd (omega arith))
 
-  linking-of-parted : Parted Le s X P → IsLinking Le s X P
-  linking-of-parted t =
+  linking-of-parted : length P ≡ length X → Parted Le s X P 1 → IsLinking Le s X P
+  linking-of-parted n t =
       let at : (i : ℕ) → Position X i → Facts Le X P (t .unlinked) i = λ i p. facts (t .unlinked-at) (t .own) (cases t i p) in
       record {
-        count = t .count;
+        count = n;
         within = λ i p. at i p .within;
         involutive = λ i p. at i p .involutive;
         contract = λ i p. at i p .contract;
@@ -238,11 +227,10 @@ module _ {Le : Relation} {s : Basic} {X : PregroupType} {P : List ℕ} where
       let clear : partner P m < t .unlinked → ⊥ = λ o. t .uncovered (partner P m) w o (rw (t .involutive m p) h) in
       (omega arith, omega arith, λ e. omega (arith, t .only m p e))
 
-  parted-of-linking : IsLinking Le s X P → Parted Le s X P
+  parted-of-linking : IsLinking Le s X P → Parted Le s X P 1
   parted-of-linking t =
       let u = t .unlinked in
       record {
-        count = t .count;
         unlinked = u;
         unlinked-at = t .unlinked-at;
         own = t .own;
@@ -252,5 +240,6 @@ module _ {Le : Relation} {s : Basic} {X : PregroupType} {P : List ℕ} where
         behind = linked-of-linking t (length X) (suc u) (suc (length X)) (omega arith) (omega arith) (omega arith) (omega arith) (closed-behind t);
       }
 
-  pub linking-iff-parted : IsLinking Le s X P ↔ Parted Le s X P
-  linking-iff-parted = (parted-of-linking, linking-of-parted)
+  -- A linking is a partner list as long as the string, by which the whole string is parted.
+  pub linking-iff-parted : IsLinking Le s X P ↔ ((length P ≡ length X) × Parted Le s X P 1)
+  linking-iff-parted = (λ t. (t .count, parted-of-linking t), λ t. linking-of-parted (t .0) (t .1))

@@ -16,8 +16,8 @@ use Rattle.pregroup.proofs.Switching.{switching}
 use Rattle.linking.specs.Linking.{Position, simpleAt, partner, stretch, IsLinking}
 use Rattle.linking.specs.Reading.{Words, Choice, IsReading}
 use Rattle.linking.proofs.Stretches.{stretch-cons, stretch-append, stretch-all, Reads, reads-head, reads-tail, reads-front, reads-back, reads-self}
-use Rattle.linking.proofs.Linked.{vanish-of-linked, partnersOf, partners-length, linked-of-vanish}
-use Rattle.linking.proofs.Positions.{Parted, linking-iff-parted}
+use Rattle.linking.proofs.Linked.{Parted, vanish-of-linked, partnersOf, partners-length, linked-of-vanish}
+use Rattle.linking.proofs.Positions.{linking-iff-parted}
 
 reduces-at :
     {Le : Relation} {s : Basic} (L : PregroupType) (c : Simple) (R : PregroupType) → Vanish Le L → c .exponent ≡ pos 0 → Le (c .base) s
@@ -25,7 +25,7 @@ reduces-at :
 reduces-at {Le} {s} L c R l e b r =
     subst (λ (z : ℤ). Reduces Le s (L ++ (c .base ⁽ z ⁾ ∷ R))) (sym e) (leaves (c .base) l b r)
 
-reduces-of-parted : {Le : Relation} {s : Basic} {X : PregroupType} {P : List ℕ} → Parted Le s X P → Reduces Le s X
+reduces-of-parted : {Le : Relation} {s : Basic} {X : PregroupType} {P : List ℕ} → Parted Le s X P 1 → Reduces Le s X
 reduces-of-parted {Le} {s} {X} t =
     let u = t .unlinked in
     let end = suc (length X) in
@@ -36,7 +36,7 @@ reduces-of-parted {Le} {s} {X} t =
     (reduces-at (stretch X 1 u) (simpleAt X u) (stretch X (suc u) end) (vanish-of-linked (t .before) (omega arith) (omega arith)) (t .is-plain) (t .below)
     (vanish-of-linked (t .behind) (omega arith) (omega arith)))
 
-parted-of-reduces : {Le : Relation} {s : Basic} {X : PregroupType} → Reduces Le s X → (P : List ℕ) × Parted Le s X P
+parted-of-reduces : {Le : Relation} {s : Basic} {X : PregroupType} → Reduces Le s X → (P : List ℕ) × (length P ≡ length X) × Parted Le s X P 1
 parted-of-reduces {Le} {s} (leaves {L} {R} q l b r) =
     let u = suc (length L) in
     let before = partnersOf l 1 in
@@ -52,8 +52,8 @@ parted-of-reduces {Le} {s} (leaves {L} {R} q l b r) =
     let ru : Reads (plain 0) X u (plain q ∷ R) = reads-back L (plain q ∷ R) u (omega arith) rx in
     let pu : Reads 0 P u behind = reads-back before behind u (omega arith) rp in (
       P,
+      omega arith,
       record {
-        count = omega arith;
         unlinked = u;
         unlinked-at = (omega arith, omega arith);
         own = reads-head pu;
@@ -67,7 +67,7 @@ parted-of-reduces {Le} {s} (leaves {L} {R} q l b r) =
 -- A type has a linking exactly when it reduces to the target.
 pub linking-iff-reduces : {Le : Relation} {s : Basic} {X : PregroupType} → Reduces Le s X ↔ ((P : List ℕ) × IsLinking Le s X P)
 linking-iff-reduces =
-    (λ r. let t = parted-of-reduces r in (t .0, linking-iff-parted .1 (t .1)), λ t. reduces-of-parted (linking-iff-parted .0 (t .1)))
+    (λ r. let t = parted-of-reduces r in (t .0, linking-iff-parted .1 (t .1, t .2)), λ t. reduces-of-parted (linking-iff-parted .0 (t .1) .1))
 
 -- A line has a reading exactly when some choice has a chain to the target.
 pub reading-iff-chain :
