@@ -43,7 +43,7 @@ Nearest Le X Rest i k = (m : ℕ) → i < m → m < k → Candidate Le X i m (Re
 
 -- As `Linked`, with the nearest candidate at each link.
 pub data Greedy (Le : Relation) (X : PregroupType) (P : List ℕ) : ℕ → ℕ → Type 0 where
-  none : {i j : ℕ} → i ≡ j → Greedy Le X P i j
+  done : {i j : ℕ} → i ≡ j → Greedy Le X P i j
   nearest : {i j : ℕ} (k : ℕ) → Link Le X P i k → k < j → Nearest Le X (VanishBehind Le X j) i k
       → Greedy Le X P (suc i) k → Greedy Le X P (suc k) j → Greedy Le X P i j
 
@@ -55,7 +55,7 @@ pub data GreedyFrom (Le : Relation) (s : Basic) (X : PregroupType) (P : List ℕ
 
 module _ {Le : Relation} {X : PregroupType} {P : List ℕ} where
   pub linked-of-greedy : {i j : ℕ} → Greedy Le X P i j → Linked Le X P i j
-  linked-of-greedy (none e) = nothing e
+  linked-of-greedy (done e) = nothing e
   linked-of-greedy (nearest k l h n u w) = linked k l h (linked-of-greedy u) (linked-of-greedy w)
 
   pub parted-of-greedy : {s : Basic} {i : ℕ} → GreedyFrom Le s X P i → Parted Le s X P i
@@ -110,7 +110,7 @@ compared-links {Le} {X} {P} {Q} {i} {j} {k} {k′} l r h n c = at (placed k k′
 pub greedy-first :
     {Le : Relation} {X : PregroupType} {P Q : List ℕ} {i j : ℕ} → Greedy Le X P i j → Linked Le X Q i j → 1 ≤ i → j ≤ suc (length X)
     → Compared P Q i j
-greedy-first (none e) q p b = compared-none e
+greedy-first (done e) q p b = compared-none e
 greedy-first (nearest k l h n u w) (nothing e) p b = absurd (omega (arith, l .ahead))
 greedy-first (nearest k l h n u w) (linked k′ r g v x) p b =
     compared-links l r h (λ c. n k′ (r .ahead) c (candidate-of-link r g v x p b))

@@ -5,4 +5,5 @@ pub mod Positions
 pub mod Reduction
 pub mod Comparison
 pub mod Greedy
+pub mod FirstLinking
 pub mod Examples

@@ -3,7 +3,7 @@
 use Prim.Native.Nat.{ℕ, zero, suc, _-_, _≤_, _<_}
 use mathlib.Core.Path.{_≡_}
 use mathlib.Core.Logic.{_⊎_}
-use mathlib.Core.Bool.{Bool, true, false, cond}
+use mathlib.Core.Bool.{Bool, true, false, _&&_}
 use mathlib.Core.Option.{Option, none, some}
 use mathlib.Core.List.{List, [], _∷_, _++_}
 use lib.Dec.{leb}
@@ -69,7 +69,7 @@ module _ (le : Test) (X : PregroupType) where
   unfoldable pub mayLink : ℕ → ℕ → Bool → Bool
   mayLink i k rest =
       let between = vanishes le (stretch X (suc i) k) in
-      cond (contracts le (simpleAt X i) (simpleAt X k)) (cond between rest false) false
+      contracts le (simpleAt X i) (simpleAt X k) && between && rest
 
   -- The nearest partner of i by which the stretch from i up to j vanishes.
   unfoldable pub nearestWithin : ℕ → ℕ → Option ℕ
@@ -93,7 +93,7 @@ module _ (le : Test) (s : Basic) (X : PregroupType) where
       let behind = vanishes le (stretch X (suc u) (suc (length X))) in
       let below = le (simpleAt X u .base) s in
       let plain = sameExponent (simpleAt X u .exponent) (pos 0) in
-      cond (leb u (length X)) (cond plain (cond below (cond before behind false) false) false) false
+      leb u (length X) && plain && below && before && behind
 
   -- Whether the string from position i on reduces to the target.
   unfoldable pub reducesFrom : ℕ → Bool

@@ -1,0 +1,288 @@
+-- `firstLinking` is right, over a test that decides the order.
+-- `first-linking`: what it gives is a linking that is at most every linking; where it gives none there is none.
+-- `first-linking-unique`: any linking that is at most every linking is what it gives.
+use Prim.Native.Nat.{ℕ, zero, suc, _+_, _-_, _≤_, _<_}
+use mathlib.Core.Path.{_≡_, refl, sym, _∙_, ap}
+use mathlib.Core.Logic.{_↔_, _⊎_, inl, inr, ⊎-elim}
+use mathlib.Core.Bool.{Bool, true, false, _&&_, false≢true}
+use mathlib.Core.Option.{Option, none, some}
+use mathlib.Core.List.{List, [], _∷_, _++_}
+use native.Mathlib.Omega.{arith}
+use lib.Dec.{leb}
+use lib.IntN.{ℤ, pos}
+use lib.ListN.{length, getD, length-append}
+use borrow.Author.Tests.{leb-true, le-leb}
+use Rattle.pregroup.specs.Types.{Basic, Simple, PregroupType}
+use Rattle.pregroup.specs.Order.{Relation}
+use Rattle.pregroup.specs.Vanish.{Contracts, Vanish, empty}
+use Rattle.pregroup.specs.Tests.{Test, Decides, sameExponent, contracts, vanishes}
+use Rattle.pregroup.proofs.Decision.{same-exponent-iff, and-iff, contracts-iff, vanishes-iff}
+use Rattle.linking.specs.Linking.{simpleAt, partner, stretch, IsLinking, AtMost, firstFrom, isSome, mayLink, mayStay, reducesFrom, nearestWithin, nearestFrom, partnersWithin, partnersFrom, firstLinking}
+use Rattle.linking.proofs.Stretches.{stretch-empty, Reads, reads-head, reads-tail, reads-front, reads-back, reads-self}
+use Rattle.linking.proofs.Linked.{Link, Linked, nothing, linked, vanish-of-linked, linked-stretch}
+use Rattle.linking.proofs.Positions.{Placed, under, same, over, placed, linking-iff-parted}
+use Rattle.linking.proofs.Comparison.{at-most-of-compared, at-most-both}
+use Rattle.linking.proofs.Greedy.{Candidate, Stay, VanishBehind, ReducesFrom, Nearest, Greedy, done, nearest, GreedyFrom, stays, links, parted-of-greedy, candidate-of-link, reduces-of-parted, greedy-from-first}
+
+-- What a search from k up to j finds: the first number with a property, or that none has it.
+data Search (Good : ℕ → Type 0) (k j : ℕ) : Option ℕ → Type 0 where
+  hit : (m : ℕ) → k ≤ m → m < j → Good m → ((l : ℕ) → k ≤ l → l < m → Good l → ⊥) → Search Good k j (some m)
+  miss : ((l : ℕ) → k ≤ l → l < j → Good l → ⊥) → Search Good k j none
+
+module _ {test : ℕ → Bool} {Good : ℕ → Type 0} (decides : (m : ℕ) → (test m ≡ true) ↔ Good m) where
+  bad : (m : ℕ) → test m ≡ false → Good m → ⊥
+  bad m e g = false≢true (sym e ∙ decides m .1 g)
+
+  more-bad : {k m : ℕ} → test k ≡ false → ((l : ℕ) → suc k ≤ l → l < m → Good l → ⊥) → (l : ℕ) → k ≤ l → l < m → Good l → ⊥
+  more-bad {k} {m} e f l c d = at (placed l k)
+    where
+      at : Placed l k → Good l → ⊥
+      at (under h) g = absurd (omega arith)
+      at (same h) g = bad k e (rw h at g)
+      at (over h) g = f l h d g
+
+  search-more : {k j : ℕ} {r : Option ℕ} → test k ≡ false → Search Good (suc k) j r → Search Good k j r
+  search-more {k} e (hit m a b g f) = hit m (omega arith) b g (more-bad e f)
+  search-more {k} e (miss f) = miss (more-bad e f)
+
+  search-step : {k j : ℕ} {r : Option ℕ} (b : Bool) → test k ≡ b → k < j → Search Good (suc k) j r
+      → Search Good k j (elim b [ true ↦ some k | false ↦ r ])
+  search-step {k} true e h t = hit k (omega arith) h (decides k .0 e) (λ l c d. absurd (omega arith))
+  search-step false e h t = search-more e t
+
+  search-right : (d k j : ℕ) → j - k ≡ d → Search Good k j (firstFrom test d k)
+  unfolding firstFrom
+  search-right zero k j e = miss (λ l c d. absurd (omega arith))
+  search-right (suc d) k j e = search-step (test k) refl (omega arith) (search-right d (suc k) j (omega arith))
+
+and-iff₃ : (a b c : Bool) → (a && b && c ≡ true) ↔ ((a ≡ true) × (b ≡ true) × (c ≡ true))
+and-iff₃ a b c =
+    let two = and-iff a b in
+    let last = and-iff (a && b) c in
+    (λ h. let t = last .0 h in (two .0 (t .0) .0, two .0 (t .0) .1, t .1), λ t. last .1 (two .1 (t .0, t .1), t .2))
+
+-- A list that fills the stretch from i up to j greedily: where P reads it from i on, the stretch is linked greedily.
+record Filled (Le : Relation) (X : PregroupType) (i j : ℕ) (L : List ℕ) : Type 0 where
+  size : i + length L ≡ j
+  greedy : (P : List ℕ) → Reads 0 P i L → Greedy Le X P i j
+
+-- What the search for a partner of i finds, up to j.
+abbrev Within : Relation → PregroupType → ℕ → ℕ → Option ℕ → Type 0
+Within Le X i j = Search (λ k. Candidate Le X i k (VanishBehind Le X j k)) (suc i) j
+
+module _ {Le : Relation} {X : PregroupType} where
+  filled-none : {i j : ℕ} → i ≡ j → Filled Le X i j []
+  filled-none e = record { size = omega arith; greedy = λ P r. done e }
+
+  filled-link :
+      {i j k : ℕ} {A B : List ℕ} → i < k → k < j → Candidate Le X i k (VanishBehind Le X j k) → Nearest Le X (VanishBehind Le X j) i k
+      → Filled Le X (suc i) k A → Filled Le X (suc k) j B → Filled Le X i j (k ∷ (A ++ (i ∷ B)))
+  filled-link {i} {j} {k} {A} {B} h b c n f g =
+      record {
+        size = simp length-append (omega arith);
+        greedy = λ P r.
+            let q = reads-back A (i ∷ B) k (f .size) (reads-tail r) in
+            nearest k (record { ahead = h; forth = reads-head r; back = reads-head q; contract = c .contract }) b n
+            (f .greedy P (reads-front A (i ∷ B) (reads-tail r))) (g .greedy P (reads-tail q));
+      }
+
+  filled-step :
+      {i j : ℕ} {r : Option ℕ} (f g : ℕ → List ℕ) → Within Le X i j r → 1 ≤ i → i ≤ j → j ≤ suc (length X) → Vanish Le (stretch X i j)
+      → ((k : ℕ) → i < k → k < j → Candidate Le X i k (VanishBehind Le X j k) → Filled Le X (suc i) k (f k) × Filled Le X (suc k) j (g k))
+      → Filled Le X i j (elim r [ none ↦ [] | some k ↦ k ∷ (f k ++ (i ∷ g k)) ])
+  filled-step f g (hit k a b c n) p h e v r = let t = r k a b c in filled-link a b c n (t .0) (t .1)
+  filled-step {i} {j} f g (miss n) p h e v r = at (linked-stretch X i j p h e v .1)
+    where
+      at : {P : List ℕ} → Linked Le X P i j → Filled Le X i j []
+      at (nothing k) = filled-none k
+      at (linked k l b u w) = absurd (n k (l .ahead) b (candidate-of-link l b u w p e))
+
+-- A list that fills the string from i on greedily; or the string does not reduce.
+data FilledFrom (Le : Relation) (s : Basic) (X : PregroupType) (i : ℕ) : Option (List ℕ) → Type 0 where
+  filled : {L : List ℕ} → i + length L ≡ suc (length X) → ((P : List ℕ) → Reads 0 P i L → GreedyFrom Le s X P i)
+      → FilledFrom Le s X i (some L)
+  unfilled : (ReducesFrom Le s X i → ⊥) → FilledFrom Le s X i none
+
+-- What the search for a later partner of i finds, where the string from i on is to reduce.
+abbrev From : Relation → Basic → PregroupType → ℕ → Option ℕ → Type 0
+From Le s X i = Search (λ k. Candidate Le X i k (ReducesFrom Le s X (suc k))) (suc i) (suc (length X))
+
+module _ {Le : Relation} {s : Basic} {X : PregroupType} where
+  filled-stay : {i : ℕ} {A : List ℕ} → Stay Le s X i i → Filled Le X (suc i) (suc (length X)) A → FilledFrom Le s X i (some (i ∷ A))
+  filled-stay {i} {A} t f = filled {L = i ∷ A} (omega (arith, f .size)) (λ P r. stays (reads-head r) t (f .greedy P (reads-tail r)))
+
+  -- A string that reduces begins with its unlinked position or with a candidate for a link.
+  reduces-cases :
+      {i : ℕ} → 1 ≤ i → (Stay Le s X i i → ⊥) → ((k : ℕ) → i < k → k ≤ length X → Candidate Le X i k (ReducesFrom Le s X (suc k)) → ⊥)
+      → ReducesFrom Le s X i → ⊥
+  reduces-cases {i} p n m r = at (linked-stretch X i u p (r .1) (omega (arith, stay .fits)) (stay .before) .1)
+    where
+      u : ℕ
+      u = r .0
+
+      stay : Stay Le s X i u
+      stay = r .2
+
+      at : {P : List ℕ} → Linked Le X P i u → ⊥
+      at (nothing e) = n (rw (← e) at stay)
+      at (linked k l b v x) =
+          let a = l .ahead in
+          let z = stay .fits in
+          let rest : Stay Le s X (suc k) u =
+          record {
+            fits = z;
+            is-plain = stay .is-plain;
+            below = stay .below;
+            before = vanish-of-linked x (omega arith) (omega arith);
+            behind = stay .behind;
+          } in
+          m k a (omega arith) (record { contract = l .contract; between = vanish-of-linked v (omega arith) (omega arith); rest = (u, b, rest) })
+
+  filled-rest :
+      {i k : ℕ} {A : List ℕ} {o : Option (List ℕ)} → i < k → (Stay Le s X i i → ⊥) → Nearest Le X (λ m. ReducesFrom Le s X (suc m)) i k
+      → Candidate Le X i k (ReducesFrom Le s X (suc k)) → Filled Le X (suc i) k A → FilledFrom Le s X (suc k) o
+      → FilledFrom Le s X i (elim o [ none ↦ none | some B ↦ some (k ∷ (A ++ (i ∷ B))) ])
+  filled-rest {i} {k} {A} h n m c f (filled {L = B} e g) =
+      let a : length (A ++ (i ∷ B)) ≡ length A + suc (length B) = length-append A (i ∷ B) in
+      filled {L = k ∷ (A ++ (i ∷ B))} (omega (arith, f .size))
+      (λ P r.
+      let q = reads-back A (i ∷ B) k (f .size) (reads-tail r) in
+      links k (record { ahead = h; forth = reads-head r; back = reads-head q; contract = c .contract }) n m
+      (f .greedy P (reads-front A (i ∷ B) (reads-tail r))) (g P (reads-tail q)))
+  filled-rest h n m c f (unfilled no-rest) = absurd (no-rest (c .rest))
+
+  from-link :
+      {i : ℕ} {r : Option ℕ} (f : ℕ → List ℕ) (g : ℕ → Option (List ℕ)) → From Le s X i r → 1 ≤ i → (Stay Le s X i i → ⊥)
+      → ((k : ℕ) → i < k → k ≤ length X → Vanish Le (stretch X (suc i) k) → Filled Le X (suc i) k (f k) × FilledFrom Le s X (suc k) (g k))
+      → FilledFrom Le s X i (elim r [ none ↦ none | some k ↦ elim (g k) [ none ↦ none | some B ↦ some (k ∷ (f k ++ (i ∷ B))) ] ])
+  from-link f g (hit k a b c n) p m r = let t = r k a (omega arith) (c .between) in filled-rest a m n c (t .0) (t .1)
+  from-link f g (miss n) p m r = unfilled (reduces-cases p m (λ k a b c. n k a (omega arith) c))
+
+module _ {le : Test} {Le : Relation} (decides : Decides le Le) (X : PregroupType) where
+  may-link-iff : (i k : ℕ) (rest : Bool) {Rest : Type 0} → (rest ≡ true) ↔ Rest → (mayLink le X i k rest ≡ true) ↔ Candidate Le X i k Rest
+  unfolding mayLink
+  may-link-iff i k rest r =
+      let c = contracts-iff decides (simpleAt X i) (simpleAt X k) in
+      let v = vanishes-iff decides (stretch X (suc i) k) in
+      let parts = and-iff₃ (contracts le (simpleAt X i) (simpleAt X k)) (vanishes le (stretch X (suc i) k)) rest in (
+        λ h. let t = parts .0 h in record { contract = c .0 (t .0); between = v .0 (t .1); rest = r .0 (t .2) },
+        λ t. parts .1 (c .1 (t .contract), v .1 (t .between), r .1 (t .rest)),
+      )
+
+  nearest-within : (i j : ℕ) → Within Le X i j (nearestWithin le X i j)
+  unfolding nearestWithin
+  nearest-within i j =
+      search-right (λ k. may-link-iff i k (vanishes le (stretch X (suc k) j)) (vanishes-iff decides (stretch X (suc k) j))) (j - suc i) (suc i) j refl
+
+  -- In a stretch that vanishes, `partnersWithin` takes the nearest candidates.
+  within-right :
+      (d i j : ℕ) → j ≤ i + d → 1 ≤ i → i ≤ j → j ≤ suc (length X) → Vanish Le (stretch X i j) → Filled Le X i j (partnersWithin le X d i j)
+  unfolding partnersWithin
+  within-right zero i j b p h e v = filled-none (omega arith)
+  within-right (suc d) i j b p h e v =
+      filled-step (λ k. partnersWithin le X d (suc i) k) (λ k. partnersWithin le X d (suc k) j) (nearest-within i j) p h e v
+      (λ k a c t. (
+        within-right d (suc i) k (omega arith) (omega arith) a (omega arith) (t .between),
+        within-right d (suc k) j (omega arith) (omega arith) c e (t .rest),
+      ))
+
+-- Whether a search has found something.
+found-iff : {Good : ℕ → Type 0} {k j : ℕ} {o : Option ℕ} → Search Good k j o → (isSome o ≡ true) ↔ ((m : ℕ) × (k ≤ m) × (m < j) × Good m)
+unfolding isSome
+found-iff (hit m a b g f) = (λ h. (m, a, b, g), λ t. refl)
+found-iff (miss f) = (λ h. absurd (false≢true h), λ t. absurd (f (t .0) (t .1) (t .2) (t .3)))
+
+module _ {le : Test} {Le : Relation} (decides : Decides le Le) (s : Basic) (X : PregroupType) where
+  may-stay-iff : (i u : ℕ) → (mayStay le s X i u ≡ true) ↔ Stay Le s X i u
+  unfolding mayStay
+  may-stay-iff i u =
+      let fit : Bool = leb u (length X) in
+      let plain : Bool = sameExponent (simpleAt X u .exponent) (pos 0) in
+      let low : Bool = le (simpleAt X u .base) s in
+      let before = vanishes-iff decides (stretch X i u) in
+      let behind = vanishes-iff decides (stretch X (suc u) (suc (length X))) in
+      let exponent = same-exponent-iff (simpleAt X u .exponent) (pos 0) in
+      let order = decides (simpleAt X u .base) s in
+      let three = and-iff₃ fit plain low in
+      let parts = and-iff₃ (fit && plain && low) (vanishes le (stretch X i u)) (vanishes le (stretch X (suc u) (suc (length X)))) in (
+        λ h.
+            let t = parts .0 h in
+            let r = three .0 (t .0) in
+            record {
+              fits = leb-true u (length X) (r .0);
+              is-plain = exponent .0 (r .1);
+              below = order .0 (r .2);
+              before = before .0 (t .1);
+              behind = behind .0 (t .2);
+            },
+        λ t.
+            parts .1 (
+              three .1 (le-leb u (length X) (t .fits), exponent .1 (t .is-plain), order .1 (t .below)),
+              before .1 (t .before),
+              behind .1 (t .behind),
+            ),
+      )
+
+  reduces-from-iff : (i : ℕ) → (reducesFrom le s X i ≡ true) ↔ ReducesFrom Le s X i
+  unfolding reducesFrom
+  reduces-from-iff i =
+      let found = found-iff (search-right (λ u. may-stay-iff i u) (suc (length X) - i) i (suc (length X)) refl) in
+      (λ h. let t = found .0 h in (t .0, t .1, t .3), λ t. let f = t .2 .fits in found .1 (t .0, t .1, omega arith, t .2))
+
+  nearest-from : (i : ℕ) → From Le s X i (nearestFrom le s X i)
+  unfolding nearestFrom
+  nearest-from i =
+      search-right (λ k. may-link-iff decides X i k (reducesFrom le s X (suc k)) (reduces-from-iff (suc k))) (length X - i) (suc i) (suc (length X))
+      (omega arith)
+
+  from-step :
+      {i : ℕ} {A : List ℕ} {o : Option (List ℕ)} (b : Bool) → mayStay le s X i i ≡ b
+      → (Stay Le s X i i → Filled Le X (suc i) (suc (length X)) A) → ((Stay Le s X i i → ⊥) → FilledFrom Le s X i o)
+      → FilledFrom Le s X i (elim b [ true ↦ some (i ∷ A) | false ↦ o ])
+  from-step {i} true e f g = let t = may-stay-iff i i .0 e in filled-stay t (f t)
+  from-step {i} false e f g = g (λ t. false≢true (sym e ∙ may-stay-iff i i .1 t))
+
+  from-right : (d i : ℕ) → suc (length X) ≤ i + d → 1 ≤ i → FilledFrom Le s X i (partnersFrom le s X d i)
+  unfolding partnersFrom
+  from-right zero i b p = unfilled (λ r. omega (arith, r .1, r .2 .fits))
+  from-right (suc d) i b p =
+      from-step (mayStay le s X i i) refl
+      (λ t. within-right decides X d (suc i) (suc (length X)) (omega arith) (omega arith) (omega (arith, t .fits)) (omega arith) (t .behind))
+      (λ n.
+      from-link (λ k. partnersWithin le X d (suc i) k) (λ k. partnersFrom le s X d (suc k)) (nearest-from i) p n
+      (λ k a c v. (
+        within-right decides X d (suc i) k (omega arith) (omega arith) a (omega arith) v,
+        from-right d (suc k) (omega arith) (omega arith),
+      )))
+
+-- What is said of the outcome of a search for the first linking: a linking that is at most every linking, or that there is none.
+pub data FirstLinking (Le : Relation) (s : Basic) (X : PregroupType) : Option (List ℕ) → Type 0 where
+  is-first : {P : List ℕ} → IsLinking Le s X P → ((Q : List ℕ) → IsLinking Le s X Q → AtMost P Q) → FirstLinking Le s X (some P)
+  no-linking : ((P : List ℕ) → IsLinking Le s X P → ⊥) → FirstLinking Le s X none
+
+first-of-filled : {Le : Relation} {s : Basic} {X : PregroupType} {o : Option (List ℕ)} → FilledFrom Le s X 1 o → FirstLinking Le s X o
+first-of-filled {X = X} (filled {L = P} e g) =
+    let greedy = g P (reads-self P) in
+    let n : length P ≡ length X = omega arith in
+    is-first (linking-iff-parted .1 (n, parted-of-greedy greedy))
+    (λ Q q.
+    let t = linking-iff-parted .0 q in
+    at-most-of-compared P Q (length X) n (t .0) (greedy-from-first greedy (t .1) (omega arith)))
+first-of-filled (unfilled n) = no-linking (λ P t. n (reduces-of-parted (linking-iff-parted .0 t .1) (omega arith)))
+
+-- The first of all linkings: at most one list is.
+unique : {Le : Relation} {s : Basic} {X : PregroupType} {o : Option (List ℕ)} {P : List ℕ} → FirstLinking Le s X o → IsLinking Le s X P
+    → ((Q : List ℕ) → IsLinking Le s X Q → AtMost P Q) → o ≡ some P
+unique {P = P} (is-first {P = R} r f) t g = ap some (at-most-both (f P t) (g R r))
+unique {P = P} (no-linking n) t g = absurd (n P t)
+
+module _ {le : Test} {Le : Relation} (decides : Decides le Le) (s : Basic) (X : PregroupType) where
+  -- `firstLinking` gives the first linking, or there is none.
+  pub first-linking : FirstLinking Le s X (firstLinking le s X)
+  unfolding firstLinking
+  first-linking = first-of-filled (from-right decides s X (length X) 1 (omega arith) (omega arith))
+
+  -- Any linking that is at most every linking is what `firstLinking` gives.
+  pub first-linking-unique :
+      {P : List ℕ} → IsLinking Le s X P → ((Q : List ℕ) → IsLinking Le s X Q → AtMost P Q) → firstLinking le s X ≡ some P
+  first-linking-unique t f = unique first-linking t f
