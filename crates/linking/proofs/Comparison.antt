@@ -65,7 +65,7 @@ at-most-of-compared P Q n p q (smaller m h b f l) =
     (λ i c. let e : suc i - 1 ≡ i = omega arith in rw e at (f (suc i) (omega arith) (omega arith))) l)
 
 -- No list is before one that is before it.
-before-both : {P Q R S : List ℕ} → Before P Q → Before R S → Q ≡ R → P ≡ S → ⊥
+pub before-both : {P Q R S : List ℕ} → Before P Q → Before R S → Q ≡ R → P ≡ S → ⊥
 before-both (first {a} {b} h) (first {a = c} {b = d} g) e f = let x : b ≡ c = cc in let y : a ≡ d = cc in omega arith
 before-both (first {a} {b} h) (later {a = c} g) e f = let x : b ≡ c = cc in let y : a ≡ c = cc in omega arith
 before-both (later {a} h) (first {a = c} {b = d} g) e f = let x : a ≡ c = cc in let y : a ≡ d = cc in omega arith

@@ -257,14 +257,14 @@ module _ {le : Test} {Le : Relation} (decides : Decides le Le) (s : Basic) (X : 
 
 -- What is said of the outcome of a search for the first linking: a linking that is at most every linking, or that there is none.
 pub data FirstLinking (Le : Relation) (s : Basic) (X : PregroupType) : Option (List ℕ) → Type 0 where
-  is-first : {P : List ℕ} → IsLinking Le s X P → ((Q : List ℕ) → IsLinking Le s X Q → AtMost P Q) → FirstLinking Le s X (some P)
+  least : {P : List ℕ} → IsLinking Le s X P → ((Q : List ℕ) → IsLinking Le s X Q → AtMost P Q) → FirstLinking Le s X (some P)
   no-linking : ((P : List ℕ) → IsLinking Le s X P → ⊥) → FirstLinking Le s X none
 
 first-of-filled : {Le : Relation} {s : Basic} {X : PregroupType} {o : Option (List ℕ)} → FilledFrom Le s X 1 o → FirstLinking Le s X o
 first-of-filled {X = X} (filled {L = P} e g) =
     let greedy = g P (reads-self P) in
     let n : length P ≡ length X = omega arith in
-    is-first (linking-iff-parted .1 (n, parted-of-greedy greedy))
+    least (linking-iff-parted .1 (n, parted-of-greedy greedy))
     (λ Q q.
     let t = linking-iff-parted .0 q in
     at-most-of-compared P Q (length X) n (t .0) (greedy-from-first greedy (t .1) (omega arith)))
@@ -273,7 +273,7 @@ first-of-filled (unfilled n) = no-linking (λ P t. n (reduces-of-parted (linking
 -- The first of all linkings: at most one list is.
 unique : {Le : Relation} {s : Basic} {X : PregroupType} {o : Option (List ℕ)} {P : List ℕ} → FirstLinking Le s X o → IsLinking Le s X P
     → ((Q : List ℕ) → IsLinking Le s X Q → AtMost P Q) → o ≡ some P
-unique {P = P} (is-first {P = R} r f) t g = ap some (at-most-both (f P t) (g R r))
+unique {P = P} (least {P = R} r f) t g = ap some (at-most-both (f P t) (g R r))
 unique {P = P} (no-linking n) t g = absurd (n P t)
 
 module _ {le : Test} {Le : Relation} (decides : Decides le Le) (s : Basic) (X : PregroupType) where

@@ -6,4 +6,5 @@ pub mod Reduction
 pub mod Comparison
 pub mod Greedy
 pub mod FirstLinking
+pub mod FirstReading
 pub mod Examples

@@ -34,10 +34,14 @@ pub record IsReading (Le : Relation) (s : Basic) (words : Words) (ns P : List �
 abbrev pub Earlier : List ℕ → List ℕ → List ℕ → List ℕ → Type 0
 Earlier ns P ns′ P′ = Before ns ns′ ⊎ ((ns ≡ ns′) × Before P P′)
 
--- A reading that every reading is the same as or comes after.
+-- The same, or earlier.
+abbrev pub NotLater : List ℕ → List ℕ → List ℕ → List ℕ → Type 0
+NotLater ns P ns′ P′ = ((ns ≡ ns′) × (P ≡ P′)) ⊎ Earlier ns P ns′ P′
+
+-- The first reading: no later than any reading.
 pub record IsFirst (Le : Relation) (s : Basic) (words : Words) (ns P : List ℕ) : Type 0 where
   pub reading : IsReading Le s words ns P
-  pub least : (ns′ P′ : List ℕ) → IsReading Le s words ns′ P′ → ((ns ≡ ns′) × (P ≡ P′)) ⊎ Earlier ns P ns′ P′
+  pub least : (ns′ P′ : List ℕ) → IsReading Le s words ns′ P′ → NotLater ns P ns′ P′
 
 -- The numbers of a word's entries ascend, as they do in a book.
 pub data Ascending : List Entry → Type 0 where
