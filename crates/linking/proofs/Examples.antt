@@ -1,16 +1,31 @@
--- Document 01's book to try: o 0, p 1, w 2, u 3, with u ≤ w; the second book adds k 4. One table of lines, each with its target and the
--- first reading that antt computes.
+-- Lines of document 01's two books to try, and the sentence of document 000, example 4.3. One table, each line with its order, its target
+-- and the first reading that antt computes.
 use mathlib.Core.Path.{_≡_, refl}
-use mathlib.Core.Bool.{Bool, true, false, cond, _&&_, _||_}
+use mathlib.Core.Bool.{_&&_, _||_}
 use mathlib.Core.Option.{Option, none, some}
 use mathlib.Core.List.{List, [], _∷_, map}
 use lib.Dec.{eqb}
-use lib.IntN.{pos, negsuc}
-use Rattle.pregroup.specs.Types.{Basic, Simple, PregroupType, _⁽_⁾, even, plain, simpleLeft, simpleRight}
+use Rattle.pregroup.specs.Types.{Basic, Simple, PregroupType, even, plain, simpleLeft, simpleRight}
 use Rattle.pregroup.specs.Tests.{Test, sameExponent, contracts, closes, vanishes}
 use Rattle.linking.specs.Linking.{firstFrom, isSome, mayLink, mayStay, reducesFrom, nearestWithin, nearestFrom, partnersWithin, partnersFrom, firstLinking}
-use Rattle.linking.specs.Reading.{Entry, Words, Answer, firstEntry, firstBehind, firstReading}
+use Rattle.linking.specs.Reading.{NumberedEntry, Words, Answer, firstEntry, firstBehind, firstReading}
 
+infix 90 _ˡ _ʳ
+abbrev _ˡ : Basic → Simple
+a ˡ = simpleLeft (plain a)
+
+abbrev _ʳ : Basic → Simple
+a ʳ = simpleRight (plain a)
+
+-- The order of pairs that need no closing but by a ≤ a.
+order : List (Basic × Basic) → Test
+order [] a b = eqb a b
+order (p ∷ pairs) a b = (eqb a (p .0) && eqb b (p .1)) || order pairs a b
+
+abbrev entry : Basic → PregroupType → NumberedEntry
+entry n X = record { number = n; type = X }
+
+-- The basic types of the books to try, and their words by their entries.
 abbrev o : Basic
 o = 0
 
@@ -26,68 +41,111 @@ u = 3
 abbrev k : Basic
 k = 4
 
-infix 90 _ˡ _ʳ
-abbrev _ˡ : Basic → Simple
-a ˡ = simpleLeft (plain a)
+abbrev fetch : List NumberedEntry
+fetch = entry 0 (plain o ∷ p ˡ ∷ []) ∷ entry 1 (plain o ∷ w ˡ ∷ p ˡ ∷ []) ∷ []
 
-abbrev _ʳ : Basic → Simple
-a ʳ = simpleRight (plain a)
+abbrev bed4 : List NumberedEntry
+bed4 = entry 2 (plain p ∷ []) ∷ []
 
--- The closure of the one pair u ≤ w.
-order : Test
-order a b = eqb a b || (eqb a u && eqb b w)
+abbrev ward7 : List NumberedEntry
+ward7 = entry 3 (plain u ∷ []) ∷ []
 
--- The words of the books, by their entries.
-abbrev fetch : List Entry
-fetch = record { number = 0; type = plain o ∷ p ˡ ∷ [] } ∷ record { number = 1; type = plain o ∷ w ˡ ∷ p ˡ ∷ [] } ∷ []
+abbrev urgently : List NumberedEntry
+urgently = entry 4 (o ʳ ∷ plain o ∷ []) ∷ []
 
-abbrev bed4 : List Entry
-bed4 = record { number = 2; type = plain p ∷ [] } ∷ []
+abbrev admit : List NumberedEntry
+admit = entry 5 (plain o ∷ u ˡ ∷ []) ∷ []
 
-abbrev ward7 : List Entry
-ward7 = record { number = 3; type = plain u ∷ [] } ∷ []
+abbrev site : List NumberedEntry
+site = entry 6 (plain w ∷ []) ∷ []
 
-abbrev urgently : List Entry
-urgently = record { number = 4; type = o ʳ ∷ plain o ∷ [] } ∷ []
+abbrev go : List NumberedEntry
+go = entry 7 (plain o ∷ []) ∷ []
 
-abbrev admit : List Entry
-admit = record { number = 5; type = plain o ∷ u ˡ ∷ [] } ∷ []
+abbrev please : List NumberedEntry
+please = entry 8 (plain o ∷ o ˡ ∷ []) ∷ []
 
-abbrev site : List Entry
-site = record { number = 6; type = plain w ∷ [] } ∷ []
+abbrev log : List NumberedEntry
+log = entry 9 (plain k ∷ o ˡ ∷ []) ∷ []
 
-abbrev go : List Entry
-go = record { number = 7; type = plain o ∷ [] } ∷ []
+-- Those of document 000, example 4.3: π₁ ≤ π, i ≤ j, s₁ ≤ s.
+abbrev π : Basic
+π = 0
 
-abbrev please : List Entry
-please = record { number = 8; type = plain o ∷ o ˡ ∷ [] } ∷ []
+abbrev π₁ : Basic
+π₁ = 1
 
-abbrev log : List Entry
-log = record { number = 9; type = plain k ∷ o ˡ ∷ [] } ∷ []
+abbrev s : Basic
+s = 2
 
--- A line, the target of its book, and its answer.
+abbrev s₁ : Basic
+s₁ = 3
+
+abbrev j : Basic
+j = 4
+
+abbrev i : Basic
+i = 5
+
+abbrev q₁ : Basic
+q₁ = 6
+
+abbrev object : Basic
+object = 7
+
+abbrev I : List NumberedEntry
+I = entry 0 (plain π₁ ∷ []) ∷ []
+
+abbrev will : List NumberedEntry
+will = entry 1 (π ʳ ∷ plain s₁ ∷ j ˡ ∷ []) ∷ entry 2 (plain q₁ ∷ j ˡ ∷ π ˡ ∷ []) ∷ []
+
+abbrev meet : List NumberedEntry
+meet = entry 3 (plain i ∷ object ˡ ∷ []) ∷ []
+
+abbrev him : List NumberedEntry
+him = entry 4 (plain object ∷ []) ∷ []
+
+-- A line, the pairs and the target of its book, and its answer.
 record Row : Type 0 where
   line : Words
+  pairs : List (Basic × Basic)
   target : Basic
   answer : Option Answer
 
+-- A row of the first book to try.
+abbrev first-book : Words → Option Answer → Row
+first-book words a = record { line = words; pairs = (u, w) ∷ []; target = o; answer = a }
+
 abbrev rows : List Row
 rows =
-    record { line = fetch ∷ bed4 ∷ ward7 ∷ []; target = o; answer = some (1 ∷ 2 ∷ 3 ∷ [], 1 ∷ 5 ∷ 4 ∷ 3 ∷ 2 ∷ []) }
-    ∷ record { line = fetch ∷ bed4 ∷ []; target = o; answer = some (0 ∷ 2 ∷ [], 1 ∷ 3 ∷ 2 ∷ []) }
-    ∷ record { line = go ∷ []; target = o; answer = some (7 ∷ [], 1 ∷ []) }
-    ∷ record { line = go ∷ urgently ∷ []; target = o; answer = some (7 ∷ 4 ∷ [], 2 ∷ 1 ∷ 3 ∷ []) }
-    ∷ record { line = go ∷ urgently ∷ urgently ∷ []; target = o; answer = some (7 ∷ 4 ∷ 4 ∷ [], 2 ∷ 1 ∷ 4 ∷ 3 ∷ 5 ∷ []) }
-    ∷ record { line = please ∷ go ∷ urgently ∷ []; target = o; answer = some (8 ∷ 7 ∷ 4 ∷ [], 1 ∷ 5 ∷ 4 ∷ 3 ∷ 2 ∷ []) }
-    ∷ record { line = admit ∷ ward7 ∷ []; target = o; answer = some (5 ∷ 3 ∷ [], 1 ∷ 3 ∷ 2 ∷ []) }
-    ∷ record { line = admit ∷ site ∷ []; target = o; answer = none }
-    ∷ record { line = go ∷ go ∷ []; target = o; answer = none }
-    ∷ record { line = fetch ∷ site ∷ []; target = o; answer = none }
-    ∷ record { line = []; target = o; answer = none }
-    ∷ record { line = log ∷ go ∷ urgently ∷ []; target = k; answer = some (9 ∷ 7 ∷ 4 ∷ [], 1 ∷ 5 ∷ 4 ∷ 3 ∷ 2 ∷ []) }
+    first-book (fetch ∷ bed4 ∷ ward7 ∷ []) (some (1 ∷ 2 ∷ 3 ∷ [], 1 ∷ 5 ∷ 4 ∷ 3 ∷ 2 ∷ []))
+    ∷ first-book (fetch ∷ bed4 ∷ []) (some (0 ∷ 2 ∷ [], 1 ∷ 3 ∷ 2 ∷ []))
+    ∷ first-book (go ∷ []) (some (7 ∷ [], 1 ∷ []))
+    ∷ first-book (go ∷ urgently ∷ []) (some (7 ∷ 4 ∷ [], 2 ∷ 1 ∷ 3 ∷ []))
+    ∷ first-book (go ∷ urgently ∷ urgently ∷ []) (some (7 ∷ 4 ∷ 4 ∷ [], 2 ∷ 1 ∷ 4 ∷ 3 ∷ 5 ∷ []))
+    ∷ first-book (please ∷ go ∷ urgently ∷ []) (some (8 ∷ 7 ∷ 4 ∷ [], 1 ∷ 5 ∷ 4 ∷ 3 ∷ 2 ∷ []))
+    ∷ first-book (admit ∷ ward7 ∷ []) (some (5 ∷ 3 ∷ [], 1 ∷ 3 ∷ 2 ∷ []))
+    ∷ first-book (admit ∷ site ∷ []) none
+    ∷ first-book (go ∷ go ∷ []) none
+    ∷ first-book (fetch ∷ site ∷ []) none
+    ∷ first-book [] none
+    -- the second book
+    ∷ record {
+      line = log ∷ go ∷ urgently ∷ [];
+      pairs = (u, w) ∷ [];
+      target = k;
+      answer = some (9 ∷ 7 ∷ 4 ∷ [], 1 ∷ 5 ∷ 4 ∷ 3 ∷ 2 ∷ []);
+    }
+    -- document 000, example 4.3
+    ∷ record {
+      line = I ∷ will ∷ meet ∷ him ∷ [];
+      pairs = (π₁, π) ∷ (i, j) ∷ (s₁, s) ∷ [];
+      target = s;
+      answer = some (0 ∷ 1 ∷ 3 ∷ 4 ∷ [], 2 ∷ 1 ∷ 3 ∷ 5 ∷ 4 ∷ 7 ∷ 6 ∷ []);
+    }
     ∷ []
 
--- antt computes the first reading on every row, and the answers are those of the table.
-evaluated : map (λ (r : Row). firstReading order (r .target) (r .line)) rows ≡ map (λ (r : Row). r .answer) rows
+-- antt computes the first reading of every row, and the answers are those of the table.
+evaluated : map (λ (r : Row). firstReading (order (r .pairs)) (r .target) (r .line)) rows ≡ map (λ (r : Row). r .answer) rows
 unfolding firstReading firstBehind firstEntry firstLinking partnersFrom partnersWithin nearestFrom nearestWithin reducesFrom mayStay mayLink isSome firstFrom vanishes closes contracts sameExponent even order
 evaluated = refl

@@ -1,59 +1,30 @@
 -- `firstLinking` is right, over a test that decides the order.
--- `first-linking`: what it gives is a linking that is at most every linking; where it gives none there is none.
--- `first-linking-unique`: any linking that is at most every linking is what it gives.
+-- `first-linking-some`, `first-linking-none`: what it gives is a linking that is at most every linking, and it gives none exactly when
+-- there is none.
+-- `first-linking-unique`, `first-linking-greedy`: any linking that is at most every linking, and any greedy one, is what it gives.
 use Prim.Native.Nat.{ℕ, zero, suc, _+_, _-_, _≤_, _<_}
 use mathlib.Core.Path.{_≡_, refl, sym, _∙_, ap}
-use mathlib.Core.Logic.{_↔_, _⊎_, inl, inr, ⊎-elim}
+use mathlib.Core.Logic.{_↔_}
 use mathlib.Core.Bool.{Bool, true, false, _&&_, false≢true}
-use mathlib.Core.Option.{Option, none, some}
+use mathlib.Core.Option.{Option, none, some, Option·some-ne-none}
 use mathlib.Core.List.{List, [], _∷_, _++_}
 use native.Mathlib.Omega.{arith}
 use lib.Dec.{leb}
-use lib.IntN.{ℤ, pos}
-use lib.ListN.{length, getD, length-append}
+use lib.IntN.{pos}
+use lib.ListN.{length, length-append}
 use borrow.Author.Tests.{leb-true, le-leb}
-use Rattle.pregroup.specs.Types.{Basic, Simple, PregroupType}
+use Rattle.pregroup.specs.Types.{Basic, PregroupType}
 use Rattle.pregroup.specs.Order.{Relation}
-use Rattle.pregroup.specs.Vanish.{Contracts, Vanish, empty}
+use Rattle.pregroup.specs.Vanish.{Vanish}
 use Rattle.pregroup.specs.Tests.{Test, Decides, sameExponent, contracts, vanishes}
 use Rattle.pregroup.proofs.Decision.{same-exponent-iff, and-iff, contracts-iff, vanishes-iff}
-use Rattle.linking.specs.Linking.{simpleAt, partner, stretch, IsLinking, AtMost, firstFrom, isSome, mayLink, mayStay, reducesFrom, nearestWithin, nearestFrom, partnersWithin, partnersFrom, firstLinking}
-use Rattle.linking.proofs.Stretches.{stretch-empty, Reads, reads-head, reads-tail, reads-front, reads-back, reads-self}
-use Rattle.linking.proofs.Linked.{Link, Linked, nothing, linked, vanish-of-linked, linked-stretch}
-use Rattle.linking.proofs.Positions.{Placed, under, same, over, placed, linking-iff-parted}
-use Rattle.linking.proofs.Comparison.{at-most-of-compared, at-most-both}
-use Rattle.linking.proofs.Greedy.{Candidate, Stay, VanishBehind, ReducesFrom, Nearest, Greedy, done, nearest, GreedyFrom, stays, links, parted-of-greedy, candidate-of-link, reduces-of-parted, greedy-from-first}
-
--- What a search from k up to j finds: the first number with a property, or that none has it.
-data Search (Good : ℕ → Type 0) (k j : ℕ) : Option ℕ → Type 0 where
-  hit : (m : ℕ) → k ≤ m → m < j → Good m → ((l : ℕ) → k ≤ l → l < m → Good l → ⊥) → Search Good k j (some m)
-  miss : ((l : ℕ) → k ≤ l → l < j → Good l → ⊥) → Search Good k j none
-
-module _ {test : ℕ → Bool} {Good : ℕ → Type 0} (decides : (m : ℕ) → (test m ≡ true) ↔ Good m) where
-  bad : (m : ℕ) → test m ≡ false → Good m → ⊥
-  bad m e g = false≢true (sym e ∙ decides m .1 g)
-
-  more-bad : {k m : ℕ} → test k ≡ false → ((l : ℕ) → suc k ≤ l → l < m → Good l → ⊥) → (l : ℕ) → k ≤ l → l < m → Good l → ⊥
-  more-bad {k} {m} e f l c d = at (placed l k)
-    where
-      at : Placed l k → Good l → ⊥
-      at (under h) g = absurd (omega arith)
-      at (same h) g = bad k e (rw h at g)
-      at (over h) g = f l h d g
-
-  search-more : {k j : ℕ} {r : Option ℕ} → test k ≡ false → Search Good (suc k) j r → Search Good k j r
-  search-more {k} e (hit m a b g f) = hit m (omega arith) b g (more-bad e f)
-  search-more {k} e (miss f) = miss (more-bad e f)
-
-  search-step : {k j : ℕ} {r : Option ℕ} (b : Bool) → test k ≡ b → k < j → Search Good (suc k) j r
-      → Search Good k j (elim b [ true ↦ some k | false ↦ r ])
-  search-step {k} true e h t = hit k (omega arith) h (decides k .0 e) (λ l c d. absurd (omega arith))
-  search-step false e h t = search-more e t
-
-  search-right : (d k j : ℕ) → j - k ≡ d → Search Good k j (firstFrom test d k)
-  unfolding firstFrom
-  search-right zero k j e = miss (λ l c d. absurd (omega arith))
-  search-right (suc d) k j e = search-step (test k) refl (omega arith) (search-right d (suc k) j (omega arith))
+use Rattle.linking.specs.Linking.{simpleAt, stretch, IsLinking, AtMost, mayLink, mayStay, reducesFrom, nearestWithin, nearestFrom, partnersWithin, partnersFrom, firstLinking}
+use Rattle.linking.proofs.Stretches.{Reads, reads-head, reads-tail, reads-front, reads-back, reads-self}
+use Rattle.linking.proofs.Linked.{Linked, nothing, linked, vanish-of-linked, linked-stretch}
+use Rattle.linking.proofs.Positions.{linking-iff-parted}
+use Rattle.linking.proofs.Numbers.{Search, hit, miss, search-right, found-iff}
+use Rattle.linking.proofs.Comparison.{at-most-both}
+use Rattle.linking.proofs.Greedy.{Candidate, Stay, VanishBehind, ReducesFrom, Nearest, Greedy, done, nearest, GreedyFrom, stays, links, candidate-of-link, reduces-of-parted, linking-of-greedy, greedy-at-most}
 
 and-iff₃ : (a b c : Bool) → (a && b && c ≡ true) ↔ ((a ≡ true) × (b ≡ true) × (c ≡ true))
 and-iff₃ a b c =
@@ -186,12 +157,6 @@ module _ {le : Test} {Le : Relation} (decides : Decides le Le) (X : PregroupType
         within-right d (suc k) j (omega arith) (omega arith) c e (t .rest),
       ))
 
--- Whether a search has found something.
-found-iff : {Good : ℕ → Type 0} {k j : ℕ} {o : Option ℕ} → Search Good k j o → (isSome o ≡ true) ↔ ((m : ℕ) × (k ≤ m) × (m < j) × Good m)
-unfolding isSome
-found-iff (hit m a b g f) = (λ h. (m, a, b, g), λ t. refl)
-found-iff (miss f) = (λ h. absurd (false≢true h), λ t. absurd (f (t .0) (t .1) (t .2) (t .3)))
-
 module _ {le : Test} {Le : Relation} (decides : Decides le Le) (s : Basic) (X : PregroupType) where
   may-stay-iff : (i u : ℕ) → (mayStay le s X i u ≡ true) ↔ Stay Le s X i u
   unfolding mayStay
@@ -264,25 +229,41 @@ first-of-filled : {Le : Relation} {s : Basic} {X : PregroupType} {o : Option (Li
 first-of-filled {X = X} (filled {L = P} e g) =
     let greedy = g P (reads-self P) in
     let n : length P ≡ length X = omega arith in
-    least (linking-iff-parted .1 (n, parted-of-greedy greedy))
-    (λ Q q.
-    let t = linking-iff-parted .0 q in
-    at-most-of-compared P Q (length X) n (t .0) (greedy-from-first greedy (t .1) (omega arith)))
+    least (linking-of-greedy n greedy) (greedy-at-most n greedy)
 first-of-filled (unfilled n) = no-linking (λ P t. n (reduces-of-parted (linking-iff-parted .0 t .1) (omega arith)))
 
--- The first of all linkings: at most one list is.
-unique : {Le : Relation} {s : Basic} {X : PregroupType} {o : Option (List ℕ)} {P : List ℕ} → FirstLinking Le s X o → IsLinking Le s X P
-    → ((Q : List ℕ) → IsLinking Le s X Q → AtMost P Q) → o ≡ some P
-unique {P = P} (least {P = R} r f) t g = ap some (at-most-both (f P t) (g R r))
-unique {P = P} (no-linking n) t g = absurd (n P t)
+none-iff : {Le : Relation} {s : Basic} {X : PregroupType} {o : Option (List ℕ)} → FirstLinking Le s X o → (o ≡ none) ↔ ((P : List ℕ) → IsLinking Le s X P → ⊥)
+none-iff (least {P = P} t f) = (λ e. absurd (Option·some-ne-none P e), λ n. absurd (n P t))
+none-iff (no-linking n) = (λ e. n, λ m. refl)
+
+module _ {Le : Relation} {s : Basic} {X : PregroupType} {P : List ℕ} where
+  some-least : FirstLinking Le s X (some P) → IsLinking Le s X P × ((Q : List ℕ) → IsLinking Le s X Q → AtMost P Q)
+  some-least (least t f) = (t, f)
+
+  -- At most one linking is at most every linking.
+  unique :
+      {o : Option (List ℕ)} → FirstLinking Le s X o → IsLinking Le s X P → ((Q : List ℕ) → IsLinking Le s X Q → AtMost P Q) → o ≡ some P
+  unique (least {P = R} r f) t g = ap some (at-most-both (f P t) (g R r))
+  unique (no-linking n) t g = absurd (n P t)
 
 module _ {le : Test} {Le : Relation} (decides : Decides le Le) (s : Basic) (X : PregroupType) where
-  -- `firstLinking` gives the first linking, or there is none.
   pub first-linking : FirstLinking Le s X (firstLinking le s X)
   unfolding firstLinking
   first-linking = first-of-filled (from-right decides s X (length X) 1 (omega arith) (omega arith))
 
-  -- Any linking that is at most every linking is what `firstLinking` gives.
+  -- What `firstLinking` gives is a linking, and at most every linking.
+  pub first-linking-some : {P : List ℕ} → firstLinking le s X ≡ some P → IsLinking Le s X P × ((Q : List ℕ) → IsLinking Le s X Q → AtMost P Q)
+  first-linking-some e = some-least (rw e at first-linking)
+
+  -- It gives none exactly when there is no linking.
+  pub first-linking-none : (firstLinking le s X ≡ none) ↔ ((P : List ℕ) → IsLinking Le s X P → ⊥)
+  first-linking-none = none-iff first-linking
+
+  -- Any linking that is at most every linking is what it gives.
   pub first-linking-unique :
       {P : List ℕ} → IsLinking Le s X P → ((Q : List ℕ) → IsLinking Le s X Q → AtMost P Q) → firstLinking le s X ≡ some P
   first-linking-unique t f = unique first-linking t f
+
+  -- A greedy partner list is what it gives.
+  pub first-linking-greedy : {P : List ℕ} → length P ≡ length X → GreedyFrom Le s X P 1 → firstLinking le s X ≡ some P
+  first-linking-greedy n g = first-linking-unique (linking-of-greedy n g) (greedy-at-most n g)

@@ -1,17 +1,16 @@
 -- `firstReading` is right, over a test that decides the order and for words whose entry numbers ascend.
--- `first-reading`: what it gives is the first reading; where it gives none there is none.
+-- `first-reading-some`, `first-reading-none`: what it gives is the first reading, and it gives none exactly when there is none.
 -- `first-reading-unique`: any first reading is what it gives.
-use Prim.Native.Nat.{ℕ, suc, _≤_, _<_}
-use mathlib.Core.Path.{_≡_, refl, sym, _∙_, ap, subst}
-use mathlib.Core.Logic.{_⊎_, inl, inr, ⊎-elim}
-use mathlib.Core.Option.{Option, none, some}
+use Prim.Native.Nat.{ℕ, _<_}
+use mathlib.Core.Path.{_≡_, refl, sym, ap}
+use mathlib.Core.Logic.{_↔_, inl, inr, ⊎-elim}
+use mathlib.Core.Option.{Option, none, some, Option·some-ne-none}
 use mathlib.Core.List.{List, [], _∷_, _++_, append-nil, append-assoc, List·Memᴰ, List·Memᴰ·head, List·Memᴰ·tail, List·Memᴰ·not-nil}
-use native.Mathlib.Omega.{arith}
 use Rattle.pregroup.specs.Types.{Basic, PregroupType}
 use Rattle.pregroup.specs.Order.{Relation}
 use Rattle.pregroup.specs.Tests.{Test, Decides}
-use Rattle.linking.specs.Linking.{IsLinking, Before, first, later, AtMost, firstLinking}
-use Rattle.linking.specs.Reading.{Entry, Words, Choice, empty, take, IsReading, Earlier, NotLater, IsFirst, Ascending, more, AllAscending, Answer, firstEntry, firstBehind, firstReading}
+use Rattle.linking.specs.Linking.{IsLinking, first, later, AtMost}
+use Rattle.linking.specs.Reading.{NumberedEntry, Words, Choice, empty, take, IsReading, NotLater, IsFirst, Ascending, more, AllAscending, Answer, firstEntry, firstBehind, firstReading}
 use Rattle.linking.proofs.Comparison.{before-both}
 use Rattle.linking.proofs.FirstLinking.{FirstLinking, least, no-linking, first-linking}
 
@@ -29,11 +28,11 @@ later-behind (inr (inl b)) = inr (inl (later b))
 later-behind {a} (inr (inr t)) = inr (inr (ap (λ (l : List ℕ). a ∷ l) (t .0), t .1))
 
 -- A choice whose first word has the entry e and others takes this one or another.
-data Chosen (e : Entry) (es : List Entry) (rest : Words) : List ℕ → PregroupType → Type 0 where
+data Chosen (e : NumberedEntry) (es : List NumberedEntry) (rest : Words) : List ℕ → PregroupType → Type 0 where
   this : {ns : List ℕ} {X : PregroupType} → Choice rest ns X → Chosen e es rest (e .number ∷ ns) (e .type ++ X)
-  other : {f : Entry} {ns : List ℕ} {X : PregroupType} → List·Memᴰ f es → Choice rest ns X → Chosen e es rest (f .number ∷ ns) (f .type ++ X)
+  other : {f : NumberedEntry} {ns : List ℕ} {X : PregroupType} → List·Memᴰ f es → Choice rest ns X → Chosen e es rest (f .number ∷ ns) (f .type ++ X)
 
-chosen : {e : Entry} {es : List Entry} {rest : Words} {ns : List ℕ} {X : PregroupType} → Choice ((e ∷ es) ∷ rest) ns X → Chosen e es rest ns X
+chosen : {e : NumberedEntry} {es : List NumberedEntry} {rest : Words} {ns : List ℕ} {X : PregroupType} → Choice ((e ∷ es) ∷ rest) ns X → Chosen e es rest ns X
 chosen (take (List·Memᴰ·head h) c) = rw h (this c)
 chosen (take (List·Memᴰ·tail m) c) = other m c
 
@@ -52,7 +51,7 @@ module _ {Le : Relation} {s : Basic} {A : PregroupType} where
 
   -- An entry whose type, behind A, has no reading with the rest: the other entries decide.
   behind-other :
-      {e : Entry} {es : List Entry} {rest : Words} {o : Option Answer}
+      {e : NumberedEntry} {es : List NumberedEntry} {rest : Words} {o : Option Answer}
       → ((ns P : List ℕ) (X : PregroupType) → Choice rest ns X → IsLinking Le s ((A ++ e .type) ++ X) P → ⊥) → Behind Le s (es ∷ rest) A o
       → Behind Le s ((e ∷ es) ∷ rest) A o
   behind-other {e} {es} {rest} n (read {ns} {P} (take m c) t f) = read (take (List·Memᴰ·tail m) c) t (λ ns′ P′ X′ d. at P′ (chosen d))
@@ -68,7 +67,7 @@ module _ {Le : Relation} {s : Basic} {A : PregroupType} where
 
   -- The first entry of a word whose type, behind A, has a reading with the rest comes first.
   behind-this :
-      {e : Entry} {es : List Entry} {rest : Words} {ns P : List ℕ} {X : PregroupType} → ((f : Entry) → List·Memᴰ f es → e .number < f .number)
+      {e : NumberedEntry} {es : List NumberedEntry} {rest : Words} {ns P : List ℕ} {X : PregroupType} → ((f : NumberedEntry) → List·Memᴰ f es → e .number < f .number)
       → Choice rest ns X → IsLinking Le s ((A ++ e .type) ++ X) P
       → ((ns′ P′ : List ℕ) (X′ : PregroupType) → Choice rest ns′ X′ → IsLinking Le s ((A ++ e .type) ++ X′) P′ → NotLater ns P ns′ P′)
       → Behind Le s ((e ∷ es) ∷ rest) A (some (e .number ∷ ns, P))
@@ -80,7 +79,7 @@ module _ {Le : Relation} {s : Basic} {A : PregroupType} where
       at P′ (other {f = g} m d) t′ = inr (inl (first (lower g m)))
 
   behind-step :
-      {e : Entry} {es : List Entry} {rest : Words} {o r : Option Answer} → ((f : Entry) → List·Memᴰ f es → e .number < f .number)
+      {e : NumberedEntry} {es : List NumberedEntry} {rest : Words} {o r : Option Answer} → ((f : NumberedEntry) → List·Memᴰ f es → e .number < f .number)
       → Behind Le s rest (A ++ e .type) o → Behind Le s (es ∷ rest) A r
       → Behind Le s ((e ∷ es) ∷ rest) A (elim o [ none ↦ r | some a ↦ some (e .number ∷ a .0, a .1) ])
   behind-step lower (read c t f) others = behind-this lower c t f
@@ -93,7 +92,7 @@ module _ {Le : Relation} {s : Basic} {A : PregroupType} where
       at (take m c) t = List·Memᴰ·not-nil m
 
   first-entry :
-      {rest : Words} {f : PregroupType → Option Answer} {es : List Entry} → ((Y : PregroupType) → Behind Le s rest Y (f Y)) → Ascending es
+      {rest : Words} {f : PregroupType → Option Answer} {es : List NumberedEntry} → ((Y : PregroupType) → Behind Le s rest Y (f Y)) → Ascending es
       → Behind Le s (es ∷ rest) A (firstEntry f A es)
   unfolding firstEntry
   first-entry b empty = behind-no-entry
@@ -127,20 +126,36 @@ not-later-both (inr (inl b)) (inr (inr t)) = absurd (before-both b b (t .0) (sym
 not-later-both (inr (inr t)) (inr (inl c)) = absurd (before-both c c (t .0) (sym (t .0)))
 not-later-both (inr (inr t)) (inr (inr r)) = absurd (before-both (t .1) (r .1) refl refl)
 
-unique : {Le : Relation} {s : Basic} {words : Words} {o : Option Answer} {ns P : List ℕ} → FirstReading Le s words o → IsFirst Le s words ns P → o ≡ some (ns, P)
-unique {ns = ns} {P = P} (is-first {ns = ns′} {P = P′} f) t =
-    let e : (ns′ ≡ ns) × (P′ ≡ P) = not-later-both (f .least ns P (t .reading)) (t .least ns′ P′ (f .reading)) in
-    let e₀ = e .0 in
-    let e₁ = e .1 in
-    cc
-unique {ns = ns} {P = P} (no-reading n) t = absurd (n ns P (t .reading))
+none-iff : {Le : Relation} {s : Basic} {words : Words} {o : Option Answer} → FirstReading Le s words o → (o ≡ none) ↔ ((ns P : List ℕ) → IsReading Le s words ns P → ⊥)
+none-iff (is-first {ns} {P} f) = (λ e. absurd (Option·some-ne-none (ns, P) e), λ n. absurd (n ns P (f .reading)))
+none-iff (no-reading n) = (λ e. n, λ m. refl)
+
+module _ {Le : Relation} {s : Basic} {words : Words} {ns P : List ℕ} where
+  some-first : FirstReading Le s words (some (ns, P)) → IsFirst Le s words ns P
+  some-first (is-first f) = f
+
+  -- At most one reading is the first.
+  unique : {o : Option Answer} → FirstReading Le s words o → IsFirst Le s words ns P → o ≡ some (ns, P)
+  unique (is-first {ns = ns′} {P = P′} f) t =
+      let e : (ns′ ≡ ns) × (P′ ≡ P) = not-later-both (f .least ns P (t .reading)) (t .least ns′ P′ (f .reading)) in
+      let e₀ = e .0 in
+      let e₁ = e .1 in
+      cc
+  unique (no-reading n) t = absurd (n ns P (t .reading))
 
 module _ {le : Test} {Le : Relation} (decides : Decides le Le) (s : Basic) {words : Words} (ascending : AllAscending words) where
-  -- `firstReading` gives the first reading, or there is none.
   pub first-reading : FirstReading Le s words (firstReading le s words)
   unfolding firstReading
   first-reading = first-of-behind (first-behind decides s ascending [])
 
-  -- Any first reading is what `firstReading` gives.
+  -- What `firstReading` gives is the first reading.
+  pub first-reading-some : {ns P : List ℕ} → firstReading le s words ≡ some (ns, P) → IsFirst Le s words ns P
+  first-reading-some e = some-first (rw e at first-reading)
+
+  -- It gives none exactly when there is no reading.
+  pub first-reading-none : (firstReading le s words ≡ none) ↔ ((ns P : List ℕ) → IsReading Le s words ns P → ⊥)
+  first-reading-none = none-iff first-reading
+
+  -- Any first reading is what it gives.
   pub first-reading-unique : {ns P : List ℕ} → IsFirst Le s words ns P → firstReading le s words ≡ some (ns, P)
   first-reading-unique t = unique first-reading t

@@ -1,19 +1,20 @@
 -- The greedy argument, on the index form: where each position has the least partner that leaves the rest linkable, the partner list comes
--- first. `greedy-first` for a stretch that vanishes, `greedy-from-first` for a string that reduces to the target.
-use Prim.Native.Nat.{ℕ, zero, suc, _+_, _-_, _≤_, _<_}
-use mathlib.Core.Path.{_≡_, refl, sym, _∙_, ap}
-use mathlib.Core.List.{List, [], _∷_}
+-- first. `greedy-first` for a stretch that vanishes, `greedy-from-first` for a string that reduces to the target, `greedy-at-most` for a
+-- whole partner list.
+use Prim.Native.Nat.{ℕ, suc, _≤_, _<_}
+use mathlib.Core.Path.{_≡_, refl, sym, _∙_}
+use mathlib.Core.List.{List}
 use native.Mathlib.Omega.{arith}
-use lib.IntN.{ℤ, pos}
-use lib.ListN.{length, getD}
-use Rattle.pregroup.specs.Types.{Basic, Simple, PregroupType}
+use lib.IntN.{pos}
+use lib.ListN.{length}
+use Rattle.pregroup.specs.Types.{Basic, PregroupType}
 use Rattle.pregroup.specs.Order.{Relation}
-use Rattle.pregroup.specs.Vanish.{Contracts, Vanish, empty}
-use Rattle.linking.specs.Linking.{simpleAt, partner, stretch}
-use Rattle.linking.proofs.Stretches.{stretch-empty}
-use Rattle.linking.proofs.Linked.{Link, Linked, nothing, linked, Parted, vanish-of-linked, linked-stretch}
-use Rattle.linking.proofs.Positions.{Placed, under, same, over, placed}
-use Rattle.linking.proofs.Comparison.{Compared, compared-append, compared-one, compared-less, compared-link, compared-none}
+use Rattle.pregroup.specs.Vanish.{Contracts, Vanish}
+use Rattle.linking.specs.Linking.{simpleAt, partner, stretch, IsLinking, AtMost}
+use Rattle.linking.proofs.Linked.{Link, Linked, nothing, linked, Parted, vanish-of-linked}
+use Rattle.linking.proofs.Numbers.{Placed, under, same, over, placed}
+use Rattle.linking.proofs.Positions.{linking-iff-parted}
+use Rattle.linking.proofs.Comparison.{Compared, compared-append, compared-one, compared-less, compared-link, compared-none, at-most-of-compared}
 
 -- Position i could be linked to k, if the rest may be left so.
 pub record Candidate (Le : Relation) (X : PregroupType) (i k : ℕ) (Rest : Type 0) : Type 0 where
@@ -171,3 +172,13 @@ module _ {Le : Relation} {s : Basic} {X : PregroupType} {Q : List ℕ} where
   greedy-from-first (links k l n m u w) q p =
       let b = parted-of-greedy w .unlinked-at in
       links-first l (omega arith) n m u (λ r. greedy-from-first w r (omega arith)) q (q .before) p
+
+-- A partner list as long as the string that links it greedily is its first linking.
+module _ {Le : Relation} {s : Basic} {X : PregroupType} {P : List ℕ} (count : length P ≡ length X) (greedy : GreedyFrom Le s X P 1) where
+  pub linking-of-greedy : IsLinking Le s X P
+  linking-of-greedy = linking-iff-parted .1 (count, parted-of-greedy greedy)
+
+  pub greedy-at-most : (Q : List ℕ) → IsLinking Le s X Q → AtMost P Q
+  greedy-at-most Q q =
+      let t = linking-iff-parted .0 q in
+      at-most-of-compared P Q (length X) count (t .0) (greedy-from-first greedy (t .1) (omega arith))

@@ -1,4 +1,5 @@
 -- Theorems on linkings and readings.
+pub mod Numbers
 pub mod Stretches
 pub mod Linked
 pub mod Positions
@@ -7,4 +8,5 @@ pub mod Comparison
 pub mod Greedy
 pub mod FirstLinking
 pub mod FirstReading
+pub mod Derivation
 pub mod Examples

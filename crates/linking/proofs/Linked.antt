@@ -1,16 +1,16 @@
 -- The index form of a linking: the stretch from i up to j links up within itself by the partner list P. It vanishes, and every stretch that
 -- vanishes is linked up by some partner list.
-use Prim.Native.Nat.{ℕ, zero, suc, _+_, _-_, _≤_, _<_}
-use mathlib.Core.Path.{_≡_, refl, sym, _∙_, ap, subst}
+use Prim.Native.Nat.{ℕ, suc, _+_, _-_, _≤_, _<_}
+use mathlib.Core.Path.{_≡_, refl}
 use mathlib.Core.List.{List, [], _∷_, _++_}
 use native.Mathlib.Omega.{arith}
-use lib.IntN.{ℤ, pos}
-use lib.ListN.{length, getD, replicate, length-append, length-replicate}
-use Rattle.pregroup.specs.Types.{Basic, Simple, PregroupType, plain}
+use lib.IntN.{pos}
+use lib.ListN.{length, replicate, length-append, length-replicate}
+use Rattle.pregroup.specs.Types.{Basic, PregroupType, plain}
 use Rattle.pregroup.specs.Order.{Relation}
 use Rattle.pregroup.specs.Vanish.{Contracts, Vanish, empty, link}
 use Rattle.linking.specs.Linking.{simpleAt, partner, stretch}
-use Rattle.linking.proofs.Stretches.{stretch-empty, stretch-cons, stretch-append, length-stretch, Reads, nil, cell, reads-head, reads-tail, reads-front, reads-back, reads-behind, reads-stretch}
+use Rattle.linking.proofs.Stretches.{stretch-empty, stretch-cons, stretch-append, length-stretch, Reads, reads-head, reads-tail, reads-front, reads-back, reads-behind, reads-stretch}
 
 -- Positions i and k are the ends of a link.
 pub record Link (Le : Relation) (X : PregroupType) (P : List ℕ) (i k : ℕ) : Type 0 where

@@ -1,35 +1,18 @@
 -- A linking, as the paper says it position by position, is the same as its index form: one unlinked position, and linked stretches before
 -- and behind it.
-use Prim.Native.Nat.{ℕ, zero, suc, _+_, _-_, _≤_, _<_}
-use mathlib.Core.Path.{_≡_, refl, sym, _∙_, ap, subst}
-use mathlib.Core.Logic.{_↔_, _⊎_, inl, inr, ⊎-elim}
-use mathlib.Core.List.{List, [], _∷_, _++_}
+use Prim.Native.Nat.{ℕ, zero, suc, _+_, _≤_, _<_}
+use mathlib.Core.Path.{_≡_, refl, sym, _∙_, ap}
+use mathlib.Core.Logic.{_↔_}
+use mathlib.Core.List.{List}
 use native.Mathlib.Omega.{arith}
-use native.Mathlib.Decide.{decLt, ℕ-discrete}
-use lib.IntN.{ℤ, pos}
-use lib.ListN.{length, getD}
-use Rattle.pregroup.specs.Types.{Basic, Simple, PregroupType}
+use native.Mathlib.Decide.{decLt}
+use lib.ListN.{length}
+use Rattle.pregroup.specs.Types.{Basic, PregroupType}
 use Rattle.pregroup.specs.Order.{Relation}
 use Rattle.pregroup.specs.Vanish.{Contracts}
 use Rattle.linking.specs.Linking.{Position, simpleAt, partner, IsLinking}
+use Rattle.linking.proofs.Numbers.{Placed, under, same, over, placed}
 use Rattle.linking.proofs.Linked.{Link, Linked, nothing, linked, Parted}
-
--- Where m stands to k.
-pub data Placed (m k : ℕ) : Type 0 where
-  under : m < k → Placed m k
-  same : m ≡ k → Placed m k
-  over : k < m → Placed m k
-
-pub placed : (m k : ℕ) → Placed m k
-placed m k = below (decLt m k)
-  where
-    rest : ¬ (m < k) → Dec (m ≡ k) → Placed m k
-    rest h (yes e) = same e
-    rest h (no n) = over (omega arith)
-
-    below : Dec (m < k) → Placed m k
-    below (yes h) = under h
-    below (no h) = rest h (ℕ-discrete m k)
 
 -- What holds at a position m of a linked stretch: its partner is another one of the stretch, with m as its partner; the two could contract;
 -- and everything between them is linked inside.

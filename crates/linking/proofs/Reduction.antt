@@ -1,20 +1,16 @@
--- Linkings and the calculus.
--- `linking-iff-reduces`: a type has a linking exactly when it reduces to the target: all but a plain q ≤ s vanishes.
--- `reading-iff-chain`: a line has a reading exactly when a chain leads from the type of some choice to the target.
-use Prim.Native.Nat.{ℕ, zero, suc, _+_, _≤_, _<_}
-use mathlib.Core.Path.{_≡_, refl, sym, _∙_, ap, subst}
+-- `linking-iff-reduces`: a type has a linking exactly when it reduces to the target, that is, when it is L q R, where q is plain, q ≤ s, and
+-- L and R vanish.
+use Prim.Native.Nat.{ℕ, suc, _+_}
+use mathlib.Core.Path.{_≡_, sym, _∙_, ap, subst}
 use mathlib.Core.Logic.{_↔_}
-use mathlib.Core.List.{List, [], _∷_, _++_}
+use mathlib.Core.List.{List, _∷_, _++_}
 use native.Mathlib.Omega.{arith}
 use lib.IntN.{ℤ, pos}
-use lib.ListN.{length, getD, length-append}
+use lib.ListN.{length, length-append}
 use Rattle.pregroup.specs.Types.{Basic, Simple, PregroupType, _⁽_⁾, plain}
-use Rattle.pregroup.specs.Order.{Relation, IsOrder}
-use Rattle.pregroup.specs.Steps.{Chain}
+use Rattle.pregroup.specs.Order.{Relation}
 use Rattle.pregroup.specs.Vanish.{Vanish, Reduces, leaves}
-use Rattle.pregroup.proofs.Switching.{switching}
-use Rattle.linking.specs.Linking.{Position, simpleAt, partner, stretch, IsLinking}
-use Rattle.linking.specs.Reading.{Words, Choice, IsReading}
+use Rattle.linking.specs.Linking.{simpleAt, stretch, IsLinking}
 use Rattle.linking.proofs.Stretches.{stretch-cons, stretch-append, stretch-all, Reads, reads-head, reads-tail, reads-front, reads-back, reads-self}
 use Rattle.linking.proofs.Linked.{Parted, vanish-of-linked, partnersOf, partners-length, linked-of-vanish}
 use Rattle.linking.proofs.Positions.{linking-iff-parted}
@@ -68,15 +64,3 @@ parted-of-reduces {Le} {s} (leaves {L} {R} q l b r) =
 pub linking-iff-reduces : {Le : Relation} {s : Basic} {X : PregroupType} → Reduces Le s X ↔ ((P : List ℕ) × IsLinking Le s X P)
 linking-iff-reduces =
     (λ r. let t = parted-of-reduces r in (t .0, linking-iff-parted .1 (t .1, t .2)), λ t. reduces-of-parted (linking-iff-parted .0 (t .1) .1))
-
--- A line has a reading exactly when some choice has a chain to the target.
-pub reading-iff-chain :
-    {Declared : Basic → Type 0} {Le : Relation} → IsOrder Declared Le → (s : Basic) → Declared s → (words : Words)
-    → ((ns : List ℕ) × (P : List ℕ) × IsReading Le s words ns P)
-    ↔ ((ns : List ℕ) × (X : PregroupType) × Choice words ns X × Chain Le X (plain s ∷ []))
-reading-iff-chain order s d words = (
-  λ t. let r = t .2 in (t .0, r .type, r .chosen, switching order (r .type) s d .1 (linking-iff-reduces .1 (t .1, r .linking))),
-  λ t.
-      let l = linking-iff-reduces .0 (switching order (t .1) s d .0 (t .3)) in
-      (t .0, l .0, record { type = t .1; chosen = t .2; linking = l .1 }),
-)

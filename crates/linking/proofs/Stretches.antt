@@ -2,11 +2,11 @@
 -- position on, which places a list in a longer one without a word about where it is cut.
 use Prim.Native.Nat.{ℕ, zero, suc, _+_, _-_, _≤_, _<_}
 use mathlib.Core.Path.{_≡_, refl, sym, _∙_, ap}
-use mathlib.Core.List.{List, [], _∷_, _++_, append-nil, append-assoc}
+use mathlib.Core.List.{List, [], _∷_, _++_, append-assoc}
 use native.Mathlib.Omega.{arith}
 use lib.ListN.{length, getD, take, drop, length-append, take-append-drop}
 use lib.Seq.{slice, slice-empty, slice-cons, length-slice, take-take, drop-append-le, length-take-le, take-length, getD-at}
-use Rattle.pregroup.specs.Types.{Simple, PregroupType, plain}
+use Rattle.pregroup.specs.Types.{PregroupType, plain}
 use Rattle.linking.specs.Linking.{simpleAt, stretch}
 
 slice-append : (X : PregroupType) (f k t : ℕ) → f ≤ k → k ≤ t → t ≤ length X → slice f t X ≡ slice f k X ++ slice k t X

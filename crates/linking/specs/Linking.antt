@@ -9,7 +9,7 @@ use mathlib.Core.List.{List, [], _∷_, _++_}
 use lib.Dec.{leb}
 use lib.ListN.{length, getD}
 use lib.Seq.{slice}
-use lib.IntN.{ℤ, pos}
+use lib.IntN.{pos}
 use Rattle.pregroup.specs.Types.{Basic, Simple, PregroupType, plain}
 use Rattle.pregroup.specs.Order.{Relation}
 use Rattle.pregroup.specs.Vanish.{Contracts}

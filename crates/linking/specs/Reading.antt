@@ -10,18 +10,18 @@ use Rattle.pregroup.specs.Tests.{Test}
 use Rattle.linking.specs.Linking.{IsLinking, Before, firstLinking}
 
 -- An entry as a line sees it: its number in the book, and its type.
-pub record Entry : Type 0 where
+pub record NumberedEntry : Type 0 where
   pub number : ℕ
   pub type : PregroupType
 
 -- The words of a line, each by its entries in the book's order.
 abbrev pub Words : Type 0
-Words = List (List Entry)
+Words = List (List NumberedEntry)
 
 -- A choice takes for each word one entry of that word, and joins their types in the line's order: the entries' numbers and the joined type.
 pub data Choice : Words → List ℕ → PregroupType → Type 0 where
   empty : Choice [] [] []
-  take : {e : Entry} {es : List Entry} {rest : Words} {ns : List ℕ} {X : PregroupType}
+  take : {e : NumberedEntry} {es : List NumberedEntry} {rest : Words} {ns : List ℕ} {X : PregroupType}
       → List·Memᴰ e es → Choice rest ns X → Choice (es ∷ rest) (e .number ∷ ns) (e .type ++ X)
 
 -- A reading: the entry numbers of a choice, and a linking of its type.
@@ -44,20 +44,20 @@ pub record IsFirst (Le : Relation) (s : Basic) (words : Words) (ns P : List ℕ)
   pub least : (ns′ P′ : List ℕ) → IsReading Le s words ns′ P′ → NotLater ns P ns′ P′
 
 -- The numbers of a word's entries ascend, as they do in a book.
-pub data Ascending : List Entry → Type 0 where
+pub data Ascending : List NumberedEntry → Type 0 where
   empty : Ascending []
-  more : {e : Entry} {es : List Entry} → ((f : Entry) → List·Memᴰ f es → e .number < f .number) → Ascending es → Ascending (e ∷ es)
+  more : {e : NumberedEntry} {es : List NumberedEntry} → ((f : NumberedEntry) → List·Memᴰ f es → e .number < f .number) → Ascending es → Ascending (e ∷ es)
 
 pub data AllAscending : Words → Type 0 where
   empty : AllAscending []
-  more : {es : List Entry} {rest : Words} → Ascending es → AllAscending rest → AllAscending (es ∷ rest)
+  more : {es : List NumberedEntry} {rest : Words} → Ascending es → AllAscending rest → AllAscending (es ∷ rest)
 
--- Entry numbers and partner list.
+-- NumberedEntry numbers and partner list.
 abbrev pub Answer : Type 0
 Answer = List ℕ × List ℕ
 
 -- The first entry of a word by which the rest, with this entry's type behind X, has an answer.
-unfoldable pub firstEntry : (PregroupType → Option Answer) → PregroupType → List Entry → Option Answer
+unfoldable pub firstEntry : (PregroupType → Option Answer) → PregroupType → List NumberedEntry → Option Answer
 firstEntry rest X [] = none
 firstEntry rest X (e ∷ es) =
     elim (rest (X ++ e .type)) [ none ↦ firstEntry rest X es | some a ↦ some (e .number ∷ a .0, a .1) ]
