@@ -1,43 +1,26 @@
 -- Lines of document 01's two books to try, and the sentence of document 000, example 4.3. One table, each line with its order, its target
 -- and the first reading that antt computes.
+use Prim.Native.Nat.{ℕ}
 use mathlib.Core.Path.{_≡_, refl}
 use mathlib.Core.Bool.{_&&_, _||_}
 use mathlib.Core.Option.{Option, none, some}
 use mathlib.Core.List.{List, [], _∷_, map}
 use lib.Dec.{eqb}
-use Rattle.pregroup.specs.Types.{Basic, Simple, PregroupType, even, plain, simpleLeft, simpleRight}
+use Rattle.pregroup.specs.Types.{Basic, PregroupType, even, plain}
 use Rattle.pregroup.specs.Tests.{Test, sameExponent, contracts, closes, vanishes}
+use Rattle.pregroup.proofs.Examples.{o, p, w, u, _ˡ, _ʳ}
 use Rattle.linking.specs.Linking.{firstFrom, isSome, mayLink, mayStay, reducesFrom, nearestWithin, nearestFrom, partnersWithin, partnersFrom, firstLinking}
 use Rattle.linking.specs.Reading.{NumberedEntry, Words, Answer, firstEntry, firstBehind, firstReading}
-
-infix 90 _ˡ _ʳ
-abbrev _ˡ : Basic → Simple
-a ˡ = simpleLeft (plain a)
-
-abbrev _ʳ : Basic → Simple
-a ʳ = simpleRight (plain a)
 
 -- The order of pairs that need no closing but by a ≤ a.
 order : List (Basic × Basic) → Test
 order [] a b = eqb a b
 order (p ∷ pairs) a b = (eqb a (p .0) && eqb b (p .1)) || order pairs a b
 
-abbrev entry : Basic → PregroupType → NumberedEntry
+abbrev entry : ℕ → PregroupType → NumberedEntry
 entry n X = record { number = n; type = X }
 
--- The basic types of the books to try, and their words by their entries.
-abbrev o : Basic
-o = 0
-
-abbrev p : Basic
-p = 1
-
-abbrev w : Basic
-w = 2
-
-abbrev u : Basic
-u = 3
-
+-- The second book's own basic type, and the words of both books by their entries.
 abbrev k : Basic
 k = 4
 

@@ -82,6 +82,18 @@ module _ {Le : Relation} {X : PregroupType} {P : List ℕ} where
         behind = t .behind;
       }
 
+-- What P holds outside the stretch does not matter.
+pub greedy-agree :
+    {Le : Relation} {X : PregroupType} {P Q : List ℕ} {i j : ℕ} → Greedy Le X P i j
+    → ((m : ℕ) → i ≤ m → m < j → partner P m ≡ partner Q m) → Greedy Le X Q i j
+greedy-agree (done e) f = done e
+greedy-agree {i = i} (nearest k l h n u w) f =
+    let a = l .ahead in
+    let first = f i (omega arith) (omega arith) in
+    let last = f k (omega arith) h in
+    nearest k (record { ahead = a; forth = sym first ∙ l .forth; back = sym last ∙ l .back; contract = l .contract }) h n
+    (greedy-agree u (λ m b c. f m (omega arith) (omega arith))) (greedy-agree w (λ m b c. f m (omega arith) c))
+
 -- A link of a linked stretch is a candidate.
 pub candidate-of-link :
     {Le : Relation} {X : PregroupType} {Q : List ℕ} {i k j : ℕ} → Link Le X Q i k → k < j → Linked Le X Q (suc i) k → Linked Le X Q (suc k) j

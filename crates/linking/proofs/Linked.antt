@@ -74,11 +74,11 @@ linked-of-vanish {Le} {X} {P = P} (link {x} {y} {U} {W} c u w) {i} j e r q =
     let rest : suc k + length W ≡ j = omega arith in
     let as-long : suc i + length before ≡ k = omega arith in
     let rx = reads-tail r in
-    let qx = reads-tail q in
+    let qx = reads-tail {L = before ++ behind} q in
     let ry = reads-back U (y ∷ W) k between rx in
     let qy = reads-back before behind k as-long qx in
     let l : Link Le X P i k =
-    record { ahead = omega arith; forth = reads-head q; back = reads-head qy; contract = rw (reads-head r, reads-head ry) c } in
+    record { ahead = omega arith; forth = reads-head {L = before ++ behind} q; back = reads-head qy; contract = rw (reads-head r, reads-head ry) c } in
     linked k l within (linked-of-vanish u k between (reads-front U (y ∷ W) rx) (reads-front before behind qx))
     (linked-of-vanish w j rest (reads-tail ry) (reads-tail qy))
 

@@ -60,12 +60,14 @@ unfoldable pub firstFrom : (ℕ → Bool) → ℕ → ℕ → Option ℕ
 firstFrom test zero k = none
 firstFrom test (suc d) k = elim (test k) [ true ↦ some k | false ↦ firstFrom test d (suc k) ]
 
+-- Whether there is a value.
 unfoldable pub isSome : {A : Type 0} → Option A → Bool
 isSome none = false
 isSome (some a) = true
 
 module _ (le : Test) (X : PregroupType) where
-  -- Whether position i could be linked to k: the two could contract, what stands between them vanishes, and so it is with the rest.
+  -- Whether position i could be linked to k: the two could contract, what stands between them vanishes, and `rest` says yes of what stands
+  -- behind k.
   unfoldable pub mayLink : ℕ → ℕ → Bool → Bool
   mayLink i k rest =
       let between = vanishes le (stretch X (suc i) k) in
