@@ -45,6 +45,7 @@ module _ {Le : Relation} {X : PregroupType} where
   filled-none : {i j : ℕ} → i ≡ j → Filled Le X i j []
   filled-none e = record { size = omega arith; greedy = λ P r. done e }
 
+  -- The nearest candidate, what fills the stretch between, and what fills the stretch behind.
   filled-link :
       {i j k : ℕ} {A B : List ℕ} → i < k → k < j → Candidate Le X i k (VanishBehind Le X j k) → Nearest Le X (VanishBehind Le X j) i k
       → Filled Le X (suc i) k A → Filled Le X (suc k) j B → Filled Le X i j (k ∷ (A ++ (i ∷ B)))
@@ -57,6 +58,7 @@ module _ {Le : Relation} {X : PregroupType} where
             (f .greedy P (reads-front A (i ∷ B) (reads-tail r))) (g .greedy P (reads-tail q));
       }
 
+  -- By what the search finds.
   filled-step :
       {i j : ℕ} {r : Option ℕ} (f g : ℕ → List ℕ) → Within Le X i j r → 1 ≤ i → i ≤ j → j ≤ suc (length X) → Vanish Le (stretch X i j)
       → ((k : ℕ) → i < k → k < j → Candidate Le X i k (VanishBehind Le X j k) → Filled Le X (suc i) k (f k) × Filled Le X (suc k) j (g k))
@@ -109,6 +111,7 @@ module _ {Le : Relation} {s : Basic} {X : PregroupType} where
           } in
           m k a (omega arith) (record { contract = l .contract; between = vanish-of-linked v (omega arith) (omega arith); rest = (u, b, rest) })
 
+  -- The nearest candidate, what fills the stretch between, and what fills the rest of the string.
   filled-rest :
       {i k : ℕ} {A : List ℕ} {o : Option (List ℕ)} → i < k → (Stay Le s X i i → ⊥) → Nearest Le X (λ m. ReducesFrom Le s X (suc m)) i k
       → Candidate Le X i k (ReducesFrom Le s X (suc k)) → Filled Le X (suc i) k A → FilledFrom Le s X (suc k) o
@@ -207,6 +210,7 @@ module _ {le : Test} {Le : Relation} (decides : Decides le Le) (s : Basic) (X : 
   from-step {i} true e f g = let t = may-stay-iff i i .0 e in filled-stay t (f t)
   from-step {i} false e f g = g (λ t. false≢true (sym e ∙ may-stay-iff i i .1 t))
 
+  -- `partnersFrom` fills the string from i on, if it reduces.
   from-right : (d i : ℕ) → suc (length X) ≤ i + d → 1 ≤ i → FilledFrom Le s X i (partnersFrom le s X d i)
   unfolding partnersFrom
   from-right zero i b p = unfilled (λ r. omega (arith, r .1, r .2 .fits))

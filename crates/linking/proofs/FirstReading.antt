@@ -22,6 +22,7 @@ data Behind (Le : Relation) (s : Basic) (words : Words) (A : PregroupType) : Opt
       → Behind Le s words A (some (ns, P))
   unread : ((ns P : List ℕ) (X : PregroupType) → Choice words ns X → IsLinking Le s (A ++ X) P → ⊥) → Behind Le s words A none
 
+-- The same entry number before both keeps their order.
 later-behind : {a : ℕ} {ns P ns′ P′ : List ℕ} → NotLater ns P ns′ P′ → NotLater (a ∷ ns) P (a ∷ ns′) P′
 later-behind {a} (inl t) = inl (ap (λ (l : List ℕ). a ∷ l) (t .0), t .1)
 later-behind (inr (inl b)) = inr (inl (later b))
@@ -78,6 +79,7 @@ module _ {Le : Relation} {s : Basic} {A : PregroupType} where
       at P′ (this {ns = ns′} {X = X′} d) t′ = later-behind (f ns′ P′ X′ d (rw append-assoc t′))
       at P′ (other {f = g} m d) t′ = inr (inl (first (lower g m)))
 
+  -- One entry, then the others of the word.
   behind-step :
       {e : NumberedEntry} {es : List NumberedEntry} {rest : Words} {o r : Option Answer} → ((f : NumberedEntry) → List·Memᴰ f es → e .number < f .number)
       → Behind Le s rest (A ++ e .type) o → Behind Le s (es ∷ rest) A r
@@ -91,6 +93,7 @@ module _ {Le : Relation} {s : Basic} {A : PregroupType} where
       at : {rest : Words} {ns : List ℕ} {X : PregroupType} {P : List ℕ} → Choice ([] ∷ rest) ns X → IsLinking Le s (A ++ X) P → ⊥
       at (take m c) t = List·Memᴰ·not-nil m
 
+  -- `firstEntry` is right where the search over the rest is.
   first-entry :
       {rest : Words} {f : PregroupType → Option Answer} {es : List NumberedEntry} → ((Y : PregroupType) → Behind Le s rest Y (f Y)) → Ascending es
       → Behind Le s (es ∷ rest) A (firstEntry f A es)

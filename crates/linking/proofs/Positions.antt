@@ -36,6 +36,7 @@ module _ {Le : Relation} {X : PregroupType} {P : List ℕ} where
         inside = t .inside;
       }
 
+  -- The two ends of the first link.
   first-inside :
       {i j k : ℕ} → Link Le X P i k → k < j → ((m : ℕ) → suc i ≤ m → m < k → Inside Le X P (suc i) k m) → Inside Le X P i j i
   first-inside {i} {j} {k} l h f =
