@@ -8,7 +8,7 @@ use mathlib.Core.Bool.{Bool, true, false, cond, false≢true}
 use mathlib.Core.List.{List, [], _∷_, List·Memᴰ·head, List·Memᴰ·tail}
 use lib.Dec.{eqb, ltb}
 use Rattle.pregroup.specs.Tests.{Decides}
-use Rattle.pregroup.proofs.Decision.{both}
+use Rattle.pregroup.proofs.Decision.{and-iff}
 use Rattle.order.specs.Closed.{Closed, reflexive, pair, transitive, Pair, Listed, DeclaredPairs, below}
 use Rattle.order.proofs.ClosureLaws.{closed-map}
 
@@ -30,7 +30,7 @@ module _ (types : ℕ) where
 
   below-reflexive : (pairs : List Pair) (p : ℕ) → p < types → Below pairs p p
   unfolding below
-  below-reflexive [] p h = both (eqb p p) (ltb p types) .1 (eq-eqb p p refl, lt-ltb p types h)
+  below-reflexive [] p h = and-iff (eqb p p) (ltb p types) .1 (eq-eqb p p refl, lt-ltb p types h)
   below-reflexive (x ∷ pairs) p h = below-more x pairs p p .1 (inl (below-reflexive pairs p h))
 
   -- With one pair more, from p to r through q: before, or by the pair once.
@@ -47,7 +47,7 @@ module _ (types : ℕ) where
   below-transitive : (pairs : List Pair) (p q r : ℕ) → Below pairs p q → Below pairs q r → Below pairs p r
   unfolding below
   below-transitive [] p q r h k =
-      let e : p ≡ q = eqb-true p q (both (eqb p q) (ltb p types) .0 h .0) in
+      let e : p ≡ q = eqb-true p q (and-iff (eqb p q) (ltb p types) .0 h .0) in
       rw e k
   below-transitive (x ∷ pairs) p q r h k =
       below-more x pairs p r .1
@@ -73,7 +73,7 @@ module _ (types : ℕ) where
   closed-of-below : (pairs : List Pair) (p q : ℕ) → Below pairs p q → Closed types (Listed pairs) p q
   unfolding below
   closed-of-below [] p q h =
-      let t = both (eqb p q) (ltb p types) .0 h in
+      let t = and-iff (eqb p q) (ltb p types) .0 h in
       rw (← eqb-true p q (t .0)) (reflexive (ltb-true p types (t .1)))
   closed-of-below (x ∷ pairs) p q h =
       ⊎-elim (λ b. closed-more x (closed-of-below pairs p q b))

@@ -12,17 +12,16 @@ use Rattle.pregroup.specs.Vanish.{Contracts, Vanish}
 use Rattle.pregroup.specs.Tests.{Test, Decides, sameExponent, contracts, closes, vanishes}
 use Rattle.pregroup.proofs.Machine.{Run, stop, put, close, vanish-iff-run}
 
-same-right : (y z : ℤ) → (sameExponent y z ≡ true) ↔ (y ≡ z)
+pub same-exponent-iff : (y z : ℤ) → (sameExponent y z ≡ true) ↔ (y ≡ z)
 unfolding sameExponent
-same-right (pos m) (pos n) = (λ h. ap pos (eqb-true m n h), λ e. eq-eqb m n (cc))
-same-right (pos m) (negsuc n) = (λ h. absurd (false≢true h), λ e. cc)
-same-right (negsuc m) (pos n) = (λ h. absurd (false≢true h), λ e. cc)
-same-right (negsuc m) (negsuc n) = (λ h. ap negsuc (eqb-true m n h), λ e. eq-eqb m n (cc))
+same-exponent-iff (pos m) (pos n) = (λ h. ap pos (eqb-true m n h), λ e. eq-eqb m n (cc))
+same-exponent-iff (pos m) (negsuc n) = (λ h. absurd (false≢true h), λ e. cc)
+same-exponent-iff (negsuc m) (pos n) = (λ h. absurd (false≢true h), λ e. cc)
+same-exponent-iff (negsuc m) (negsuc n) = (λ h. ap negsuc (eqb-true m n h), λ e. eq-eqb m n (cc))
 
--- Both of two tests.
-pub both : (a b : Bool) → (a && b ≡ true) ↔ ((a ≡ true) × (b ≡ true))
-both true b = (λ h. (refl, h), λ t. t .1)
-both false b = (λ h. (h, absurd (false≢true h)), λ t. t .0)
+pub and-iff : (a b : Bool) → (a && b ≡ true) ↔ ((a ≡ true) × (b ≡ true))
+and-iff true b = (λ h. (refl, h), λ t. t .1)
+and-iff false b = (λ h. (h, absurd (false≢true h)), λ t. t .0)
 
 -- A search that closes the top where it may and where that ends well, and puts otherwise.
 either : (k c p : Bool) → (cond k (cond c true p) p ≡ true) ↔ (((k ≡ true) × (c ≡ true)) ⊎ (p ≡ true))
@@ -38,8 +37,8 @@ module _ {le : Test} {Le : Relation} (decides : Decides le Le) where
   pub contracts-iff : (x y : Simple) → (contracts le x y ≡ true) ↔ Contracts Le x y
   unfolding contracts
   contracts-iff x y =
-      let parts = both (sameExponent (y .exponent) (sucℤ (x .exponent))) (cond (even (x .exponent)) (le (x .base) (y .base)) (le (y .base) (x .base))) in
-      let raise = same-right (y .exponent) (sucℤ (x .exponent)) in
+      let parts = and-iff (sameExponent (y .exponent) (sucℤ (x .exponent))) (cond (even (x .exponent)) (le (x .base) (y .base)) (le (y .base) (x .base))) in
+      let raise = same-exponent-iff (y .exponent) (sucℤ (x .exponent)) in
       let fit = turned-right (even (x .exponent)) (x .base) (y .base) in
       (λ h. record { raised = raise .0 (parts .0 h .0); fits = fit .0 (parts .0 h .1) }, λ c. parts .1 (raise .1 (c .raised), fit .1 (c .fits)))
 

@@ -10,24 +10,24 @@ use Rattle.pregroup.specs.Order.{Relation}
 use Rattle.pregroup.specs.Steps.{becomes, vanish, appear, order-step, contraction, expansion, done, next, Chain}
 use Rattle.pregroup.specs.Tests.{Test, sameExponent, contracts, closes, vanishes}
 
-abbrev o : Basic
+abbrev pub o : Basic
 o = 0
 
-abbrev p : Basic
+abbrev pub p : Basic
 p = 1
 
-abbrev w : Basic
+abbrev pub w : Basic
 w = 2
 
-abbrev u : Basic
+abbrev pub u : Basic
 u = 3
 
 -- The adjoints of a plain type, as the papers write them.
 infix 90 _ˡ _ʳ
-abbrev _ˡ : Basic → Simple
+abbrev pub _ˡ : Basic → Simple
 a ˡ = simpleLeft (plain a)
 
-abbrev _ʳ : Basic → Simple
+abbrev pub _ʳ : Basic → Simple
 a ʳ = simpleRight (plain a)
 
 -- The closure of the one pair u ≤ w.

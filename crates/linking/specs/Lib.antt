@@ -1,0 +1,3 @@
+-- Linkings of a type, and the readings of a line.
+pub mod Linking
+pub mod Reading
