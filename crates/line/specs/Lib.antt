@@ -1,0 +1,3 @@
+-- A line: its words, what it is refused for before it is read (11 to 14), and its words' entries.
+pub mod Words
+pub mod LineFaults

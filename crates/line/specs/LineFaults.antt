@@ -1,0 +1,84 @@
+-- Document 01, "When the screen says no", causes 11 to 14: each number is tried over the whole line before the next, and the earliest place
+-- is returned. Words that pass are given by their entries, in the book's order.
+use Prim.Native.Nat.{ℕ, suc, _+_}
+use mathlib.Core.Bool.{Bool, true, false, cond, not, _||_}
+use mathlib.Core.List.{List, [], _∷_, map}
+use mathlib.Core.Option.{Option, none, some}
+use lib.Dec.{leb, ltb}
+use lib.ListN.{length}
+use Rattle.book.specs.Format.{Bytes, Book, Entry, between, sameBytes, maxWord}
+use Rattle.linking.specs.Reading.{NumberedEntry, Words}
+use Rattle.line.specs.Words.{Word, wordsOf}
+
+-- The figures of the paper.
+abbrev pub maxWords : ℕ
+maxWords = 24
+
+abbrev pub maxSimples : ℕ
+maxSimples = 512
+
+-- Words are the same when their bytes are.
+abbrev pub sameWord : Bytes → Bytes → Bool
+sameWord a b = sameBytes a b
+
+-- The entries of a word, numbered as they stand in the book: the rest of its entries, and the number of the first of them.
+unfoldable pub entriesFrom : ℕ → List Entry → Bytes → List NumberedEntry
+entriesFrom n [] word = []
+entriesFrom n (e ∷ entries) word =
+    let rest = entriesFrom (n + 1) entries word in
+    cond (sameWord (e .word) word) (record { number = n; type = e .type } ∷ rest) rest
+
+abbrev pub entriesOf : Book → Word → List NumberedEntry
+entriesOf B word = entriesFrom 0 (B .entries) (word .bytes)
+
+-- 11: line byte outside 32 to 126. The offset of the first one.
+unfoldable pub byteFault : ℕ → Bytes → Option ℕ
+byteFault at [] = none
+byteFault at (b ∷ bytes) = let rest = byteFault (at + 1) bytes in cond (between 32 126 b) rest (some at)
+
+-- 12: word over 31 bytes, or a 25th word. The offset of the first one; `n` words stand before these.
+unfoldable pub wordFault : ℕ → List Word → Option ℕ
+wordFault n [] = none
+wordFault n (w ∷ words) =
+    let rest = wordFault (n + 1) words in
+    cond (ltb maxWord (length (w .bytes)) || leb maxWords n) (some (w .at)) rest
+
+-- 13: word without an entry. The offset of the first one.
+abbrev pub isEmpty {ℓ} : {A : Type ℓ} → List A → Bool
+isEmpty [] = true
+isEmpty (x ∷ xs) = false
+
+unfoldable pub entryFault : Book → List Word → Option ℕ
+entryFault B [] = none
+entryFault B (w ∷ words) = let rest = entryFault B words in cond (isEmpty (entriesOf B w)) (some (w .at)) rest
+
+-- The number of simple types of all entries of all words, a repeated word counted each time.
+unfoldable pub simplesIn : List NumberedEntry → ℕ
+simplesIn [] = 0
+simplesIn (e ∷ entries) = length (e .type) + simplesIn entries
+
+unfoldable pub simplesOfWords : Words → ℕ
+simplesOfWords [] = 0
+simplesOfWords (entries ∷ words) = simplesIn entries + simplesOfWords words
+
+-- The words of a line by their entries.
+abbrev pub entriesOfLine : Book → Bytes → Words
+entriesOfLine B line = map (entriesOf B) (wordsOf line)
+
+-- What a line is against an accepted book: its words by their entries, or a refusal with the value returned with it.
+pub data LineCheck : Type 0 where
+  passed : Words → LineCheck
+  stopped : ℕ → ℕ → LineCheck
+
+abbrev pub orElse : ℕ → Option ℕ → LineCheck → LineCheck
+orElse number none next = next
+orElse number (some value) next = stopped number value
+
+-- 14: over 512 simple types; it returns 0.
+unfoldable pub lineCheck : Book → Bytes → LineCheck
+lineCheck B line =
+    let words = entriesOfLine B line in
+    let full = cond (ltb maxSimples (simplesOfWords words)) (stopped 14 0) (passed words) in
+    let known = orElse 13 (entryFault B (wordsOf line)) full in
+    let cut = orElse 12 (wordFault 0 (wordsOf line)) known in
+    orElse 11 (byteFault 0 line) cut

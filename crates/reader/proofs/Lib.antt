@@ -1,0 +1,2 @@
+-- Theorems on what reading a line comes to.
+pub mod Table

@@ -1,0 +1,2 @@
+-- What reading a line against a book comes to.
+pub mod Outcome

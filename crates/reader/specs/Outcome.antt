@@ -1,0 +1,42 @@
+-- The whole of document 01 in one definition: what is returned, and what the answer buffer holds, for any bytes as book, any bytes as line
+-- and any lent buffer. The book comes before the line; a refusal leaves the buffer as it was.
+use Prim.Native.Nat.{ℕ, _+_}
+use mathlib.Core.Bool.{Bool, true, false, cond}
+use mathlib.Core.List.{List, [], _∷_, _++_}
+use mathlib.Core.Option.{Option, none, some}
+use lib.Dec.{ltb}
+use lib.ListN.{length, drop}
+use Rattle.order.specs.Closed.{below}
+use Rattle.book.specs.Format.{Bytes, Book, Parsed, accepted, refused, parse}
+use Rattle.linking.specs.Reading.{Words, Answer, firstReading}
+use Rattle.line.specs.LineFaults.{LineCheck, passed, stopped, lineCheck}
+use Rattle.reader.specs.declared.LineAnswer.{LineAnswer}
+use Rattle.reader.specs.declared.LineAnswer.the-variants.{Read, Refused}
+
+-- What is returned, and what the buffer holds then.
+pub record Outcome : Type 0 where
+  pub answer : LineAnswer
+  pub buffer : List ℕ
+
+-- An answer of n words and m simple types: n, the n entry numbers, m, the m partners.
+abbrev pub valuesOf : Answer → List ℕ
+valuesOf a = length (a .0) ∷ (a .0 ++ (length (a .1) ∷ a .1))
+
+-- 15: no reading. 16: answer buffer too short, with the values needed. Values behind an answer stay.
+unfoldable pub given : Option Answer → List ℕ → Outcome
+given none buffer = record { answer = Refused 15 0; buffer = buffer }
+given (some a) buffer =
+    let values = valuesOf a in
+    cond (ltb (length buffer) (length values)) (record { answer = Refused 16 (length values); buffer = buffer })
+    (record { answer = Read (length values); buffer = values ++ drop (length values) buffer })
+
+unfoldable pub readAgainst : Book → LineCheck → List ℕ → Outcome
+readAgainst B (stopped number value) buffer = record { answer = Refused number value; buffer = buffer }
+readAgainst B (passed words) buffer = given (firstReading (below (length (B .names)) (B .pairs)) (B .target) words) buffer
+
+unfoldable pub readParsed : Parsed → Bytes → List ℕ → Outcome
+readParsed (refused number value) line buffer = record { answer = Refused number value; buffer = buffer }
+readParsed (accepted B) line buffer = readAgainst B (lineCheck B line) buffer
+
+abbrev pub outcome : Bytes → Bytes → List ℕ → Outcome
+outcome book line buffer = readParsed (parse book) line buffer
