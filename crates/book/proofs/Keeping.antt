@@ -11,15 +11,16 @@ use mathlib.Core.Option.{Option, some, none}
 use lib.Dec.{ltb}
 use lib.ListN.{length, getD, take, set, length-map, length-set}
 use lib.Seq.{take-suc-set, getD-set-same, getD-set-other}
-use borrow.Author.Tests.{lt-ltb}
+use borrow.Author.Tests.{lt-ltb, ltb-true}
 use Rattle.bits.specs.Bits.{Has, Members}
 use Rattle.pregroup.specs.Types.{Basic}
 use Rattle.pregroup.specs.Held.{InRows}
 use Rattle.order.specs.Closed.{Pair, Within, Listed}
 use Rattle.order.specs.Rows.{maxTypes, Hold}
-use Rattle.book.specs.Format.{Bytes, Entry, Draft, Kind, basic-type, order-pair, entry, target, unlisted, twoBytes, bodyAt, nextAt, kindAt, bodyFault, recordFault, isSome, entryOf, add, maxEntries}
-use Rattle.book.specs.Kept.{bodiesAt, Whole, targetKept, Store, store, Roomy, Sound, Keeps, nextFault, nextDraft, Taking}
+use Rattle.book.specs.Format.{Bytes, Entry, Draft, Kind, basic-type, order-pair, entry, target, unlisted, twoBytes, bodyAt, nextAt, kindAt, bodyFault, recordFault, isSome, entryOf, add, maxEntries, every, declaredAmong}
+use Rattle.book.specs.Kept.{bodiesAt, Whole, Formed, AllFormed, targetKept, Store, store, Roomy, Sound, Keeps, nextFault, nextDraft, Taking}
 use Rattle.book.specs.declared.Progress.{Progress}
+use Rattle.book.proofs.Bools.{both}
 use Rattle.book.proofs.Names.{bodies-length}
 use Rattle.book.proofs.WholeRecords.{kind-4, kind-other}
 use Rattle.book.proofs.NoFault.{no-fault-whole, no-fault-body, name-no-fault, pair-no-fault, entry-no-fault, target-no-fault, unlisted-fault}
@@ -37,6 +38,28 @@ whole-more bytes offsets n at room whole w = record { room = omega (arith, lengt
 
 bodies-more : (bytes : Bytes) (offsets : List ℕ) (n at : ℕ) → n < length offsets → bodiesAt bytes (set offsets n at) (n + 1) ≡ bodiesAt bytes offsets n ++ (bodyAt bytes at ∷ [])
 bodies-more bytes offsets n at room = rw (add-one n, take-suc-set offsets n at room) (map-append (bodyAt bytes) (take n offsets) (at ∷ []))
+
+-- More types declare no less.
+declared-more : (n m : ℕ) → n ≤ m → (numbers : List ℕ) → every (declaredAmong n) numbers ≡ true → every (declaredAmong m) numbers ≡ true
+unfolding every
+declared-more n m h [] e = refl
+declared-more n m h (x ∷ numbers) e =
+    let t = both (ltb x n) (every (declaredAmong n) numbers) e in
+    let small : x < n = ltb-true x n (t .0) in
+    rw (lt-ltb x m (omega arith), declared-more n m h numbers (t .1))
+
+formed-more : (n m : ℕ) (body : Bytes) → n ≤ m → Formed n body → Formed m body
+formed-more n m body h f = record { layout = f .layout; declared = declared-more n m h _ (f .declared); listed = f .listed }
+
+-- One entry more.
+formed-next :
+    (bytes : Bytes) (offsets : List ℕ) (types n at : ℕ) → n < length offsets → Formed types (bodyAt bytes at) → AllFormed bytes offsets types n
+    → AllFormed bytes (set offsets n at) types (n + 1)
+formed-next bytes offsets types n at room f all i h = go (ℕ-discrete i n)
+  where
+    go : Dec (i ≡ n) → Formed types (bodyAt bytes (getD {A = ℕ} (set offsets n at) i 0))
+    go (yes e) = rw (e, getD-set-same offsets n at 0 room) f
+    go (no d) = rw (getD-set-other offsets n i at 0 d) (all i (omega (arith, d)))
 
 -- One pair more.
 listed-more :
@@ -124,6 +147,11 @@ module _ (bytes : Bytes) (s : Store) (p : Progress) (sound : Sound bytes s p) wh
     pub entry-place : kindAt bytes (p .at) ≡ entry → p .entries < maxEntries
     entry-place kind = entry-no-fault _ _ _ _ (body-fault kind) .3
 
+    entry-formed : kindAt bytes (p .at) ≡ entry → Formed (p .types) (bodyAt bytes (p .at))
+    entry-formed kind =
+        let fine = entry-no-fault _ _ _ _ (body-fault kind) in
+        record { layout = fine .0; declared = rw names-count at (fine .1); listed = fine .2 }
+
     pub pair-place : kindAt bytes (p .at) ≡ order-pair
         → (length (bodyAt bytes (p .at)) ≡ 2) × (getD {A = ℕ} (bodyAt bytes (p .at)) 0 0 < p .types) × (getD {A = ℕ} (bodyAt bytes (p .at)) 1 0 < p .types)
     pair-place kind =
@@ -160,9 +188,10 @@ module _ (bytes : Bytes) (s : Store) (p : Progress) (sound : Sound bytes s p) wh
             };
             few-types = omega arith;
             few-entries = sound .few-entries;
-            target-kept = sound .target-kept;
+            target-kept = ⊎-elim inl (λ h. inr (omega arith)) (sound .target-kept);
             names-whole = whole-more bytes (s .names) (p .types) (p .at) room (whole found) (sound .names-whole);
             entries-whole = sound .entries-whole;
+            formed = λ i h. formed-more (p .types) (p .types + 1) _ (omega arith) (sound .formed i h);
             within = λ a b h. let t = sound .within a b h in (omega arith, omega arith);
           };
           on = on;
@@ -198,6 +227,7 @@ module _ (bytes : Bytes) (s : Store) (p : Progress) (sound : Sound bytes s p) wh
             target-kept = sound .target-kept;
             names-whole = sound .names-whole;
             entries-whole = whole-more bytes (s .entries) (p .entries) (p .at) room (whole found) (sound .entries-whole);
+            formed = formed-next bytes (s .entries) (p .types) (p .entries) (p .at) room (entry-formed found kind) (sound .formed);
             within = sound .within;
           };
           on = on;
@@ -237,6 +267,7 @@ module _ (bytes : Bytes) (s : Store) (p : Progress) (sound : Sound bytes s p) wh
             target-kept = sound .target-kept;
             names-whole = sound .names-whole;
             entries-whole = sound .entries-whole;
+            formed = sound .formed;
             within = within-more (s .direct) (p .types) lower upper row room (omega (arith, fine .1)) (omega (arith, fine .2)) members (sound .within);
           };
           on = on;
@@ -259,9 +290,10 @@ module _ (bytes : Bytes) (s : Store) (p : Progress) (sound : Sound bytes s p) wh
             roomy = sound .roomy;
             few-types = sound .few-types;
             few-entries = sound .few-entries;
-            target-kept = omega arith;
+            target-kept = inr (omega (arith, target-place found kind .1));
             names-whole = sound .names-whole;
             entries-whole = sound .entries-whole;
+            formed = sound .formed;
             within = sound .within;
           };
           on = on;

@@ -2,7 +2,7 @@
 use Prim.Native.Nat.{ℕ, zero, suc, _+_, _≤_, _<_}
 use native.Mathlib.Omega.{arith}
 use mathlib.Core.Path.{_≡_, refl, sym, ap, _∙_}
-use mathlib.Core.Logic.{_↔_}
+use mathlib.Core.Logic.{_↔_, inl, inr, ⊎-elim}
 use mathlib.Core.Bool.{Bool, true, false, cond}
 use mathlib.Core.List.{List, [], _∷_, List·Memᴰ·not-nil}
 use mathlib.Core.Option.{Option, some, none}
@@ -65,9 +65,10 @@ standing-start bytes s short roomy empty =
         roomy = roomy;
         few-types = omega arith;
         few-entries = omega arith;
-        target-kept = omega arith;
+        target-kept = inl refl;
         names-whole = none-yet (s .names);
         entries-whole = none-yet (s .entries);
+        formed = λ i h. absurd (omega arith);
         within = λ p q h. absurd (empty p q h);
       };
       draft = nothingYet;
@@ -118,7 +119,8 @@ module _ (bytes : Bytes) (s₀ s : Store) (p : Progress) (w : Standing bytes s�
   pub standing-some : length bytes ≤ p .at → (p .target ≡ maxTypes → ⊥) → (B : Book) × Opened bytes s (p .types) (p .entries) (p .target) B
   unfolding ended
   standing-some h n =
-      let few : p .target < maxTypes = omega (arith, n, w .sound .target-kept) in (
+      let declared : p .target < p .types = ⊎-elim (λ e. absurd (n e)) (λ k. k) (w .sound .target-kept) in
+      let few : p .target < maxTypes = omega (arith, w .sound .few-types) in (
         record { names = w .draft .names; pairs = w .draft .pairs; entries = w .draft .entries; target = p .target },
         record {
           parsed = at-end h ∙ ap (λ (b : Bool). ended bytes (w .draft) (cond b (some (p .target)) none)) (lt-ltb (p .target) maxTypes few);
@@ -126,6 +128,8 @@ module _ (bytes : Bytes) (s₀ s : Store) (p : Progress) (w : Standing bytes s�
           few-entries = w .sound .few-entries;
           names-whole = w .sound .names-whole;
           entries-whole = w .sound .entries-whole;
+          formed = w .sound .formed;
+          target-declared = declared;
           within = w .sound .within;
           names = w .keeps .names;
           pairs = w .keeps .pairs;

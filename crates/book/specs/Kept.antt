@@ -2,6 +2,7 @@
 -- how far it has come.
 use Prim.Native.Nat.{ℕ, _+_, _≤_, _<_}
 use mathlib.Core.Path.{_≡_}
+use mathlib.Core.Logic.{_⊎_}
 use mathlib.Core.Bool.{Bool, true, false, cond}
 use mathlib.Core.List.{List, [], _∷_, map}
 use mathlib.Core.Option.{Option, none, some}
@@ -11,7 +12,7 @@ use Rattle.pregroup.specs.Types.{Basic}
 use Rattle.pregroup.specs.Held.{InRows}
 use Rattle.order.specs.Closed.{Within, Listed}
 use Rattle.order.specs.Rows.{maxTypes, Hold}
-use Rattle.book.specs.Format.{Bytes, Book, Draft, Parsed, accepted, refused, parse, bodyAt, nextAt, entryOf, maxBytes, maxEntries, kindAt, add, recordFault, isSome}
+use Rattle.book.specs.Format.{Bytes, Book, Draft, Parsed, accepted, refused, parse, bodyAt, nextAt, every, declaredAmong, bases, exponents, exponentListed, simplesOf, typePart, isEntry, entryOf, maxBytes, maxEntries, kindAt, add, recordFault, isSome}
 use Rattle.book.specs.declared.Progress.{Progress}
 use Rattle.book.specs.declared.Taken.{Taken}
 use Rattle.book.specs.declared.Taken.the-variants.{Next, Bad}
@@ -26,6 +27,16 @@ bodiesAt bytes offsets count = map (bodyAt bytes) (take count offsets)
 pub record Whole (bytes : Bytes) (offsets : List ℕ) (count : ℕ) : Type 0 where
   pub room : count ≤ length offsets
   pub whole : (i : ℕ) → i < count → nextAt bytes (getD {A = ℕ} offsets i 0) ≤ length bytes
+
+-- A body is an entry's, with declared types and with exponents from −8 to 8.
+pub record Formed (types : ℕ) (body : Bytes) : Type 0 where
+  pub layout : isEntry body ≡ true
+  pub declared : every (declaredAmong types) (bases (simplesOf (typePart body))) ≡ true
+  pub listed : every exponentListed (exponents (simplesOf (typePart body))) ≡ true
+
+-- The first offsets are those of such entries.
+abbrev pub AllFormed : Bytes → List ℕ → ℕ → ℕ → Type 0
+AllFormed bytes offsets types count = (i : ℕ) → i < count → Formed types (bodyAt bytes (getD {A = ℕ} offsets i 0))
 
 -- A target is kept as its number, and as 64 where there is none: no basic type has that number.
 abbrev pub targetKept : ℕ → Option Basic
@@ -57,9 +68,10 @@ pub record Sound (bytes : Bytes) (s : Store) (p : Progress) : Type 0 where
   pub roomy : Roomy s
   pub few-types : p .types ≤ maxTypes
   pub few-entries : p .entries ≤ maxEntries
-  pub target-kept : p .target ≤ maxTypes
+  pub target-kept : (p .target ≡ maxTypes) ⊎ (p .target < p .types)
   pub names-whole : Whole bytes (s .names) (p .types)
   pub entries-whole : Whole bytes (s .entries) (p .entries)
+  pub formed : AllFormed bytes (s .entries) (p .types) (p .entries)
   pub within : Within (p .types) (InRows (s .direct))
 
 -- What is kept stands for the draft d.
@@ -98,6 +110,8 @@ pub record Opened (bytes : Bytes) (s : Store) (types count target : ℕ) (B : Bo
   pub few-entries : count ≤ maxEntries
   pub names-whole : Whole bytes (s .names) types
   pub entries-whole : Whole bytes (s .entries) count
+  pub formed : AllFormed bytes (s .entries) types count
+  pub target-declared : target < types
   pub within : Within types (InRows (s .direct))
   pub names : B .names ≡ bodiesAt bytes (s .names) types
   pub pairs : Hold (s .direct) (Listed (B .pairs))

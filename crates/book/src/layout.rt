@@ -4,7 +4,7 @@ ghost use mathlib.Core.Path.{_≡_};
 ghost use mathlib.Core.Bool.{true};
 ghost use Prim.Native.Nat.{_+_, _≤_, _<_};
 ghost use lib.ListN.{length};
-ghost use Rattle.book.specs.Format.{twoBytes, bodyAt, nextAt, letter, nameByte, isName, wordByte, exponentOf, exponentListed, isEntry, typePart, every};
+ghost use Rattle.book.specs.Format.{twoBytes, bodyAt, nextAt, letter, nameByte, isName, wordByte, exponentOf, exponentListed, isEntry, wordOf, typePart, every};
 
 pub const MAX_NAME: usize = 15;
 
@@ -149,4 +149,13 @@ pub fn type_part(body: &[u8]) -> &[u8]
 {
     let start = 1 + wide(body[0]);
     &body[start..]
+}
+
+// The word of an entry's body.
+pub fn word_part(body: &[u8]) -> &[u8]
+    requires { ⌜ isEntry (now body) ≡ true ⌝ }
+    ensures { λ r. ⌜ now r ≡ wordOf (now (body .entry)) ⌝ }
+{
+    let end = 1 + wide(body[0]);
+    &body[1..end]
 }

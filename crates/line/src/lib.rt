@@ -1,1 +1,16 @@
-// A line.
+// A line: any bytes at all. Its words are found where they stand, and it is refused for a byte, a word, a word without an entry or too
+// many simple types, in this order.
+pub mod lookup;
+pub mod split;
+
+// What splitting a line gives: how many words it has, or the number that it is refused with and the value returned with it.
+pub enum Words {
+    Found(usize),
+    Refused { number: u32, value: usize },
+}
+
+// How many entries a word has, and how many simple types these have together.
+pub struct Tally {
+    pub entries: usize,
+    pub simples: usize,
+}

@@ -1,0 +1,48 @@
+-- `book::layout::word_part` meets its contract: the layout of an entry leaves room for its word.
+use borrow.Author.Needs.{needs}
+use native.Mathlib.Omega.{arith}
+use mathlib.Core.Path.{_≡_, ap, _∙_}
+use lib.ListN.{take, drop}
+use Prim.Native.Nat.{ℕ, _+_, _-_}
+use Rattle.book.proofs.Layouts.{entry-shape}
+use Rattle.book.proofs.layout.word_part.Statement.{statement}
+use Rattle.book.proofs.layout.word_part.Tie as tie
+use Rattle.book.proofs.layout.word_part.Reads as reads
+use Rattle.book.proofs.layout.word_part.Lts as lts
+use Rattle.book.proofs.layout.wide.Reads as wide-reads
+
+shared-slice-read-wide : tie.Need-shared-slice-read-wide
+shared-slice-read-wide c = let s = entry-shape _ (c .before .before .pre) in omega arith
+
+wide-requires : tie.Need-wide-requires
+wide-requires c κs = search needs
+
+add-end : tie.Need-add-end
+add-end c = search needs
+
+sub-result : tie.Need-sub-result
+sub-result c = search needs
+
+part-result-start : tie.Need-part-result-start
+part-result-start c = search needs
+
+part-result-end : tie.Need-part-result-end
+part-result-end c = let s = entry-shape _ (c .before .before .before .pre) in let e = c .wide .ensures .0 in omega arith
+
+returns : tie.Need-returns
+returns c =
+    let body = c .before .before .before .before .args .body .now in
+    let n : 1 + c .before .wide .result - 1 ≡ c .before .wide .result = omega arith in
+    ap (λ (k : ℕ). take k (drop 1 body)) (n ∙ c .before .wide .ensures .0)
+
+pub word-part-spec : {M : Type 1} → statement M
+word-part-spec =
+    tie.close
+    (tie.spec
+    shared-slice-read-wide
+    wide-requires
+    add-end
+    sub-result
+    part-result-start
+    part-result-end
+    returns)

@@ -1,0 +1,5 @@
+-- Laws that the proofs of several functions cite.
+pub mod WordLaws
+pub mod SplitLaws
+pub mod LookUpLaws
+pub mod LineLaws

@@ -1,0 +1,142 @@
+-- `line::split::split` meets its contract: the words kept and the words that the rest holds are always those of the line.
+use native.Mathlib.Omega.{arith}
+use Prim.Native.Nat.{ℕ, _-_}
+use mathlib.Core.Path.{_≡_, sym, ap, _∙_}
+use mathlib.Core.Bool.{Bool, cond}
+use mathlib.Core.Option.{some, none}
+use lib.ListN.{length}
+use borrow.Author.Tests.{lt-ltb, le-ltb}
+use Rattle.line.proofs.SplitLaws.{Splitting, splitting-start, splitting-long, splitting-many, splitting-next, splitting-end}
+use Rattle.line.specs.Split.{at-byte}
+use Rattle.line.proofs.split.split.Statement.{statement}
+use Rattle.line.proofs.split.split.Tie as tie
+use Rattle.line.proofs.split.split.Reads as reads
+use Rattle.line.proofs.split.split.Lts as lts
+use Rattle.line.proofs.split.bad_byte.Reads as bad-byte-reads
+use Rattle.line.proofs.split.end_of_word.Reads as end-of-word-reads
+use Rattle.line.proofs.split.skip_spaces.Reads as skip-spaces-reads
+
+abbrev Inv-loop : tie.InvT-loop
+Inv-loop line starts₀ ends₀ bad count₀ at₀ starts ends count at = Splitting line starts₀ ends₀ starts ends count at
+
+abbrev μ-loop : tie.MeasureT-loop
+μ-loop line starts₀ ends₀ bad count₀ at₀ starts ends count at = length line - at
+
+bad-byte-requires : tie.Need-bad-byte-requires Inv-loop μ-loop
+bad-byte-requires c κs = omega arith
+
+returns : tie.Need-returns Inv-loop μ-loop
+returns c = at-byte (c .before .bad-byte .ensures .1 ∙ ap (λ (t : Bool). cond t (some (c .before .bad-byte .result)) none) (lt-ltb _ _ (c .if1 .taken)))
+
+skip-spaces-requires : tie.Need-skip-spaces-requires Inv-loop μ-loop
+skip-spaces-requires c κs = omega arith
+
+loop-holds : tie.Need-loop-holds Inv-loop μ-loop
+loop-holds c =
+    let a = c .before .before .before .before .before .before .args in
+    let r = c .before .before .bad-byte in
+    let fine = r .ensures .1 ∙ ap (λ (t : Bool). cond t (some (r .result)) none) (le-ltb (r .result) (length (a .line .now)) (omega arith)) in
+    splitting-start (a .line .now) (a .starts .now) (a .ends .now) _ fine (c .skip-spaces .ensures)
+
+end-of-word-requires : tie.Need-end-of-word-requires Inv-loop μ-loop
+end-of-word-requires c κs = (omega arith, c .before .loop .inv .stops (omega arith))
+
+sub-if2 : tie.Need-sub-if2 Inv-loop μ-loop
+sub-if2 c = omega (arith, c .end-of-word .ensures .some-bytes)
+
+same-length : tie.Need-same-length Inv-loop μ-loop
+same-length c = c .before .before .before .loop .inv .starts-length
+
+same-length-2 : tie.Need-same-length-2 Inv-loop μ-loop
+same-length-2 c = c .before .before .before .loop .inv .ends-length
+
+returns-2 : tie.Need-returns-2 Inv-loop μ-loop
+returns-2 c =
+    let a = c .before .before .before .before .before .before .before .before .before .before .args in
+    let l = c .before .before .before .loop in
+    splitting-long (a .line .now) (a .starts .now) (a .ends .now) (l .starts) (l .ends) (l .count) (l .at) (l .inv) _ (c .before .end-of-word .ensures) (c .if2 .taken)
+
+same-length-3 : tie.Need-same-length-3 Inv-loop μ-loop
+same-length-3 c = c .before .before .before .before .loop .inv .starts-length
+
+same-length-4 : tie.Need-same-length-4 Inv-loop μ-loop
+same-length-4 c = c .before .before .before .before .loop .inv .ends-length
+
+returns-3 : tie.Need-returns-3 Inv-loop μ-loop
+returns-3 c =
+    let a = c .before .before .before .before .before .before .before .before .before .before .before .args in
+    let l = c .before .before .before .before .loop in
+    splitting-many (a .line .now) (a .starts .now) (a .ends .now) (l .starts) (l .ends) (l .count) (l .at) (l .inv) _ (c .before .before .end-of-word .ensures) (omega arith) (c .if3 .taken)
+
+mul-starts : tie.Need-mul-starts Inv-loop μ-loop
+mul-starts c = omega arith
+
+slice-write-starts : tie.Need-slice-write-starts Inv-loop μ-loop
+slice-write-starts c = omega (arith, c .before .before .before .before .loop .inv .starts-length, c .before .before .before .before .before .before .before .before .before .before .before .pre .0)
+
+mul-ends : tie.Need-mul-ends Inv-loop μ-loop
+mul-ends c = omega arith
+
+slice-write-ends : tie.Need-slice-write-ends Inv-loop μ-loop
+slice-write-ends c = omega (arith, c .before .before .before .before .loop .inv .ends-length, c .before .before .before .before .before .before .before .before .before .before .before .pre .1)
+
+add-count : tie.Need-add-count Inv-loop μ-loop
+add-count c = omega arith
+
+skip-spaces-requires-2 : tie.Need-skip-spaces-requires-2 Inv-loop μ-loop
+skip-spaces-requires-2 c κs = c .before .before .end-of-word .ensures .inside
+
+loop-less : tie.Need-loop-less Inv-loop μ-loop
+loop-less c =
+    let a = c .before .before .before .before .before .before .before .before .before .before .before .before .args in
+    let l = c .before .before .before .before .before .loop in
+    omega (arith, c .before .before .before .end-of-word .ensures .some-bytes, c .before .before .before .end-of-word .ensures .inside, c .skip-spaces2 .ensures .forth, c .skip-spaces2 .ensures .inside)
+
+loop-again : tie.Need-loop-again Inv-loop μ-loop
+loop-again c =
+    let a = c .before .before .before .before .before .before .before .before .before .before .before .before .args in
+    let l = c .before .before .before .before .before .loop in
+    splitting-next (a .line .now) (a .starts .now) (a .ends .now) (l .starts) (l .ends) (l .count) (l .at) (l .inv) _ (c .before .before .before .end-of-word .ensures) (omega arith) (omega arith) _ (c .skip-spaces2 .ensures)
+    (omega (arith, l .inv .starts-length, c .before .before .before .before .before .before .before .before .before .before .before .before .pre .0)) (omega (arith, l .inv .ends-length, c .before .before .before .before .before .before .before .before .before .before .before .before .pre .1))
+
+same-length-5 : tie.Need-same-length-5 Inv-loop μ-loop
+same-length-5 c = c .before .loop .inv .starts-length
+
+same-length-6 : tie.Need-same-length-6 Inv-loop μ-loop
+same-length-6 c = c .before .loop .inv .ends-length
+
+returns-4 : tie.Need-returns-4 Inv-loop μ-loop
+returns-4 c =
+    let a = c .before .before .before .before .before .before .before .before .args in
+    let l = c .before .loop in
+    splitting-end (a .line .now) (a .starts .now) (a .ends .now) (l .starts) (l .ends) (l .count) (l .at) (l .inv) (omega arith)
+
+pub split-spec : {M : Type 1} → statement M
+split-spec =
+    tie.close
+    (tie.spec
+    Inv-loop
+    μ-loop
+    bad-byte-requires
+    returns
+    skip-spaces-requires
+    loop-holds
+    end-of-word-requires
+    sub-if2
+    same-length
+    same-length-2
+    returns-2
+    same-length-3
+    same-length-4
+    returns-3
+    mul-starts
+    slice-write-starts
+    mul-ends
+    slice-write-ends
+    add-count
+    skip-spaces-requires-2
+    loop-less
+    loop-again
+    same-length-5
+    same-length-6
+    returns-4)

@@ -1,0 +1,59 @@
+-- The look-up of a line's words among the entries that are kept of a book.
+use Prim.Native.Nat.{ℕ, _+_, _/_, _<_, _≤_}
+use mathlib.Core.Path.{_≡_}
+use mathlib.Core.Bool.{true, false}
+use mathlib.Core.List.{List, map}
+use mathlib.Core.Option.{Option, none, some}
+use lib.ListN.{length, getD}
+use Rattle.linking.specs.Reading.{NumberedEntry}
+use Rattle.book.specs.Format.{Bytes, Book, Entry, bodyAt, nextAt, entryOf, isEntry, wordOf, typePart}
+use Rattle.book.specs.Kept.{bodiesAt, Whole}
+use Rattle.line.specs.LineFaults.{sameWord, entriesFrom, simplesIn, maxSimples, entriesOfLine, entryFault, simplesOfWords, LineCheck, passed, stopped, lineCheck}
+use Rattle.line.specs.Words.{wordsOf}
+use Rattle.line.specs.Split.{SplitInto}
+use Rattle.line.specs.declared.Tally.{Tally}
+use Rattle.line.specs.declared.Words.{Words}
+use Rattle.line.specs.declared.Words.the-variants.{Found, Refused}
+
+-- The entries whose records start at the kept offsets, and that each of these is an entry's.
+abbrev pub entriesKept : Bytes → List ℕ → ℕ → List Entry
+entriesKept bytes offsets count = map entryOf (bodiesAt bytes offsets count)
+
+pub record Entries (bytes : Bytes) (offsets : List ℕ) (count : ℕ) : Type 0 where
+  pub few : count ≤ 1024
+  pub whole : Whole bytes offsets count
+  pub layouts : (i : ℕ) → i < count → isEntry (bodyAt bytes (getD {A = ℕ} offsets i 0)) ≡ true
+
+-- How many entries a word has, and how many simple types they have together.
+pub record Counts (bytes : Bytes) (offsets : List ℕ) (count : ℕ) (word : Bytes) (tally : Tally) : Type 0 where
+  pub number : tally .entries ≡ length (entriesFrom 0 (entriesKept bytes offsets count) word)
+  pub sum : tally .simples ≡ simplesIn (entriesFrom 0 (entriesKept bytes offsets count) word)
+  pub small : tally .simples ≤ 12288
+
+-- One entry can be counted: its record is there, and the tally is far from any limit.
+pub record Countable (bytes : Bytes) (at : ℕ) (tally : Tally) : Type 0 where
+  pub whole : nextAt bytes at ≤ length bytes
+  pub layout : isEntry (bodyAt bytes at) ≡ true
+  pub few : tally .entries ≤ 1024
+  pub small : tally .simples ≤ 12288
+
+-- One entry is counted, where it is the word's.
+pub record Counted (bytes : Bytes) (at : ℕ) (word : Bytes) (tally tally′ : Tally) : Type 0 where
+  pub same : sameWord (wordOf (bodyAt bytes at)) word ≡ true
+      → (tally′ .entries ≡ tally .entries + 1) × (tally′ .simples ≡ tally .simples + length (typePart (bodyAt bytes at)) / 2)
+  pub other : sameWord (wordOf (bodyAt bytes at)) word ≡ false → tally′ ≡ tally
+
+-- What the check of a line says, against a book whose entries are kept.
+abbrev pub LineSays : Book → Bytes → List ℕ → List ℕ → Words → Type 0
+LineSays B line starts ends (Found count) = SplitInto line starts ends count × (lineCheck B line ≡ passed (entriesOfLine B line)) × (simplesOfWords (entriesOfLine B line) ≤ maxSimples)
+LineSays B line starts ends (Refused number value) = lineCheck B line ≡ stopped number value
+
+-- A line that breaks 13, or 14 and not 13.
+pub data Missing (B : Book) (line : Bytes) : ℕ → ℕ → Type 0 where
+  no-entry : {value : ℕ} → entryFault B (wordsOf line) ≡ some value → Missing B line 13 value
+  too-many : entryFault B (wordsOf line) ≡ none → maxSimples < simplesOfWords (entriesOfLine B line) → Missing B line 14 0
+
+-- The look-up of words that are split off, in a book: all have entries and not too many simple types, or one of 13 and 14 is broken.
+abbrev pub LookedUp : Book → Bytes → ℕ → Words → Type 0
+LookedUp B line words (Found count) = (count ≡ words) × (entryFault B (wordsOf line) ≡ none) × (simplesOfWords (entriesOfLine B line) ≤ maxSimples)
+LookedUp B line words (Refused number value) = Missing B line number value

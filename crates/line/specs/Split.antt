@@ -1,0 +1,56 @@
+-- What the code keeps of a line's words: where each starts and ends.
+use Prim.Native.Nat.{ℕ, zero, suc, _-_, _≤_, _<_}
+use mathlib.Core.Path.{_≡_}
+use mathlib.Core.List.{List, [], _∷_, _++_}
+use mathlib.Core.Option.{Option, none, some}
+use lib.ListN.{length, getD, take, drop}
+use Rattle.book.specs.Format.{Bytes, maxWord}
+use Rattle.line.specs.Words.{Word, wordsFrom, wordsOf}
+use Rattle.line.specs.LineFaults.{maxWords, byteFault, wordFault}
+use Rattle.line.specs.declared.Words.{Words}
+use Rattle.line.specs.declared.Words.the-variants.{Found, Refused}
+
+-- The word that starts at `at` and ends before `end`.
+abbrev pub wordAt : Bytes → ℕ → ℕ → Word
+wordAt line at end = record { at = at; bytes = take (end - at) (drop at line) }
+
+-- The first words by where they start and end.
+unfoldable pub wordsKept : Bytes → List ℕ → List ℕ → ℕ → List Word
+wordsKept line starts ends zero = []
+wordsKept line starts ends (suc n) = wordsKept line starts ends n ++ (wordAt line (getD {A = ℕ} starts n 0) (getD {A = ℕ} ends n 0) ∷ [])
+
+-- Spaces are passed from `from` up to `at`: the words are the same, and no space stands there.
+pub record Skipped (line : Bytes) (from at : ℕ) : Type 0 where
+  pub forth : from ≤ at
+  pub inside : at ≤ length line
+  pub same : wordsFrom from (drop from line) ≡ wordsFrom at (drop at line)
+  pub stops : at < length line → getD {A = ℕ} line at 0 ≡ 32 → ⊥
+
+-- A word stands from `at` up to `end`.
+pub record Spelt (line : Bytes) (at end : ℕ) : Type 0 where
+  pub some-bytes : at < end
+  pub inside : end ≤ length line
+  pub same : wordsFrom at (drop at line) ≡ wordAt line at end ∷ wordsFrom end (drop end line)
+
+-- Each kept word lies within the line, is not empty and not too long.
+abbrev pub Lying : Bytes → List ℕ → List ℕ → ℕ → Type 0
+Lying line starts ends count =
+    (i : ℕ) → i < count
+    → (getD {A = ℕ} starts i 0 < getD {A = ℕ} ends i 0) × (getD {A = ℕ} ends i 0 ≤ length line) × (getD {A = ℕ} ends i 0 - getD {A = ℕ} starts i 0 ≤ maxWord)
+
+-- The words of a line that breaks neither 11 nor 12.
+pub record SplitInto (line : Bytes) (starts ends : List ℕ) (count : ℕ) : Type 0 where
+  pub bytes-fine : byteFault 0 line ≡ none
+  pub words-fine : wordFault 0 (wordsOf line) ≡ none
+  pub words : wordsOf line ≡ wordsKept line starts ends count
+  pub few : count ≤ maxWords
+  pub lying : Lying line starts ends count
+
+-- A line that breaks 11, or 12 and not 11.
+pub data Stopped (line : Bytes) : ℕ → ℕ → Type 0 where
+  at-byte : {value : ℕ} → byteFault 0 line ≡ some value → Stopped line 11 value
+  at-word : {value : ℕ} → byteFault 0 line ≡ none → wordFault 0 (wordsOf line) ≡ some value → Stopped line 12 value
+
+abbrev pub SplitSays : Bytes → List ℕ → List ℕ → Words → Type 0
+SplitSays line starts ends (Found count) = SplitInto line starts ends count
+SplitSays line starts ends (Refused number value) = Stopped line number value

@@ -1,0 +1,104 @@
+// The words of a line, and refusals 11 and 12.
+use crate::Words;
+use book::layout::MAX_WORD;
+ghost use mathlib.Core.Path.{_≡_};
+ghost use mathlib.Core.Bool.{cond};
+ghost use mathlib.Core.Option.{Option, none, some};
+ghost use Prim.Native.Nat.{ℕ, _≤_, _<_};
+ghost use lib.Dec.{ltb};
+ghost use lib.ListN.{length, getD};
+ghost use Rattle.book.specs.Format.{between};
+ghost use Rattle.line.specs.LineFaults.{maxWords, byteFault};
+ghost use Rattle.line.specs.Split.{Skipped, Spelt, SplitSays};
+
+pub const MAX_WORDS: usize = 24;
+
+// Whether a line may have this byte: 32 to 126.
+fn is_line_byte(byte: u8) -> bool
+    ensures { λ r. ⌜ r ≡ between 32 126 byte ⌝ }
+{
+    match byte {
+        32..=126 => true,
+        _ => false,
+    }
+}
+
+// The offset of the first byte that no line may have, or the line's length.
+fn bad_byte(line: &[u8]) -> usize
+    ensures { λ r. ⌜ (r ≤ length (now (line .entry))) × (byteFault 0 (now (line .entry)) ≡ cond (ltb r (length (now (line .entry)))) (some r) none) ⌝ }
+{
+    let mut i = 0;
+    while i < line.len() {
+        if !is_line_byte(line[i]) {
+            return i;
+        }
+        i += 1;
+    }
+    i
+}
+
+// The offset of the next byte that is no space, or the line's length.
+fn skip_spaces(line: &[u8], from: usize) -> usize
+    requires { ⌜ from ≤ length (now line) ⌝ }
+    ensures { λ r. ⌜ Skipped (now (line .entry)) from r ⌝ }
+{
+    let mut i = from;
+    while i < line.len() {
+        if line[i] != b' ' {
+            return i;
+        }
+        i += 1;
+    }
+    i
+}
+
+// Where the word that starts at `at` ends: at the next space, or at the line's end.
+fn end_of_word(line: &[u8], at: usize) -> usize
+    requires { ⌜ (at < length (now line)) × (getD (now line) at 0 ≡ 32 → ⊥) ⌝ }
+    ensures { λ r. ⌜ Spelt (now (line .entry)) at r ⌝ }
+{
+    let mut i = at;
+    while i < line.len() {
+        if line[i] == b' ' {
+            return i;
+        }
+        i += 1;
+    }
+    i
+}
+
+// Finds the words of a line and keeps where each starts and ends. There are places for 24 words.
+pub fn split(line: &[u8], starts: &mut [usize], ends: &mut [usize]) -> Words
+    requires { ⌜ (maxWords ≤ length (now starts)) × (maxWords ≤ length (now ends)) ⌝ }
+    ensures { λ r. ⌜ SplitSays (now (line .entry)) (now (starts .exit)) (now (ends .exit)) r ⌝ }
+{
+    let bad = bad_byte(line);
+    if bad < line.len() {
+        return Words::Refused {
+            number: 11,
+            value: bad,
+        };
+    }
+    let mut count = 0;
+    let mut at = skip_spaces(line, 0);
+    while at < line.len() {
+        let end = end_of_word(line, at);
+        if MAX_WORD < end - at {
+            return Words::Refused {
+                number: 12,
+                value: at,
+            };
+        }
+        if MAX_WORDS <= count {
+            return Words::Refused {
+                number: 12,
+                value: at,
+            };
+        }
+        starts[count] = at;
+        ends[count] = end;
+        count += 1;
+        at = skip_spaces(line, end);
+    }
+    Words::Found(count)
+}
