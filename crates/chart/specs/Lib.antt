@@ -1,0 +1,3 @@
+-- Rows of nodes, the graph of a line, and what the rows are to hold.
+pub mod Rows
+pub mod Graph
