@@ -1,2 +1,3 @@
 -- The laws of rows.
 pub mod RowLaws
+pub mod Recurrence
