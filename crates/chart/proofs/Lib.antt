@@ -1,3 +1,4 @@
 -- The laws of rows.
 pub mod RowLaws
+pub mod Gathering
 pub mod Recurrence
