@@ -2,3 +2,4 @@
 pub mod RowLaws
 pub mod Gathering
 pub mod Recurrence
+pub mod Filling

@@ -1,14 +1,12 @@
 -- Where a string that vanishes leads, as a recurrence over the graph's edges: nowhere; past a boundary; or over a link x .. z, what stands
 -- between its ends vanishing, and on. It is the same as `VanishTo`.
-use Prim.Native.Nat.{ℕ, _≤_, _<_}
-use native.Mathlib.Omega.{arith}
-use mathlib.Core.Path.{_≡_}
+use Prim.Native.Nat.{ℕ}
 use mathlib.Core.Logic.{_↔_}
-use mathlib.Core.List.{List, [], _∷_, _++_}
+use mathlib.Core.List.{[], _∷_, _++_}
 use Rattle.pregroup.specs.Types.{Simple, PregroupType}
 use Rattle.pregroup.specs.Order.{Relation}
 use Rattle.pregroup.specs.Vanish.{Contracts, Vanish, empty, link}
-use Rattle.chart.specs.Graph.{Graph, Labelled, Enters, by, Upward, Path, here, take, enter, VanishTo, along}
+use Rattle.chart.specs.Graph.{Graph, Labelled, Enters, Path, here, take, enter, VanishTo, along}
 
 pub data Van (Le : Relation) (g : Graph) : ℕ → ℕ → Type 0 where
   same : {u : ℕ} → Van Le g u u

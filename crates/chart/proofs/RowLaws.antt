@@ -2,15 +2,14 @@
 use Prim.Native.Nat.{ℕ, _+_, _-_, _*_, _/_, _%_, _^_, _≤_, _<_}
 use native.Mathlib.Decide.{decLt, ℕ-discrete}
 use native.Mathlib.Omega.{arith}
-use mathlib.Core.Path.{_≡_, refl, sym, _∙_}
+use mathlib.Core.Path.{_≡_, refl, _∙_}
 use mathlib.Core.Logic.{_↔_, _⊎_, inl, inr, ⊎-elim}
-use mathlib.Core.Bool.{true}
 use mathlib.Core.List.{List}
 use lib.ListN.{getD, length, set, length-set, replicate, getD-replicate}
 use lib.Seq.{getD-set-same, getD-set-other}
 use Rattle.bits.specs.Bits.{Has, Members, Lowest}
 use Rattle.bits.proofs.BitLaws.{empty-has-none, no-bit-past}
-use Rattle.chart.specs.Rows.{rowWords, rowBits, InRow, RowSays, HasRow, NextMember, Stored}
+use Rattle.chart.specs.Rows.{rowWords, rowBits, InRow, RowSays, NextMember, Stored}
 
 -- A number is below another or not, and is another or not.
 pub less-or-not : (a b : ℕ) → (a < b) ⊎ (b ≤ a)

@@ -7,7 +7,7 @@ use lib.ListN.{getD, length}
 use Rattle.pregroup.specs.Order.{Relation}
 use Rattle.pregroup.specs.Vanish.{Contracts}
 use Rattle.pregroup.specs.Held.{held}
-use Rattle.chart.specs.Rows.{rowBits, InRow, HasRow, RowSays}
+use Rattle.chart.specs.Rows.{InRow, HasRow, RowSays}
 use Rattle.chart.specs.Graph.{Graph, Upward, VanishTo}
 
 -- The rows of the nodes from `from` on are filled.

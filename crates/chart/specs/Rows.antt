@@ -1,7 +1,7 @@
 -- How the code holds sets of nodes: each set is a row of nine words of 64 bits, and rows stand one behind another in a flat list.
 use Prim.Native.Nat.{ℕ, _+_, _*_, _/_, _%_, _≤_, _<_}
 use mathlib.Core.Path.{_≡_}
-use mathlib.Core.Logic.{_↔_, _⊎_}
+use mathlib.Core.Logic.{_↔_}
 use mathlib.Core.List.{List}
 use lib.ListN.{getD, length}
 use Rattle.bits.specs.Bits.{Has}

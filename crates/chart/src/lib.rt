@@ -3,8 +3,6 @@
 pub mod rows;
 
 use rows::Row;
-
-ghost use mathlib.Core.Path.{_≡_};
 ghost use mathlib.Core.Logic.{_⊎_};
 ghost use Prim.Native.Nat.{_<_};
 ghost use lib.ListN.{getD};
@@ -29,7 +27,16 @@ fn boundary_row(enters: &[u16], rows: &[u64], u: usize, from: usize, to: usize) 
 }
 
 // The row with that of the node behind y, where y is simple and u may contract with it.
-fn join_row(order: &[u64], bases: &[u8], exponents: &[u8], nexts: &[u16], rows: &[u64], row: Row, u: usize, y: usize) -> Row
+fn join_row(
+    order: &[u64],
+    bases: &[u8],
+    exponents: &[u8],
+    nexts: &[u16],
+    rows: &[u64],
+    row: Row,
+    u: usize,
+    y: usize,
+) -> Row
     requires { ⌜ NodeThere (now bases) (now exponents) (now nexts) u ⌝ }
     requires { ⌜ NodeThere (now bases) (now exponents) (now nexts) y × HasRow (now rows) (getD (now nexts) y 0) ⌝ }
     ensures { λ r. ⌜ RowSays (r .words) 0 (λ v. InRow (row .words) 0 v
@@ -46,7 +53,14 @@ fn join_row(order: &[u64], bases: &[u8], exponents: &[u8], nexts: &[u16], rows: 
 }
 
 // The row of the simple node u: itself, and what it can be linked past.
-fn simple_row(order: &[u64], bases: &[u8], exponents: &[u8], nexts: &[u16], rows: &[u64], u: usize) -> Row
+fn simple_row(
+    order: &[u64],
+    bases: &[u8],
+    exponents: &[u8],
+    nexts: &[u16],
+    rows: &[u64],
+    u: usize,
+) -> Row
     requires { ⌜ u < rowBits ⌝ }
     requires { ⌜ LinksThere (now bases) (now exponents) (now nexts) (now rows) u ⌝ }
     ensures { λ r. ⌜ RowSays (r .words) 0
@@ -63,7 +77,17 @@ fn simple_row(order: &[u64], bases: &[u8], exponents: &[u8], nexts: &[u16], rows
 }
 
 // Fills the row of each node, from the last one down.
-pub fn fill(order: &[u64], count: usize, bases: &[u8], exponents: &[u8], nexts: &[u16], froms: &[u16], tos: &[u16], enters: &[u16], rows: &mut [u64])
+pub fn fill(
+    order: &[u64],
+    count: usize,
+    bases: &[u8],
+    exponents: &[u8],
+    nexts: &[u16],
+    froms: &[u16],
+    tos: &[u16],
+    enters: &[u16],
+    rows: &mut [u64],
+)
     requires { ⌜ Fillable (graph count (now bases) (now exponents) (now nexts) (now froms) (now tos) (now enters)) (now rows) ⌝ }
     ensures { λ _. ⌜ FilledFrom (InRows (now (order .entry)))
         (graph count (now (bases .entry)) (now (exponents .entry)) (now (nexts .entry)) (now (froms .entry)) (now (tos .entry)) (now (enters .entry)))

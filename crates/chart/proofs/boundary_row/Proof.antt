@@ -1,7 +1,6 @@
 -- `chart::boundary_row` meets its contract: each turn joins the part of one slot.
-use borrow.Author.Needs.{needs}
 use native.Mathlib.Omega.{arith}
-use Prim.Native.Nat.{_-_, _≤_}
+use Prim.Native.Nat.{ℕ, _-_, _≤_}
 use Rattle.chart.specs.Chart.{SlotPart}
 use Rattle.chart.proofs.Gathering.{GatheredTo, gather-starts, gather-one, gather-ends, part-says}
 use Rattle.chart.proofs.boundary_row.Statement.{statement}
@@ -19,11 +18,15 @@ empty-requires c κs = omega arith
 put-requires : tie.Need-put-requires Inv-loop μ-loop
 put-requires c κs = omega arith
 
+-- The parts that are gathered.
+abbrev slot-part : tie.Start Inv-loop μ-loop → ℕ → ℕ → Type 0
+slot-part s = SlotPart (s .args .enters .now) (s .args .rows .now) (s .args .from) (s .args .to)
+
 loop-holds : tie.Need-loop-holds Inv-loop μ-loop
 loop-holds c =
-    let a = c .before .before .before .before .args in (
+    let s = c .before .before .before .before in (
       omega arith,
-      gather-starts (a .u) (SlotPart (a .enters .now) (a .rows .now) (a .from) (a .to)) _ _ (a .from) (c .before .empty .ensures) (c .put .ensures) (λ m v h p. omega (arith, p .from-on)),
+      gather-starts (s .args .u) (slot-part s) _ _ (s .args .from) (c .before .empty .ensures) (c .put .ensures) (λ m v h p. omega (arith, p .from-on)),
     )
 
 mul-unite : tie.Need-mul-unite Inv-loop μ-loop
@@ -46,19 +49,19 @@ loop-less c = omega arith
 
 loop-again : tie.Need-loop-again Inv-loop μ-loop
 loop-again c =
-    let a = c .before .before .before .before .before .before .before .before .args in
+    let s = c .before .before .before .before .before .before .before .before in
     let l = c .before .before .before .loop in (
       omega arith,
-      gather-one (a .u) (SlotPart (a .enters .now) (a .rows .now) (a .from) (a .to)) (l .row .words) (c .unite .result .words) (l .s) (l .inv .1)
+      gather-one (s .args .u) (slot-part s) (l .row .words) (c .unite .result .words) (l .s) (l .inv .1)
           (part-says (c .unite .result .words) (c .unite .ensures)
-      (λ v. (λ b. record { from-on = l .inv .0; before = c .before .before .loop-test .taken; behind = b }, λ p. p .behind))),
+          (λ v. (λ b. record { from-on = l .inv .0; before = c .before .before .loop-test .taken; behind = b }, λ p. p .behind))),
     )
 
 returns : tie.Need-returns Inv-loop μ-loop
 returns c =
-    let a = c .before .before .before .before .before .before .args in
+    let s = c .before .before .before .before .before .before in
     let l = c .before .loop in
-    gather-ends (a .u) (SlotPart (a .enters .now) (a .rows .now) (a .from) (a .to)) (l .row .words) (l .s) (λ m v p. omega (arith, p .before)) (l .inv .1)
+    gather-ends (s .args .u) (slot-part s) (l .row .words) (l .s) (λ m v p. omega (arith, p .before)) (l .inv .1)
 
 pub boundary-row-spec : {M : Type 1} → statement M
 boundary-row-spec =

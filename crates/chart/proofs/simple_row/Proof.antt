@@ -1,12 +1,11 @@
 -- `chart::simple_row` meets its contract: each turn joins the part of one member, and passes over the numbers before the next one.
-use borrow.Author.Needs.{needs}
 use native.Mathlib.Omega.{arith}
-use Prim.Native.Nat.{_+_, _-_, _≤_, _<_}
+use Prim.Native.Nat.{ℕ, _+_, _-_, _≤_, _<_}
 use mathlib.Core.Path.{_≡_, refl}
 use lib.ListN.{getD}
 use Rattle.pregroup.specs.Held.{InRows}
 use Rattle.chart.specs.Rows.{rowBits, InRow}
-use Rattle.chart.specs.Chart.{LinkPart}
+use Rattle.chart.specs.Chart.{Joined, LinkPart}
 use Rattle.chart.proofs.Gathering.{GatheredTo, gather-starts, gather-one, gather-skip, gather-ends, part-says}
 use Rattle.chart.proofs.simple_row.Statement.{statement}
 use Rattle.chart.proofs.simple_row.Tie as tie
@@ -37,14 +36,18 @@ put-requires c κs = omega arith
 next-member-requires : tie.Need-next-member-requires Inv-loop μ-loop
 next-member-requires c κs = omega arith
 
+-- The parts that are gathered.
+abbrev link-part : tie.Start Inv-loop μ-loop → ℕ → ℕ → Type 0
+link-part s = LinkPart (InRows (s .args .order .now)) (s .args .bases .now) (s .args .exponents .now) (s .args .nexts .now) (s .args .rows .now) (s .args .u)
+
 loop-holds : tie.Need-loop-holds Inv-loop μ-loop
 loop-holds c =
-    let a = c .before .before .before .before .before .before .before .before .before .args in
+    let s = c .before .before .before .before .before .before .before .before .before in
     let first = c .next-member .ensures in (
       first .within,
       refl,
       first .member,
-      gather-starts (a .u) (LinkPart (InRows (a .order .now)) (a .bases .now) (a .exponents .now) (a .nexts .now) (a .rows .now) (a .u)) _ _ (c .next-member .result) (c .before .before .empty .ensures) (c .before .put .ensures)
+      gather-starts (s .args .u) (link-part s) _ _ (c .next-member .result) (c .before .before .empty .ensures) (c .before .put .ensures)
           (λ m v h p. first .least m (omega arith) h (p .reached)),
     )
 
@@ -65,24 +68,24 @@ loop-less c = omega arith
 
 loop-again : tie.Need-loop-again Inv-loop μ-loop
 loop-again c =
-    let a = c .before .before .before .before .before .before .before .before .before .before .before .before .before .args in
+    let s = c .before .before .before .before .before .before .before .before .before .before .before .before .before in
     let l = c .before .before .before .loop in
     let next = c .next-member2 .ensures in
-    let one = gather-one (a .u) (LinkPart (InRows (a .order .now)) (a .bases .now) (a .exponents .now) (a .nexts .now) (a .rows .now) (a .u)) (l .row .words) (c .before .join-row .result .words) (l .y) (l .inv .3)
-    (part-says (c .before .join-row .result .words) (c .before .join-row .ensures)
+    let one = gather-one (s .args .u) (link-part s) (l .row .words) (c .before .join-row .result .words) (l .y) (l .inv .3)
+    (part-says {B = Joined (InRows (s .args .order .now)) (s .args .bases .now) (s .args .exponents .now) (s .args .nexts .now) (s .args .rows .now) (s .args .u) (l .y)} (c .before .join-row .result .words) (c .before .join-row .ensures)
     (λ v. (λ j. record { reached = l .inv .2 (c .before .before .loop-test .taken); joined = j }, λ p. p .joined))) in (
       next .within,
       refl,
       next .member,
-      gather-skip (a .u) (LinkPart (InRows (a .order .now)) (a .bases .now) (a .exponents .now) (a .nexts .now) (a .rows .now) (a .u)) (c .before .join-row .result .words) (l .y + 1) (c .next-member2 .result) one (next .from-on)
+      gather-skip (s .args .u) (link-part s) (c .before .join-row .result .words) (l .y + 1) (c .next-member2 .result) one (next .from-on)
           (λ m v on h p. next .least m on h (p .reached)),
     )
 
 returns : tie.Need-returns Inv-loop μ-loop
 returns c =
-    let a = c .before .before .before .before .before .before .before .before .before .before .before .args in
+    let s = c .before .before .before .before .before .before .before .before .before .before .before in
     let l = c .before .loop in
-    gather-ends (a .u) (LinkPart (InRows (a .order .now)) (a .bases .now) (a .exponents .now) (a .nexts .now) (a .rows .now) (a .u)) (l .row .words) (l .y) (λ m v p. omega (arith, p .reached .small)) (l .inv .3)
+    gather-ends (s .args .u) (link-part s) (l .row .words) (l .y) (λ m v p. omega (arith, p .reached .small)) (l .inv .3)
 
 pub simple-row-spec : {M : Type 1} → statement M
 simple-row-spec =

@@ -1,5 +1,4 @@
 -- `chart::rows::next_member` meets its contract: each turn passes one word, or finds its lowest member.
-use borrow.Author.Needs.{needs}
 use native.Mathlib.Omega.{arith}
 use Prim.Native.Nat.{_+_, _-_, _*_, _/_}
 use mathlib.Core.Path.{_≡_}

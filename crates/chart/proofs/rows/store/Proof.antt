@@ -1,5 +1,4 @@
 -- `chart::rows::store` meets its contract: word by word.
-use borrow.Author.Needs.{needs}
 use native.Mathlib.Omega.{arith}
 use Prim.Native.Nat.{_*_, _-_, _≤_}
 use mathlib.Core.Path.{_≡_}

@@ -1,5 +1,4 @@
 -- `chart::rows::unite` meets its contract: word by word.
-use borrow.Author.Needs.{needs}
 use native.Mathlib.Omega.{arith}
 use Prim.Native.Nat.{ℕ, _*_, _-_, _≤_}
 use mathlib.Core.Path.{_≡_, sym, _∙_}
