@@ -3,3 +3,4 @@ pub mod RowLaws
 pub mod Gathering
 pub mod Recurrence
 pub mod Filling
+pub mod Completion

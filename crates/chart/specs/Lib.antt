@@ -2,3 +2,4 @@
 pub mod Rows
 pub mod Graph
 pub mod Chart
+pub mod Completion
