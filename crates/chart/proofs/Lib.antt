@@ -4,3 +4,4 @@ pub mod Gathering
 pub mod Recurrence
 pub mod Filling
 pub mod Completion
+pub mod Choices
