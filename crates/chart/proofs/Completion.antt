@@ -10,8 +10,8 @@ use Rattle.pregroup.specs.Order.{Relation}
 use Rattle.pregroup.specs.Vanish.{Contracts, Vanish, empty}
 use Rattle.pregroup.proofs.Machine.{vanish-append}
 use Rattle.pregroup.proofs.VanishLaws.{Border, apart, crossed, vanish-iff-border}
-use Rattle.chart.specs.Graph.{Graph, Labelled, by, Path, here, take, enter, VanishTo, along}
-use Rattle.chart.specs.Completion.{Finishes, finishes, Completion, settled, closes, Boundary, Entry, ended, more}
+use Rattle.chart.specs.Graph.{Graph, by, Path, here, take, enter, VanishTo, along}
+use Rattle.chart.specs.Completion.{Finishes, finishes, Reaches, reaches, Completion, settled, closes, Boundary, Entry, ended, more}
 use Rattle.chart.proofs.Recurrence.{path-append, Begins, begins, Parted, part, path-begins, path-part}
 
 -- By the innermost link that crosses.
@@ -23,7 +23,7 @@ module _ {Le : Relation} {g : Graph} where
   closes-at :
       (L : PregroupType) {R W : PregroupType} {p z : Simple} {y m end : ℕ} → Vanish Le R → VanishTo Le g y m → Contracts Le p z → Vanish Le (L ++ W)
       → Begins g m z W end → Completion Le g (L ++ (p ∷ R)) y end
-  closes-at L v u c w (begins s l q) = closes {L = L} v (vanish-on u s) l c (finishes q w)
+  closes-at L v u c w (begins s l q) = closes {L = L} v (reaches (vanish-on u s) l c (finishes q w))
 
   closes-past :
       (L W : PregroupType) {R U : PregroupType} {p z : Simple} {y end : ℕ} → Vanish Le R → Vanish Le U → Contracts Le p z → Vanish Le (L ++ W)
@@ -40,15 +40,13 @@ module _ {Le : Relation} {g : Graph} where
   finishes-apart : {P : PregroupType} {y end : ℕ} → Vanish Le P → VanishTo Le g y end → Finishes Le g P y end
   finishes-apart v (along p x) = finishes p (vanish-append v x)
 
-  finishes-closed :
-      (L : PregroupType) {R : PregroupType} {y m k end : ℕ} {p z : Simple} → Vanish Le R → VanishTo Le g y m → Labelled g m z k
-      → Contracts Le p z → Finishes Le g L k end → Finishes Le g (L ++ (p ∷ R)) y end
-  finishes-closed L {R} {p} {z} v (along {X = U} q u) l c (finishes {X = W} r w) =
+  finishes-closed : (L : PregroupType) {R : PregroupType} {y end : ℕ} {p : Simple} → Vanish Le R → Reaches Le g p L y end → Finishes Le g (L ++ (p ∷ R)) y end
+  finishes-closed L {R} {p} v (reaches {z} (along {X = U} q u) l c (finishes {X = W} r w)) =
       finishes (path-append q (take l r)) (vanish-iff-border (L ++ (p ∷ R)) (U ++ (z ∷ W)) .1 (crossed L W v u c w))
 
   finishes-of-completion : {P : PregroupType} {y end : ℕ} → Completion Le g P y end → Finishes Le g P y end
   finishes-of-completion (settled v x) = finishes-apart v x
-  finishes-of-completion (closes {L} v u l c f) = finishes-closed L v u l c f
+  finishes-of-completion (closes {L} v r) = finishes-closed L v r
 
   -- A prefix is finished exactly by its completion.
   pub finishes-iff-completion : {P : PregroupType} {y end : ℕ} → Finishes Le g P y end ↔ Completion Le g P y end

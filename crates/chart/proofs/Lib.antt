@@ -5,3 +5,4 @@ pub mod Recurrence
 pub mod Filling
 pub mod Completion
 pub mod Choices
+pub mod Prefixes

@@ -14,13 +14,15 @@ use Rattle.chart.specs.Graph.{Graph, Labelled, EntersBy, Path, VanishTo}
 pub data Finishes (Le : Relation) (g : Graph) (P : PregroupType) (y end : ℕ) : Type 0 where
   finishes : {X : PregroupType} → Path g y X end → Vanish Le (P ++ X) → Finishes Le g P y end
 
--- The same by the innermost link that crosses from P to what follows. There is none, and both vanish; or P is L p R, R vanishes, and from y
--- one comes by what vanishes to a node that p could contract with, behind which L is finished.
+-- From y one comes by what vanishes to a node that p could contract with, and behind it L is finished.
+pub data Reaches (Le : Relation) (g : Graph) (p : Simple) (L : PregroupType) (y end : ℕ) : Type 0 where
+  reaches : {m k : ℕ} {z : Simple} → VanishTo Le g y m → Labelled g m z k → Contracts Le p z → Finishes Le g L k end → Reaches Le g p L y end
+
+-- How P is finished, by the innermost link that crosses to what follows: there is none, and both vanish; or P is L p R, R vanishes and p is
+-- linked.
 pub data Completion (Le : Relation) (g : Graph) : PregroupType → ℕ → ℕ → Type 0 where
   settled : {P : PregroupType} {y end : ℕ} → Vanish Le P → VanishTo Le g y end → Completion Le g P y end
-  closes :
-      {L R : PregroupType} {y m k end : ℕ} {p z : Simple} → Vanish Le R → VanishTo Le g y m → Labelled g m z k → Contracts Le p z
-      → Finishes Le g L k end → Completion Le g (L ++ (p ∷ R)) y end
+  closes : {L R : PregroupType} {y end : ℕ} {p : Simple} → Vanish Le R → Reaches Le g p L y end → Completion Le g (L ++ (p ∷ R)) y end
 
 -- u is a boundary.
 abbrev pub Boundary : Graph → ℕ → Type 0

@@ -3,3 +3,4 @@ pub mod Rows
 pub mod Graph
 pub mod Chart
 pub mod Completion
+pub mod Prefixes
