@@ -94,6 +94,17 @@ or-members a b k =
     (λ h. inl h, λ h. refl)
     (bit a k) (bit b k) (bit-small a k) (bit-small b k))
 
+-- The members of `a & b`.
+pub and-members : (a b : ℕ) → Members (bitAnd a b) (λ k. Has a k × Has b k)
+and-members a b k =
+    rw (bit-and k a b)
+    (on-digits (λ x y. (min x y ≡ 1) ↔ ((x ≡ 1) × (y ≡ 1)))
+    (λ h. (h, h), λ h. h .0)
+    (λ h. (h, refl), λ h. h .0)
+    (λ h. (refl, h), λ h. h .1)
+    (λ h. (refl, refl), λ h. refl)
+    (bit a k) (bit b k) (bit-small a k) (bit-small b k))
+
 -- The members of `a ^ (a & b)`.
 pub difference-members : (a b : ℕ) → Members (bitXor a (bitAnd a b)) (λ k. Has a k × (Has b k → ⊥))
 difference-members a b k =

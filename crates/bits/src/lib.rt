@@ -30,6 +30,13 @@ pub fn union(a: u64, b: u64) -> u64
     a | b
 }
 
+// The members of both sets.
+pub fn both(a: u64, b: u64) -> u64
+    ensures { λ r. ⌜ Members r (λ k. Has a k × Has b k) ⌝ }
+{
+    a & b
+}
+
 // The members of a that are not members of b.
 pub fn minus(a: u64, b: u64) -> u64
     ensures { λ r. ⌜ Members r (λ k. Has a k × (Has b k → ⊥)) ⌝ }
