@@ -30,10 +30,10 @@ same-or-not a b = of (ℕ-discrete a b)
 zero-index : (j : ℕ) → rowWords * 0 + j ≡ j
 zero-index j = omega arith
 
-word-of-row : (words : List ℕ) (v : ℕ) → InRow words 0 v → Has (getD words (v / 64) 0) (v % 64)
+pub word-of-row : (words : List ℕ) (v : ℕ) → InRow words 0 v → Has (getD words (v / 64) 0) (v % 64)
 word-of-row words v h = rw (zero-index (v / 64)) at (h .member)
 
-row-of-word : (words : List ℕ) (v : ℕ) → v < rowBits → Has (getD words (v / 64) 0) (v % 64) → InRow words 0 v
+pub row-of-word : (words : List ℕ) (v : ℕ) → v < rowBits → Has (getD words (v / 64) 0) (v % 64) → InRow words 0 v
 row-of-word words v h m = record { small = h; member = rw (zero-index (v / 64)) m }
 
 -- No member in a row of zeros.
