@@ -94,6 +94,17 @@ or-members a b k =
     (λ h. inl h, λ h. refl)
     (bit a k) (bit b k) (bit-small a k) (bit-small b k))
 
+-- The members of `a & b`.
+pub and-members : (a b : ℕ) → Members (bitAnd a b) (λ k. Has a k × Has b k)
+and-members a b k =
+    rw (bit-and k a b)
+    (on-digits (λ x y. (min x y ≡ 1) ↔ ((x ≡ 1) × (y ≡ 1)))
+    (λ h. (h, h), λ h. h .0)
+    (λ h. (h, refl), λ h. h .0)
+    (λ h. (refl, h), λ h. h .1)
+    (λ h. (refl, refl), λ h. refl)
+    (bit a k) (bit b k) (bit-small a k) (bit-small b k))
+
 -- The members of `a ^ (a & b)`.
 pub difference-members : (a b : ℕ) → Members (bitXor a (bitAnd a b)) (λ k. Has a k × (Has b k → ⊥))
 difference-members a b k =
@@ -124,3 +135,8 @@ with-members word q k =
     let either = or-members word (2 ^ q) k in
     let power = power-members q k in
     (λ h. ⊎-elim inl (λ m. inr (power .0 m)) (either .0 h), ⊎-elim (λ m. either .1 (inl m)) (λ e. either .1 (inr (power .1 e))))
+
+-- The members of `word >> q`: those from q on, lowered by q.
+pub shifted-members : (word q : ℕ) → Members (word / 2 ^ q) (λ k. Has word (q + k))
+unfolding bit
+shifted-members word q k = let same = ap (λ (n : ℕ). n % 2) (shr-shr word q k) in (λ h. sym same ∙ h, λ h. same ∙ h)

@@ -34,7 +34,7 @@ vanish-append empty b = b
 vanish-append (link c u w) b = rw append-assoc (link c u (vanish-append w b))
 
 -- Closed Le S X: the string X closes all of the stack S, and everything else in it vanishes.
-data Closed (Le : Relation) : PregroupType → PregroupType → Type 0 where
+pub data Closed (Le : Relation) : PregroupType → PregroupType → Type 0 where
   none : {X : PregroupType} → Vanish Le X → Closed Le [] X
   top : {s y : Simple} {S U W : PregroupType} → Vanish Le U → Contracts Le s y → Closed Le S W → Closed Le (s ∷ S) (U ++ (y ∷ W))
 
@@ -46,10 +46,14 @@ module _ {Le : Relation} where
   closed-put : {x : Simple} {S X : PregroupType} → Closed Le (x ∷ S) X → Closed Le S (x ∷ X)
   closed-put (top u c w) = rw append-assoc at (closed-append (link c u empty) w)
 
-  closed-of-run : {S X : PregroupType} → Run Le S X [] → Closed Le S X
+  pub closed-of-run : {S X : PregroupType} → Run Le S X [] → Closed Le S X
   closed-of-run stop = none empty
   closed-of-run (put r) = closed-put (closed-of-run r)
   closed-of-run (close c r) = top empty c (closed-of-run r)
+
+  pub run-of-closed : {S X : PregroupType} → Closed Le S X → Run Le S X []
+  run-of-closed (none v) = run-of-vanish v []
+  run-of-closed (top {s} {S} u c w) = run-append (run-of-vanish u (s ∷ S)) (close c (run-of-closed w))
 
   vanish-of-closed : {X : PregroupType} → Closed Le [] X → Vanish Le X
   vanish-of-closed (none v) = v

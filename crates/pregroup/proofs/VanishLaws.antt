@@ -1,12 +1,13 @@
 -- The laws of what vanishes: closed under joining (`vanish-append`, in Machine) and insertion; carried down the order (transport along
--- order steps); what an expansion made can be left out (expansion elimination, the heart of the switching lemma); and the right
--- decomposition. Each is shown on the machine's runs.
+-- order steps); what an expansion made can be left out (expansion elimination, the heart of the switching lemma); the right
+-- decomposition; and the cut at any place by the innermost link that crosses it. Each is shown on the machine's runs.
+use mathlib.Core.Logic.{_↔_}
 use mathlib.Core.List.{List, [], _∷_, _++_}
 use Rattle.pregroup.specs.Types.{Basic, Simple, PregroupType}
 use Rattle.pregroup.specs.Order.{Relation, IsOrder}
 use Rattle.pregroup.specs.Vanish.{Contracts, Vanish}
 use Rattle.pregroup.proofs.Preorder.{Below, Expands, contracts-lower-first, contracts-lower-last, closed-first, closed-last, expands-apart}
-use Rattle.pregroup.proofs.Machine.{Run, stop, put, close, run-append, run-cut, run-of-vanish, vanish-of-run}
+use Rattle.pregroup.proofs.Machine.{Run, stop, put, close, run-append, run-cut, run-of-vanish, vanish-of-run, vanish-append, Closed, top, closed-of-run, run-of-closed}
 
 -- What vanishes may be inserted anywhere into what vanishes.
 pub vanish-insert : {Le : Relation} (A : PregroupType) {M : PregroupType} (B : PregroupType) → Vanish Le M → Vanish Le (A ++ B) → Vanish Le (A ++ (M ++ B))
@@ -85,42 +86,76 @@ module _ {Declared : Basic → Type 0} {Le : Relation} (order : IsOrder Declared
       left r (close c (put k)) = run-append r (run-lower k (here (closed-first order e c)))
       left r (close c (close d k)) = run-append (relinked-run (relink (contracts-lower-last order (closed-first order e c) d) r at-top)) k
 
--- Bottom c S T: c lies at the bottom of the stack S, and T is what lies on it.
-data Bottom (c : Simple) : PregroupType → PregroupType → Type 0 where
-  alone : Bottom c (c ∷ []) []
-  under : {x : Simple} {S T : PregroupType} → Bottom c S T → Bottom c (x ∷ S) (x ∷ T)
+-- Upon c B S T: the stack S is T upon c, and c upon B.
+data Upon (c : Simple) (B : PregroupType) : PregroupType → PregroupType → Type 0 where
+  alone : Upon c B (c ∷ B) []
+  under : {x : Simple} {S T : PregroupType} → Upon c B S T → Upon c B (x ∷ S) (x ∷ T)
 
--- A run over X from the stack S that leaves c alone open: X is L c R, where L closes S and R vanishes, or c was open before.
-data Around (Le : Relation) (c : Simple) : PregroupType → PregroupType → Type 0 where
-  around : {S L R : PregroupType} → Run Le S L [] → Vanish Le R → Around Le c S (L ++ (c ∷ R))
-  before : {S T X : PregroupType} → Bottom c S T → Run Le T X [] → Around Le c S X
+-- A run over X from the stack S that leaves c open upon B: X is L c R, where L leaves B and R vanishes, or c was open before.
+data Around (Le : Relation) (c : Simple) (B : PregroupType) : PregroupType → PregroupType → Type 0 where
+  around : {S L R : PregroupType} → Run Le S L B → Vanish Le R → Around Le c B S (L ++ (c ∷ R))
+  before : {S T X : PregroupType} → Upon c B S T → Run Le T X [] → Around Le c B S X
 
-around-put : {Le : Relation} {c x : Simple} {S X : PregroupType} → Around Le c (x ∷ S) X → Around Le c S (x ∷ X)
+around-put : {Le : Relation} {c x : Simple} {B S X : PregroupType} → Around Le c B (x ∷ S) X → Around Le c B S (x ∷ X)
 around-put (around r v) = around (put r) v
 around-put (before alone r) = around stop (vanish-of-run r)
-around-put (before (under b) r) = before b (put r)
+around-put (before (under u) r) = before u (put r)
 
-around-close : {Le : Relation} {c s x : Simple} {S X : PregroupType} → Contracts Le s x → Around Le c S X → Around Le c (s ∷ S) (x ∷ X)
+around-close : {Le : Relation} {c s x : Simple} {B S X : PregroupType} → Contracts Le s x → Around Le c B S X → Around Le c B (s ∷ S) (x ∷ X)
 around-close k (around r v) = around (close k r) v
-around-close k (before b r) = before (under b) (close k r)
+around-close k (before u r) = before (under u) (close k r)
 
-run-around : {Le : Relation} {c : Simple} {S X : PregroupType} → Run Le S X (c ∷ []) → Around Le c S X
+run-around : {Le : Relation} {c : Simple} {B S X : PregroupType} → Run Le S X (c ∷ B) → Around Le c B S X
 run-around stop = before alone stop
 run-around (put r) = around-put (run-around r)
 run-around (close k r) = around-close k (run-around r)
+
+-- Opened Le c B X: X is L c R, where a run over L leaves B open and R vanishes.
+data Opened (Le : Relation) (c : Simple) (B : PregroupType) : PregroupType → Type 0 where
+  opens : {L R : PregroupType} → Run Le [] L B → Vanish Le R → Opened Le c B (L ++ (c ∷ R))
+
+opened : {Le : Relation} {c : Simple} {B X : PregroupType} → Around Le c B [] X → Opened Le c B X
+opened (around r v) = opens r v
+opened (before u r) = elim u [ ]
 
 -- Decomposed Le a X: X is L c R, where c could contract with a, and L and R vanish.
 pub data Decomposed (Le : Relation) (a : Simple) : PregroupType → Type 0 where
   at : {L R : PregroupType} {c : Simple} → Vanish Le L → Contracts Le c a → Vanish Le R → Decomposed Le a (L ++ (c ∷ R))
 
-decomposed : {Le : Relation} {a c : Simple} {X : PregroupType} → Contracts Le c a → Around Le c [] X → Decomposed Le a X
-decomposed k (around r v) = at (vanish-of-run r) k v
-decomposed k (before b r) = elim b [ ]
+decomposed : {Le : Relation} {a c : Simple} {X : PregroupType} → Contracts Le c a → Opened Le c [] X → Decomposed Le a X
+decomposed k (opens r v) = at (vanish-of-run r) k v
 
 closed-by : {Le : Relation} {a : Simple} {S X : PregroupType} → Run Le [] X S → Run Le S (a ∷ []) [] → Decomposed Le a X
 closed-by r (put k) = elim k [ ]
-closed-by r (close k stop) = decomposed k (run-around r)
+closed-by r (close k stop) = decomposed k (opened (run-around r))
 
 -- Right decomposition: if X a vanishes, a closes some c of X, and what stands before and behind c vanishes.
 pub vanish-last : {Le : Relation} {a : Simple} (X : PregroupType) → Vanish Le (X ++ (a ∷ [])) → Decomposed Le a X
 vanish-last X v = let h = run-cut X (run-of-vanish v []) in closed-by (h .1) (h .2)
+
+-- Border Le P X: no link crosses from P to X, and both vanish; or P is L p R and X is U z W, where the innermost link that crosses is from p
+-- to z, and L W vanishes.
+pub data Border (Le : Relation) : PregroupType → PregroupType → Type 0 where
+  apart : {P X : PregroupType} → Vanish Le P → Vanish Le X → Border Le P X
+  crossed :
+      (L W : PregroupType) {R U : PregroupType} {p z : Simple} → Vanish Le R → Vanish Le U → Contracts Le p z → Vanish Le (L ++ W)
+      → Border Le (L ++ (p ∷ R)) (U ++ (z ∷ W))
+
+module _ {Le : Relation} where
+  crossing : {s : Simple} {S P X : PregroupType} → Opened Le s S P → Closed Le (s ∷ S) X → Border Le P X
+  crossing (opens {L} r v) (top {W} u c w) = crossed L W v u c (vanish-of-run (run-append r (run-of-closed w)))
+
+  border-of-runs : {S P X : PregroupType} → Run Le [] P S → Run Le S X [] → Border Le P X
+  border-of-runs {S = []} r k = apart (vanish-of-run r) (vanish-of-run k)
+  border-of-runs {S = s ∷ S} r k = crossing (opened (run-around r)) (closed-of-run k)
+
+  vanish-of-border : {P X : PregroupType} → Border Le P X → Vanish Le (P ++ X)
+  vanish-of-border (apart p x) = vanish-append p x
+  vanish-of-border (crossed L W {p} v u c w) =
+      let h = run-cut L (run-of-vanish w []) in
+      let stack = h .0 in
+      vanish-of-run (run-append (run-append (h .1) (put (run-of-vanish v (p ∷ stack)))) (run-append (run-of-vanish u (p ∷ stack)) (close c (h .2))))
+
+  -- What vanishes, cut anywhere, by the innermost link that crosses the cut.
+  pub vanish-iff-border : (P X : PregroupType) → Vanish Le (P ++ X) ↔ Border Le P X
+  vanish-iff-border P X = (λ v. let h = run-cut P (run-of-vanish v []) in border-of-runs (h .1) (h .2), vanish-of-border)

@@ -1,0 +1,82 @@
+-- `chart::boundary_row` meets its contract: each turn joins the part of one slot.
+use native.Mathlib.Omega.{arith}
+use Prim.Native.Nat.{ℕ, _-_, _≤_}
+use Rattle.chart.specs.Chart.{SlotPart}
+use Rattle.chart.proofs.Gathering.{GatheredTo, gather-starts, gather-one, gather-ends, part-says}
+use Rattle.chart.proofs.boundary_row.Statement.{statement}
+use Rattle.chart.proofs.boundary_row.Tie as tie
+
+abbrev Inv-loop : tie.InvT-loop
+Inv-loop enters rows u from to row₀ s₀ row s = (from ≤ s) × GatheredTo (row .words) u (SlotPart enters rows from to) s
+
+abbrev μ-loop : tie.MeasureT-loop
+μ-loop enters rows u from to row₀ s₀ row s = to - s
+
+empty-requires : tie.Need-empty-requires Inv-loop μ-loop
+empty-requires c κs = omega arith
+
+put-requires : tie.Need-put-requires Inv-loop μ-loop
+put-requires c κs = omega arith
+
+-- The parts that are gathered.
+abbrev slot-part : tie.Start Inv-loop μ-loop → ℕ → ℕ → Type 0
+slot-part s = SlotPart (s .args .enters .now) (s .args .rows .now) (s .args .from) (s .args .to)
+
+loop-holds : tie.Need-loop-holds Inv-loop μ-loop
+loop-holds c =
+    let s = c .before .before .before .before in (
+      omega arith,
+      gather-starts (s .args .u) (slot-part s) _ _ (s .args .from) (c .before .empty .ensures) (c .put .ensures) (λ m v h p. omega (arith, p .from-on)),
+    )
+
+mul-unite : tie.Need-mul-unite Inv-loop μ-loop
+mul-unite c = omega arith
+
+shared-slice-read-unite : tie.Need-shared-slice-read-unite Inv-loop μ-loop
+shared-slice-read-unite c = omega arith
+
+cast-unite : tie.Need-cast-unite Inv-loop μ-loop
+cast-unite c = omega (arith, c .shared-slice-known3 .given (c .before .before .loop .s))
+
+unite-requires : tie.Need-unite-requires Inv-loop μ-loop
+unite-requires c κs = c .before .before .before .before .before .before .before .pre .1 .room (c .before .before .loop .s) (c .before .before .loop .inv .0) (c .before .loop-test .taken)
+
+add-s : tie.Need-add-s Inv-loop μ-loop
+add-s c = omega arith
+
+loop-less : tie.Need-loop-less Inv-loop μ-loop
+loop-less c = omega arith
+
+loop-again : tie.Need-loop-again Inv-loop μ-loop
+loop-again c =
+    let s = c .before .before .before .before .before .before .before .before in
+    let l = c .before .before .before .loop in (
+      omega arith,
+      gather-one (s .args .u) (slot-part s) (l .row .words) (c .unite .result .words) (l .s) (l .inv .1)
+          (part-says (c .unite .result .words) (c .unite .ensures)
+          (λ v. (λ b. record { from-on = l .inv .0; before = c .before .before .loop-test .taken; behind = b }, λ p. p .behind))),
+    )
+
+returns : tie.Need-returns Inv-loop μ-loop
+returns c =
+    let s = c .before .before .before .before .before .before in
+    let l = c .before .loop in
+    gather-ends (s .args .u) (slot-part s) (l .row .words) (l .s) (λ m v p. omega (arith, p .before)) (l .inv .1)
+
+pub boundary-row-spec : {M : Type 1} → statement M
+boundary-row-spec =
+    tie.close
+    (tie.spec
+    Inv-loop
+    μ-loop
+    empty-requires
+    put-requires
+    loop-holds
+    mul-unite
+    shared-slice-read-unite
+    cast-unite
+    unite-requires
+    add-s
+    loop-less
+    loop-again
+    returns)

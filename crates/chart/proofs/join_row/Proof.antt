@@ -1,0 +1,69 @@
+-- `chart::join_row` meets its contract: nothing is joined where y is a boundary or does not contract, and otherwise the row behind it is.
+use borrow.Author.Needs.{needs}
+use native.Mathlib.Omega.{arith}
+use mathlib.Core.Path.{sym, _∙_}
+use mathlib.Core.Bool.{true≢false}
+use Rattle.chart.proofs.Gathering.{part-says, none-says}
+use Rattle.chart.proofs.join_row.Statement.{statement}
+use Rattle.chart.proofs.join_row.Tie as tie
+
+mul-next : tie.Need-mul-next
+mul-next c = search needs
+
+shared-slice-read-next : tie.Need-shared-slice-read-next
+shared-slice-read-next c = search needs
+
+returns : tie.Need-returns
+returns c =
+    let a = c .before .before .before .before .before .before .before .args in
+    none-says (a .row .words) (λ v j. omega (arith, j .simple))
+
+shared-slice-read-may-contract : tie.Need-shared-slice-read-may-contract
+shared-slice-read-may-contract c = search needs
+
+shared-slice-read-may-contract-2 : tie.Need-shared-slice-read-may-contract-2
+shared-slice-read-may-contract-2 c = search needs
+
+shared-slice-read-may-contract-3 : tie.Need-shared-slice-read-may-contract-3
+shared-slice-read-may-contract-3 c = search needs
+
+shared-slice-read-may-contract-4 : tie.Need-shared-slice-read-may-contract-4
+shared-slice-read-may-contract-4 c = search needs
+
+may-contract-requires : tie.Need-may-contract-requires
+may-contract-requires c κs = search needs
+
+cast-unite : tie.Need-cast-unite
+cast-unite c = search needs
+
+unite-requires : tie.Need-unite-requires
+unite-requires c κs = search needs
+
+returns-2 : tie.Need-returns-2
+returns-2 c =
+    let may = c .before .before .may-contract .ensures in
+    part-says (c .unite .result .words) (c .unite .ensures)
+    (λ v. (λ b. record { simple = omega arith; contracts = may .0 (c .before .if2 .taken); behind = b }, λ j. j .behind))
+
+returns-3 : tie.Need-returns-3
+returns-3 c =
+    let a = c .before .before .before .before .before .before .before .before .before .before .before .before .before .args in
+    let may = c .before .may-contract .ensures in
+    none-says (a .row .words) (λ v j. true≢false (sym (may .1 (j .contracts)) ∙ c .if2 .left))
+
+pub join-row-spec : {M : Type 1} → statement M
+join-row-spec =
+    tie.close
+    (tie.spec
+    mul-next
+    shared-slice-read-next
+    returns
+    shared-slice-read-may-contract
+    shared-slice-read-may-contract-2
+    shared-slice-read-may-contract-3
+    shared-slice-read-may-contract-4
+    may-contract-requires
+    cast-unite
+    unite-requires
+    returns-2
+    returns-3)

@@ -1,0 +1,107 @@
+// Which stretches of a line vanish. A line is a graph whose nodes are numbered from left to right; for each node the chart holds, as a row of
+// bits, the nodes to which some path spells a string that vanishes.
+pub mod rows;
+
+use rows::Row;
+ghost use mathlib.Core.Logic.{_⊎_};
+ghost use Prim.Native.Nat.{_<_};
+ghost use lib.ListN.{getD};
+ghost use Rattle.pregroup.specs.Held.{InRows};
+ghost use Rattle.chart.specs.Rows.{InRow, HasRow, RowSays, rowBits};
+ghost use Rattle.chart.specs.Graph.{graph};
+ghost use Rattle.chart.specs.Chart.{FilledFrom, Fillable, Gathered, SlotPart, SlotsThere, Joined, LinkPart, NodeThere, LinksThere};
+
+// The row of boundary u: itself, and what the rows of the nodes have that its slots enter.
+fn boundary_row(enters: &[u16], rows: &[u64], u: usize, from: usize, to: usize) -> Row
+    requires { ⌜ u < rowBits ⌝ }
+    requires { ⌜ SlotsThere (now enters) (now rows) from to ⌝ }
+    ensures { λ r. ⌜ RowSays (r .words) 0 (Gathered u (SlotPart (now (enters .entry)) (now (rows .entry)) from to)) ⌝ }
+{
+    let mut row = rows::put(rows::empty(), u);
+    let mut s = from;
+    while s < to {
+        row = rows::unite(row, rows, enters[s] as usize);
+        s += 1;
+    }
+    row
+}
+
+// The row with that of the node behind y, where y is simple and u may contract with it.
+fn join_row(
+    order: &[u64],
+    bases: &[u8],
+    exponents: &[u8],
+    nexts: &[u16],
+    rows: &[u64],
+    row: Row,
+    u: usize,
+    y: usize,
+) -> Row
+    requires { ⌜ NodeThere (now bases) (now exponents) (now nexts) u ⌝ }
+    requires { ⌜ NodeThere (now bases) (now exponents) (now nexts) y × HasRow (now rows) (getD (now nexts) y 0) ⌝ }
+    ensures { λ r. ⌜ RowSays (r .words) 0 (λ v. InRow (row .words) 0 v
+        ⊎ Joined (InRows (now (order .entry))) (now (bases .entry)) (now (exponents .entry)) (now (nexts .entry)) (now (rows .entry)) u y v) ⌝ }
+{
+    let next = nexts[y];
+    if next == 0 {
+        return row;
+    }
+    if pregroup::may_contract(order, bases[u], exponents[u], bases[y], exponents[y]) {
+        return rows::unite(row, rows, next as usize);
+    }
+    row
+}
+
+// The row of the simple node u: itself, and what it can be linked past.
+fn simple_row(
+    order: &[u64],
+    bases: &[u8],
+    exponents: &[u8],
+    nexts: &[u16],
+    rows: &[u64],
+    u: usize,
+) -> Row
+    requires { ⌜ u < rowBits ⌝ }
+    requires { ⌜ LinksThere (now bases) (now exponents) (now nexts) (now rows) u ⌝ }
+    ensures { λ r. ⌜ RowSays (r .words) 0
+        (Gathered u (LinkPart (InRows (now (order .entry))) (now (bases .entry)) (now (exponents .entry)) (now (nexts .entry)) (now (rows .entry)) u)) ⌝ }
+{
+    let behind = nexts[u] as usize;
+    let mut row = rows::put(rows::empty(), u);
+    let mut y = rows::next_member(rows, behind, 0);
+    while y < rows::ROW_BITS {
+        row = join_row(order, bases, exponents, nexts, rows, row, u, y);
+        y = rows::next_member(rows, behind, y + 1);
+    }
+    row
+}
+
+// Fills the row of each node, from the last one down.
+pub fn fill(
+    order: &[u64],
+    count: usize,
+    bases: &[u8],
+    exponents: &[u8],
+    nexts: &[u16],
+    froms: &[u16],
+    tos: &[u16],
+    enters: &[u16],
+    rows: &mut [u64],
+)
+    requires { ⌜ Fillable (graph count (now bases) (now exponents) (now nexts) (now froms) (now tos) (now enters)) (now rows) ⌝ }
+    ensures { λ _. ⌜ FilledFrom (InRows (now (order .entry)))
+        (graph count (now (bases .entry)) (now (exponents .entry)) (now (nexts .entry)) (now (froms .entry)) (now (tos .entry)) (now (enters .entry)))
+        (now (rows .exit)) 0 ⌝ }
+{
+    let mut u = count;
+    while 0 < u {
+        u -= 1;
+        if nexts[u] == 0 {
+            let row = boundary_row(enters, rows, u, froms[u] as usize, tos[u] as usize);
+            rows::store(rows, u, row);
+        } else {
+            let row = simple_row(order, bases, exponents, nexts, rows, u);
+            rows::store(rows, u, row);
+        }
+    }
+}

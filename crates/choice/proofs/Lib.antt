@@ -1,0 +1,2 @@
+-- The laws of gathered sets.
+pub mod SetLaws

@@ -1,0 +1,69 @@
+-- `choice::sets::links_to` meets its contract: by the three tests in turn.
+use borrow.Author.Needs.{needs}
+use native.Mathlib.Omega.{arith}
+use mathlib.Core.Path.{sym, _∙_}
+use mathlib.Core.Bool.{true≢false}
+use Rattle.pregroup.proofs.HeldLaws.{false-iff}
+use Rattle.choice.specs.Sets.{LinksTo}
+use Rattle.choice.proofs.sets.links_to.Statement.{statement}
+use Rattle.choice.proofs.sets.links_to.Tie as tie
+
+mul-next : tie.Need-mul-next
+mul-next c = search needs
+
+shared-slice-read-next : tie.Need-shared-slice-read-next
+shared-slice-read-next c = search needs
+
+returns : tie.Need-returns
+returns c = false-iff (λ (l : LinksTo _ _ _ _ _ _ _ _). omega (arith, l .simple))
+
+shared-slice-read-may-contract : tie.Need-shared-slice-read-may-contract
+shared-slice-read-may-contract c = search needs
+
+shared-slice-read-may-contract-2 : tie.Need-shared-slice-read-may-contract-2
+shared-slice-read-may-contract-2 c = search needs
+
+shared-slice-read-may-contract-3 : tie.Need-shared-slice-read-may-contract-3
+shared-slice-read-may-contract-3 c = search needs
+
+shared-slice-read-may-contract-4 : tie.Need-shared-slice-read-may-contract-4
+shared-slice-read-may-contract-4 c = search needs
+
+may-contract-requires : tie.Need-may-contract-requires
+may-contract-requires c κs = search needs
+
+cast-member : tie.Need-cast-member
+cast-member c = omega (arith, c .before .before .before .before .before .before .before .shared-slice-known6 .given (c .before .before .before .before .before .before .before .before .before .before .before .before .before .args .u))
+
+member-requires : tie.Need-member-requires
+member-requires c κs = search needs
+
+returns-2 : tie.Need-returns-2
+returns-2 c =
+    let may = c .before .before .may-contract .ensures in
+    let member = c .member .ensures in (
+      λ h. record { simple = omega arith; contracts = may .0 (c .before .if2 .taken); behind = member .0 h },
+      λ l. member .1 (l .behind),
+    )
+
+returns-3 : tie.Need-returns-3
+returns-3 c =
+    let may = c .before .may-contract .ensures in
+    false-iff (λ l. true≢false (sym (may .1 (l .contracts)) ∙ c .if2 .left))
+
+pub links-to-spec : {M : Type 1} → statement M
+links-to-spec =
+    tie.close
+    (tie.spec
+    mul-next
+    shared-slice-read-next
+    returns
+    shared-slice-read-may-contract
+    shared-slice-read-may-contract-2
+    shared-slice-read-may-contract-3
+    shared-slice-read-may-contract-4
+    may-contract-requires
+    cast-member
+    member-requires
+    returns-2
+    returns-3)

@@ -1,0 +1,19 @@
+-- `choice::sets::put_where` meets its contract: by the flag, one member more or none.
+use borrow.Author.Needs.{needs}
+use mathlib.Core.Path.{sym, _∙_}
+use mathlib.Core.Bool.{false≢true}
+use Rattle.chart.proofs.Gathering.{part-says, none-says}
+use Rattle.choice.proofs.sets.put_where.Statement.{statement}
+use Rattle.choice.proofs.sets.put_where.Tie as tie
+
+put-requires : tie.Need-put-requires
+put-requires c κs = search needs
+
+returns : tie.Need-returns
+returns c = let flag = c .before .if1 .taken in part-says (c .put .result .words) (c .put .ensures) (λ v. (λ e. (e, flag), λ p. p .0))
+
+returns-2 : tie.Need-returns-2
+returns-2 c = let a = c .before .args in none-says (a .row .words) (λ v p. false≢true (sym (c .if1 .left) ∙ p .1))
+
+pub put-where-spec : {M : Type 1} → statement M
+put-where-spec = tie.close (tie.spec put-requires returns returns-2)

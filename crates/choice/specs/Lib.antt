@@ -1,0 +1,2 @@
+-- What is gathered from rows, and what the rows of a chosen string mean.
+pub mod Sets

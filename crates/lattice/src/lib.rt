@@ -1,0 +1,1 @@
+// The words of a line as a graph.
