@@ -71,14 +71,14 @@ module _ {Le : Relation} {g : Graph} where
   finishes-iff-completable b last = (completable-of-finishes b last, finishes-of-completable)
 
 -- Two entries from one node are the same.
-data SameEntry (T : PregroupType) (b : ℕ) : PregroupType → ℕ → Type 0 where
+pub data SameEntry (T : PregroupType) (b : ℕ) : PregroupType → ℕ → Type 0 where
   same-entry : SameEntry T b T b
 
 same-more : {x y : Simple} {T R : PregroupType} {b c : ℕ} → x ≡ y → SameEntry T b R c → SameEntry (x ∷ T) b (y ∷ R) c
 same-more e same-entry = rw e same-entry
 
 module _ {g : Graph} where
-  entry-same : {u b c : ℕ} {T R : PregroupType} → Entry g u T b → Entry g u R c → SameEntry T b R c
+  pub entry-same : {u b c : ℕ} {T R : PregroupType} → Entry g u T b → Entry g u R c → SameEntry T b R c
   entry-same (ended b) (ended h) = same-entry
   entry-same (ended b) (more m r) = absurd (omega (arith, m .simple))
   entry-same (more l t) (ended h) = absurd (omega (arith, l .simple))

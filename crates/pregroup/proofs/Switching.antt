@@ -2,15 +2,16 @@
 -- `switching`: a chain leads from X to s exactly when X is L q R with L and R vanishing, q plain and q ≤ s;
 -- `switching-contractions`: a string reaches s exactly when contractions alone bring it to some plain q with q ≤ s.
 -- The general theorem makes the first of a chain, the right decomposition finds q, and contracting L and R away leaves it.
-use mathlib.Core.Path.{_≡_, sym, subst}
+use mathlib.Core.Path.{_≡_, refl, sym, subst}
 use mathlib.Core.Logic.{_↔_}
-use mathlib.Core.List.{List, [], _∷_, _++_, append-nil}
+use mathlib.Core.List.{List, [], _∷_, _++_, append-nil, append-assoc}
 use lib.IntN.{ℤ, pos}
 use Rattle.pregroup.specs.Types.{Basic, Simple, PregroupType, _⁽_⁾, plain, adjointBy, even}
 use Rattle.pregroup.specs.Order.{Relation, Fits, IsOrder, none, more}
 use Rattle.pregroup.specs.Steps.{becomes, order-step, done, next, Chain, Contractions}
-use Rattle.pregroup.specs.Vanish.{Reduces, leaves}
+use Rattle.pregroup.specs.Vanish.{Vanish, empty, link, Reduces, leaves}
 use Rattle.pregroup.proofs.Exponents.{suc-injective}
+use Rattle.pregroup.proofs.Machine.{vanish-append}
 use Rattle.pregroup.proofs.VanishLaws.{Decomposed, at, vanish-last}
 use Rattle.pregroup.proofs.Chains.{chain-append, chain-of-contractions, contract-away}
 use Rattle.pregroup.proofs.General.{general}
@@ -22,6 +23,15 @@ leaves-plain {Le} {s} (at {L} {R} {c} l k r) =
     let e : c .exponent ≡ pos 0 = suc-injective (c .exponent) (pos 0) (sym (k .raised)) in
     let b : Le (c .base) s = subst (λ (z : ℤ). Fits Le z (c .base) s) e (k .fits) in
     subst (λ (z : ℤ). Reduces Le s (L ++ (c .base ⁽ z ⁾ ∷ R))) (sym e) (leaves (c .base) l b r)
+
+vanish-of-reduces : {Le : Relation} {s : Basic} {X : PregroupType} → Reduces Le s X → Vanish Le (X ++ (s ⁽ pos 1 ⁾ ∷ []))
+unfolding even
+vanish-of-reduces {s} (leaves q l b r) =
+    rw append-assoc (vanish-append l (link {x = plain q} {y = s ⁽ pos 1 ⁾} (record { raised = refl; fits = b }) r empty))
+
+-- X reduces to a plain type at or below s exactly when X with the right adjoint of a plain s behind it vanishes.
+pub reduces-iff-vanish : {Le : Relation} {s : Basic} (X : PregroupType) → Reduces Le s X ↔ Vanish Le (X ++ (s ⁽ pos 1 ⁾ ∷ []))
+reduces-iff-vanish X = (vanish-of-reduces, λ v. leaves-plain (vanish-last X v))
 
 -- Contractions alone leave the q of a reduction.
 contractions-of-reduces : {Le : Relation} {s : Basic} {X : PregroupType} → Reduces Le s X → (q : Basic) × Contractions Le X (plain q ∷ []) × Le q s

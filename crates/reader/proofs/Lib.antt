@@ -1,2 +1,3 @@
 -- Theorems on what reading a line comes to.
 pub mod Table
+pub mod Selection
