@@ -62,7 +62,7 @@ formed-next bytes offsets types n at room f all i h = go (ℕ-discrete i n)
     go (no d) = rw (getD-set-other offsets n i at 0 d) (all i (omega (arith, d)))
 
 -- One pair more.
-listed-more :
+pub listed-more :
     (pairs : List Pair) (a b p q : ℕ) → Listed (pairs ++ (record { lower = a; upper = b } ∷ [])) p q ↔ (Listed pairs p q ⊎ ((p ≡ a) × (q ≡ b)))
 listed-more pairs a b p q = (
   λ m.

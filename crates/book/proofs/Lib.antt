@@ -10,5 +10,6 @@ pub mod NoFault
 pub mod Keeping
 pub mod Scanning
 pub mod Checking
+pub mod Accepted
 pub mod PaperBooks
 pub mod Examples

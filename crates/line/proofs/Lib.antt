@@ -3,3 +3,4 @@ pub mod WordLaws
 pub mod SplitLaws
 pub mod LookUpLaws
 pub mod LineLaws
+pub mod Passed

@@ -1,3 +1,4 @@
 -- Theorems on what reading a line comes to.
 pub mod Table
+pub mod Promises
 pub mod Selection

@@ -19,6 +19,7 @@ use Rattle.linking.specs.Linking.{IsLinking, firstLinking}
 use Rattle.linking.specs.Reading.{NumberedEntry, Words, Answer, firstEntry, firstBehind}
 use Rattle.linking.proofs.Reduction.{linking-iff-reduces}
 use Rattle.linking.proofs.FirstLinking.{first-linking-none}
+use Rattle.line.proofs.Passed.{AllKnown, known}
 use Rattle.chart.specs.Graph.{Graph, EntersBy, Enters, by, Path, here, take, enter}
 use Rattle.chart.specs.Completion.{Finishes, finishes, Boundary, Entry, Completes, completes}
 use Rattle.chart.proofs.Completion.{finishes-iff-behind}
@@ -77,11 +78,6 @@ module _ (rest : PregroupType → Option Answer) (X : PregroupType) where
       go b false q k ih = entry-cong e (slotted b es) es (ih b k)
       go true true q k ih = ih true k ∙ sym (skip-empty e es (empty-of-none (e .type) q) (k refl))
       go false true q k ih = keep-empty e (slotted true es) es (rest (X ++ [])) (empty-of-none (e .type) q) refl (λ z. ih true (λ r. z))
-
--- Every word has an entry.
-pub data AllKnown : Words → Type 0 where
-  empty : AllKnown []
-  known : {e : NumberedEntry} {es : List NumberedEntry} {words : Words} → AllKnown words → AllKnown ((e ∷ es) ∷ words)
 
 -- The answer for no more words, by the first linking.
 abbrev lastAnswer : Option (List ℕ) → Option Answer

@@ -1,0 +1,97 @@
+-- What holds of every line that breaks none of 11 to 14: its words are those of the definition, each has an entry, and the numbers of a
+-- word's entries ascend.
+use Prim.Native.Nat.{ℕ, _+_, _≤_, _<_}
+use native.Mathlib.Omega.{arith}
+use mathlib.Core.Path.{_≡_, refl, sym, ap, subst, _∙_}
+use mathlib.Core.Bool.{Bool, true, false, cond}
+use mathlib.Core.List.{List, [], _∷_, map, List·Memᴰ, List·Memᴰ·not-nil, List·Memᴰ·cases-cons}
+use mathlib.Core.Logic.{⊎-elim}
+use mathlib.Core.Option.{Option, none, some}
+use lib.Dec.{ltb}
+use borrow.Author.Tests.{ltb-false}
+use Rattle.linking.specs.Reading.{NumberedEntry, Words, Ascending, empty, more, AllAscending}
+use Rattle.book.specs.Format.{Bytes, Book, Entry}
+use Rattle.line.specs.Words.{Word, wordsOf}
+use Rattle.line.specs.LineFaults.{maxSimples, sameWord, entriesFrom, entriesOf, entriesOfLine, byteFault, wordFault, entryFault, isEmpty, simplesOfWords, LineCheck, passed, stopped, orElse, lineCheck}
+
+-- Every entry's number is n or more.
+abbrev NumbersFrom : ℕ → List NumberedEntry → Type 0
+NumbersFrom n es = (f : NumberedEntry) → List·Memᴰ f es → n ≤ f .number
+
+numbers-cons : (n : ℕ) (e : NumberedEntry) (es : List NumberedEntry) → n ≤ e .number → NumbersFrom n es → NumbersFrom n (e ∷ es)
+numbers-cons n e es h k f m = ⊎-elim (λ q. let same = ap (λ (x : NumberedEntry). x .number) q in omega arith) (λ l. k f l) (List·Memᴰ·cases-cons m)
+
+numbers-from : (n : ℕ) (entries : List Entry) (word : Bytes) → NumbersFrom n (entriesFrom n entries word)
+unfolding entriesFrom
+numbers-from n [] word = λ f m. absurd (List·Memᴰ·not-nil m)
+numbers-from n (e ∷ entries) word = go (sameWord (e .word) word) (λ f m. let h = numbers-from (n + 1) entries word f m in omega arith)
+  where
+    rest : List NumberedEntry
+    rest = entriesFrom (n + 1) entries word
+
+    go : (b : Bool) → NumbersFrom n rest → NumbersFrom n (cond b (record { number = n; type = e .type } ∷ rest) rest)
+    go true later = numbers-cons n (record { number = n; type = e .type }) rest (omega arith) later
+    go false later = later
+
+entries-ascend : (n : ℕ) (entries : List Entry) (word : Bytes) → Ascending (entriesFrom n entries word)
+unfolding entriesFrom
+entries-ascend n [] word = empty
+entries-ascend n (e ∷ entries) word = go (sameWord (e .word) word) (entries-ascend (n + 1) entries word)
+  where
+    rest : List NumberedEntry
+    rest = entriesFrom (n + 1) entries word
+
+    go : (b : Bool) → Ascending rest → Ascending (cond b (record { number = n; type = e .type } ∷ rest) rest)
+    go true a = more {e = record { number = n; type = e .type }} (λ f m. let h = numbers-from (n + 1) entries word f m in omega arith) a
+    go false a = a
+
+words-ascend : (B : Book) (words : List Word) → AllAscending (map (entriesOf B) words)
+words-ascend B [] = empty
+words-ascend B (w ∷ words) = more (entries-ascend 0 (B .entries) (w .bytes)) (words-ascend B words)
+
+-- Every word has an entry.
+pub data AllKnown : Words → Type 0 where
+  no-word : AllKnown []
+  known : {e : NumberedEntry} {es : List NumberedEntry} {words : Words} → AllKnown words → AllKnown ((e ∷ es) ∷ words)
+
+words-known : (B : Book) (words : List Word) → entryFault B words ≡ none → AllKnown (map (entriesOf B) words)
+unfolding entryFault
+words-known B [] h = no-word
+words-known B (w ∷ words) h = go (entriesOf B w) (λ k. words-known B words k) h
+  where
+    go : (es : List NumberedEntry) → (entryFault B words ≡ none → AllKnown (map (entriesOf B) words)) → cond (isEmpty es) (some (w .at)) (entryFault B words) ≡ none
+        → AllKnown (es ∷ map (entriesOf B) words)
+    go [] rest k = let z : _≡_ {A = ℕ} 0 1 = cc in absurd (omega arith)
+    go (e ∷ es) rest k = known (rest k)
+
+-- What a line that passes comes to.
+pub record Passing (B : Book) (line : Bytes) (words : Words) : Type 0 where
+  pub words-are : words ≡ entriesOfLine B line
+  pub known-words : AllKnown words
+  pub ascending : AllAscending words
+  pub few : simplesOfWords words ≤ maxSimples
+
+-- Passing an `orElse` is passing the test and what comes next.
+past : (number : ℕ) (o : Option ℕ) (next : LineCheck) {words : Words} → orElse number o next ≡ passed words → (o ≡ none) × (next ≡ passed words)
+past number none next h = (refl, h)
+past number (some v) next h = let z : _≡_ {A = ℕ} 0 1 = cc in absurd (omega arith)
+
+last-test : (over : Bool) (ws words : Words) → cond over (stopped 14 0) (passed ws) ≡ passed words → (over ≡ false) × (words ≡ ws)
+last-test true ws words h = let z : _≡_ {A = ℕ} 0 1 = cc in absurd (omega arith)
+last-test false ws words h = (refl, cc)
+
+pub line-passing : (B : Book) (line : Bytes) (words : Words) → lineCheck B line ≡ passed words → Passing B line words
+unfolding lineCheck
+line-passing B line words h =
+    let ws = entriesOfLine B line in
+    let full = cond (ltb maxSimples (simplesOfWords ws)) (stopped 14 0) (passed ws) in
+    let in-range = past 11 (byteFault 0 line) (orElse 12 (wordFault 0 (wordsOf line)) (orElse 13 (entryFault B (wordsOf line)) full)) h in
+    let cut = past 12 (wordFault 0 (wordsOf line)) (orElse 13 (entryFault B (wordsOf line)) full) (in-range .1) in
+    let each = past 13 (entryFault B (wordsOf line)) full (cut .1) in
+    let fits = last-test (ltb maxSimples (simplesOfWords ws)) ws words (each .1) in
+    record {
+      words-are = fits .1;
+      known-words = subst AllKnown (sym (fits .1)) (words-known B (wordsOf line) (each .0));
+      ascending = subst AllAscending (sym (fits .1)) (words-ascend B (wordsOf line));
+      few = subst (λ (w : Words). simplesOfWords w ≤ maxSimples) (sym (fits .1)) (ltb-false _ _ (fits .0));
+    }
