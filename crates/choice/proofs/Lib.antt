@@ -1,2 +1,3 @@
 -- The laws of gathered sets.
 pub mod SetLaws
+pub mod Growing

@@ -1,12 +1,14 @@
 -- What the functions of this crate gather from rows, in terms of rows alone. `specs/Grown.antt` says what the rows mean.
 use Prim.Native.Nat.{ℕ, _+_, _-_, _≤_, _<_}
+use mathlib.Core.Path.{_≡_}
 use mathlib.Core.List.{List}
 use lib.ListN.{getD, length}
 use Rattle.pregroup.specs.Types.{Simple}
 use Rattle.pregroup.specs.Order.{Relation}
 use Rattle.pregroup.specs.Vanish.{Contracts}
 use Rattle.pregroup.specs.Held.{held}
-use Rattle.chart.specs.Rows.{rowBits, InRow, HasRow}
+use Rattle.chart.specs.Rows.{rowBits, InRow, HasRow, RowSays}
+use Rattle.chart.specs.Chart.{Gathered}
 
 -- The simple type of a node.
 abbrev pub heldAt : List ℕ → List ℕ → ℕ → Simple
@@ -77,3 +79,31 @@ PlacesUpTo backs j = (m : ℕ) → InRow backs j m → m ≤ j
 -- Some part has y.
 pub data SomePart (Part : ℕ → ℕ → Type 0) (y : ℕ) : Type 0 where
   some : (m : ℕ) → Part m y → SomePart Part y
+
+-- Some node in row y is one that p, chosen behind a prefix of j, may be linked to.
+pub data ReachesLink (Le : Relation) (bases exponents nexts rows comps : List ℕ) (count j p y : ℕ) : Type 0 where
+  reaches : (u : ℕ) → InRow rows y u → Among count (LinksTo Le bases exponents nexts comps j p) u → ReachesLink Le bases exponents nexts rows comps count j p y
+
+-- The three lists of rows, with row j + 1 of each made of the rows before: where a new link may lead, which stretches end behind place j, and
+-- from where the prefix of j + 1 is finished. The other rows are kept.
+pub record Grew (Le : Relation) (bases exponents nexts rows picked : List ℕ) (count j : ℕ) (backs outs comps backs′ outs′ comps′ : List ℕ) : Type 0 where
+  pub outs-new : RowSays outs′ (j + 1) (Among count (ReachesLink Le bases exponents nexts rows comps count j (getD picked j 0)))
+  pub outs-kept : (m : ℕ) → (m ≡ j + 1 → ⊥) → RowSays outs′ m (InRow outs m)
+  pub outs-length : length outs′ ≡ length outs
+  pub backs-new : RowSays backs′ (j + 1) (Gathered (j + 1) (BackPart Le bases exponents picked backs j))
+  pub backs-kept : (i : ℕ) → (i ≡ j + 1 → ⊥) → RowSays backs′ i (InRow backs i)
+  pub backs-length : length backs′ ≡ length backs
+  pub comps-new : RowSays comps′ (j + 1) (SomePart (OutPart backs′ outs′ (j + 1)))
+  pub comps-kept : (i : ℕ) → (i ≡ j + 1 → ⊥) → RowSays comps′ i (InRow comps i)
+  pub comps-length : length comps′ ≡ length comps
+
+-- What growing asks.
+pub record Growable (bases exponents nexts rows picked : List ℕ) (count j : ℕ) (backs outs comps : List ℕ) : Type 0 where
+  pub nodes : NodesHeld bases exponents nexts count
+  pub rows-there : RowsThere rows count
+  pub node : getD picked j 0 < count
+  pub places : PlacesHeld bases exponents picked backs j
+  pub up-to : (i : ℕ) → i ≤ j → PlacesUpTo backs i
+  pub backs-room : HasRow backs (j + 1)
+  pub outs-room : (m : ℕ) → m ≤ j + 1 → HasRow outs m
+  pub comps-room : (i : ℕ) → i ≤ j + 1 → HasRow comps i
