@@ -1,3 +1,4 @@
 -- The laws of gathered sets.
 pub mod SetLaws
 pub mod Growing
+pub mod Grown
