@@ -11,7 +11,7 @@ use Rattle.pregroup.specs.Order.{Relation}
 use Rattle.chart.specs.Rows.{RowSays}
 use Rattle.chart.specs.Graph.{Graph, labelOf, Labelled, Upward}
 use Rattle.chart.specs.Chart.{FilledFrom, Gathered, itself, within}
-use Rattle.chart.specs.Completion.{Finishes, Reaches}
+use Rattle.chart.specs.Completion.{Finishes, Reaches, reaches as comes-to}
 use Rattle.chart.specs.Prefixes.{simpleAt, Stretch, LinkedStretch, Leaving, whole, linked}
 use Rattle.chart.proofs.RowLaws.{same-or-not}
 use Rattle.chart.proofs.Recurrence.{van-iff-vanish}

@@ -1,4 +1,5 @@
 -- The laws of gathered sets.
 pub mod SetLaws
 pub mod Growing
+pub mod Searching
 pub mod Grown

@@ -107,3 +107,32 @@ pub record Growable (bases exponents nexts rows picked : List ℕ) (count j : �
   pub backs-room : HasRow backs (j + 1)
   pub outs-room : (m : ℕ) → m ≤ j + 1 → HasRow outs m
   pub comps-room : (i : ℕ) → i ≤ j + 1 → HasRow comps i
+
+-- Row 0 of each list, before anything is chosen: place 0, and the nodes from which a string that vanishes leads to the end.
+pub record Started (rows : List ℕ) (count end : ℕ) (backs outs comps backs′ outs′ comps′ : List ℕ) : Type 0 where
+  pub backs-new : RowSays backs′ 0 (λ i. i ≡ 0)
+  pub backs-length : length backs′ ≡ length backs
+  pub outs-new : RowSays outs′ 0 (Among count (λ y. InRow rows y end))
+  pub outs-length : length outs′ ≡ length outs
+  pub comps-new : RowSays comps′ 0 (Among count (λ y. InRow rows y end))
+  pub comps-length : length comps′ ≡ length comps
+
+-- What starting asks.
+pub record Startable (rows : List ℕ) (count : ℕ) (backs outs comps : List ℕ) : Type 0 where
+  pub rows-there : RowsThere rows count
+  pub backs-room : HasRow backs 0
+  pub outs-room : HasRow outs 0
+  pub comps-room : HasRow comps 0
+
+-- r is the first of the slots from `from` to before `to` from whose node the prefix of n is finished, by some member of row n of `backs`; or
+-- it is `to`, or more, where there is none.
+pub record FirstSlot (enters backs outs : List ℕ) (n from to r : ℕ) : Type 0 where
+  pub from-on : from ≤ r
+  pub found : r < to → SomePart (OutPart backs outs n) (getD enters r 0)
+  pub none : (s : ℕ) → from ≤ s → s < r → SomePart (OutPart backs outs n) (getD enters s 0) → ⊥
+
+-- What the search asks.
+pub record Searchable (enters backs outs : List ℕ) (n to : ℕ) : Type 0 where
+  pub slots : to ≤ length enters
+  pub back-room : HasRow backs n
+  pub out-room : OutsThere backs outs n

@@ -3,7 +3,26 @@ mod sets;
 
 use chart::rows;
 ghost use Rattle.pregroup.specs.Held.{InRows};
-ghost use Rattle.choice.specs.Sets.{Grew, Growable};
+ghost use Rattle.choice.specs.Sets.{Started, Startable, Grew, Growable, FirstSlot, Searchable};
+
+// Makes the rows of the empty prefix.
+fn start(
+    rows: &[u64],
+    count: usize,
+    end: usize,
+    backs: &mut [u64],
+    outs: &mut [u64],
+    comps: &mut [u64],
+)
+    requires { ⌜ Startable (now rows) count (now backs) (now outs) (now comps) ⌝ }
+    ensures { λ _. ⌜ Started (now (rows .entry)) count end (now (backs .entry)) (now (outs .entry)) (now (comps .entry))
+        (now (backs .exit)) (now (outs .exit)) (now (comps .exit)) ⌝ }
+{
+    let ends = sets::column(rows, count, end);
+    rows::store(backs, 0, rows::put(rows::empty(), 0));
+    rows::store(outs, 0, ends);
+    rows::store(comps, 0, ends);
+}
 
 // Makes the rows of one simple type more, that at place j.
 fn grow(
@@ -40,4 +59,32 @@ fn grow(
         sets::back_row(order, bases, exponents, picked, backs, j),
     );
     rows::store(comps, j + 1, sets::finished_row(backs, outs, j + 1));
+}
+
+// The first slot from whose node the prefix of n is finished: a search over slots and over the places that part the prefix into what is
+// left open and what vanishes, left from inside once one is found.
+fn first_slot(
+    enters: &[u16],
+    backs: &[u64],
+    outs: &[u64],
+    n: usize,
+    from: usize,
+    to: usize,
+) -> usize
+    requires { ⌜ Searchable (now enters) (now backs) (now outs) n to ⌝ }
+    ensures { λ r. ⌜ FirstSlot (now (enters .entry)) (now (backs .entry)) (now (outs .entry)) n from to r ⌝ }
+{
+    let mut s = from;
+    'search: while s < to {
+        let node = enters[s] as usize;
+        let mut m = rows::next_member(backs, n, 0);
+        while m < rows::ROW_BITS {
+            if rows::member(outs, m, node) {
+                break 'search;
+            }
+            m = rows::next_member(backs, n, m + 1);
+        }
+        s += 1;
+    }
+    s
 }
