@@ -3,3 +3,4 @@ pub mod SetLaws
 pub mod Growing
 pub mod Searching
 pub mod Grown
+pub mod Choosing

@@ -3,6 +3,8 @@ mod sets;
 
 use chart::rows;
 ghost use Rattle.pregroup.specs.Held.{InRows};
+ghost use Rattle.chart.specs.Graph.{graph};
+ghost use Rattle.choice.specs.First.{Roomy, Choosable, Chose};
 ghost use Rattle.choice.specs.Sets.{Started, Startable, Grew, Growable, FirstSlot, Searchable};
 
 // Makes the rows of the empty prefix.
@@ -87,4 +89,74 @@ fn first_slot(
         s += 1;
     }
     s
+}
+
+// How many words the choice has, and how many simple types.
+pub struct Chosen {
+    pub words: usize,
+    pub places: usize,
+}
+
+// The first choice of a line that reads: the slot of each word into `slots`, and the nodes of its simple types into `picked`. The other three
+// buffers are for rows on the way.
+pub fn choose(
+    order: &[u64],
+    count: usize,
+    bases: &[u8],
+    exponents: &[u8],
+    nexts: &[u16],
+    froms: &[u16],
+    tos: &[u16],
+    enters: &[u16],
+    rows: &[u64],
+    end: usize,
+    picked: &mut [u16],
+    slots: &mut [u16],
+    backs: &mut [u64],
+    outs: &mut [u64],
+    comps: &mut [u64],
+) -> Chosen
+    requires { ⌜ Choosable (InRows (now order)) (graph count (now bases) (now exponents) (now nexts) (now froms) (now tos) (now enters)) (now rows) end ⌝ }
+    requires { ⌜ Roomy count (now picked) (now slots) (now backs) (now outs) (now comps) ⌝ }
+    ensures { λ r. ⌜ Chose (InRows (now (order .entry)))
+        (graph count (now (bases .entry)) (now (exponents .entry)) (now (nexts .entry)) (now (froms .entry)) (now (tos .entry)) (now (enters .entry)))
+        (now (picked .exit)) (now (slots .exit)) end (r .words) (r .places) ⌝ }
+{
+    start(rows, count, end, backs, outs, comps);
+    let mut u = 0;
+    let mut words = 0;
+    let mut places = 0;
+    while u != end {
+        if nexts[u] == 0 {
+            let slot = first_slot(
+                enters,
+                backs,
+                outs,
+                places,
+                froms[u] as usize,
+                tos[u] as usize,
+            );
+            slots[words] = slot as u16;
+            words += 1;
+            u = enters[slot] as usize;
+        } else {
+            picked[places] = u as u16;
+            grow(
+                order,
+                bases,
+                exponents,
+                nexts,
+                rows,
+                count,
+                picked,
+                places,
+                backs,
+                outs,
+                comps,
+            );
+            places += 1;
+            u = nexts[u] as usize;
+        }
+    }
+    Chosen { words, places }
 }
