@@ -19,11 +19,11 @@ pub record Among (n : ℕ) (Q : ℕ → Type 0) (v : ℕ) : Type 0 where
   pub below : v < n
   pub holds : Q v
 
--- v and w share the rows' members: some node is in row u and in the set.
+-- Row u and the set have a member in common.
 pub data Meets (rows : List ℕ) (u : ℕ) (words : List ℕ) : Type 0 where
   meets : (v : ℕ) → InRow rows u v → InRow words 0 v → Meets rows u words
 
--- Rows that are walked: those of the first n nodes are there, and n is not too large for a row.
+-- The rows of the first n nodes are there, and a row has room for as many members.
 pub record RowsThere (rows : List ℕ) (n : ℕ) : Type 0 where
   pub few : n ≤ rowBits
   pub room : (u : ℕ) → u < n → HasRow rows u
