@@ -35,7 +35,7 @@ module _ {Le : Relation} {g : Graph} (up : Upward g) where
       let last = label-up up (van-within (on .1) s) m in
       omega (arith, van-after (on .1) s, van-after (last .1) t)
 
-contracts-at : {Le : Relation} {x y a b : Simple} → x ≡ a → y ≡ b → Contracts Le x y → Contracts Le a b
+pub contracts-at : {Le : Relation} {x y a b : Simple} → x ≡ a → y ≡ b → Contracts Le x y → Contracts Le a b
 contracts-at e f c = rw (← e, ← f) c
 
 module _ (Le : Relation) (g : Graph) (rows : List ℕ) (up : Upward g) (room : (u : ℕ) → u < g .count → HasRow rows u) (u : ℕ) (small : u < g .count) where

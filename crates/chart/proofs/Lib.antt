@@ -1,4 +1,4 @@
--- The laws of rows.
+-- The laws of rows, the recurrence that fills them, and the theorems on completion and on the first choice.
 pub mod RowLaws
 pub mod Gathering
 pub mod Recurrence

@@ -1,4 +1,4 @@
--- Rows of nodes, the graph of a line, and what the rows are to hold.
+-- Rows of nodes, the graph of a line, what the chart's rows hold, and how a fixed prefix is completed.
 pub mod Rows
 pub mod Graph
 pub mod Chart

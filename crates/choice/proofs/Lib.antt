@@ -1,2 +1,6 @@
--- The laws of gathered sets.
+-- The laws of gathered sets, of the search for a slot, of the rows that grow with the chosen string, and of the walk that chooses.
 pub mod SetLaws
+pub mod Growing
+pub mod Searching
+pub mod Grown
+pub mod Choosing

@@ -1,2 +1,4 @@
--- What is gathered from rows, and what the rows of a chosen string mean.
+-- What is gathered from rows, what the rows of a chosen string mean, and what the first choice asks and gives.
 pub mod Sets
+pub mod Grown
+pub mod First
