@@ -124,3 +124,8 @@ with-members word q k =
     let either = or-members word (2 ^ q) k in
     let power = power-members q k in
     (λ h. ⊎-elim inl (λ m. inr (power .0 m)) (either .0 h), ⊎-elim (λ m. either .1 (inl m)) (λ e. either .1 (inr (power .1 e))))
+
+-- The members of `word >> q`: those from q on, lowered by q.
+pub shifted-members : (word q : ℕ) → Members (word / 2 ^ q) (λ k. Has word (q + k))
+unfolding bit
+shifted-members word q k = let same = ap (λ (n : ℕ). n % 2) (shr-shr word q k) in (λ h. sym same ∙ h, λ h. same ∙ h)

@@ -1,5 +1,5 @@
 // Sets of small numbers in one 64-bit word: bit q is 1 where q is a member. The layers above hold the order, and sets of basic types, so.
-ghost use Prim.Native.Nat.{_<_};
+ghost use Prim.Native.Nat.{_+_, _<_};
 ghost use mathlib.Core.Path.{_≡_};
 ghost use mathlib.Core.Logic.{_↔_, _⊎_};
 ghost use mathlib.Core.Bool.{true};
@@ -35,6 +35,14 @@ pub fn minus(a: u64, b: u64) -> u64
     ensures { λ r. ⌜ Members r (λ k. Has a k × (Has b k → ⊥)) ⌝ }
 {
     a ^ (a & b)
+}
+
+// The members from q on, lowered by q.
+pub fn above(word: u64, q: u8) -> u64
+    requires { ⌜ q < 64 ⌝ }
+    ensures { λ r. ⌜ Members r (λ k. Has word (q + k)) ⌝ }
+{
+    word >> q
 }
 
 // The lowest member of a set that has one.
