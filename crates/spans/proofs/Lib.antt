@@ -1,0 +1,6 @@
+-- The laws of rows, of the string's stretches and of the table.
+pub mod RowLaws
+pub mod Gathering
+pub mod Walking
+pub mod Stretches
+pub mod Table
