@@ -4,3 +4,9 @@ pub mod Gathering
 pub mod Walking
 pub mod Stretches
 pub mod Table
+pub mod Choosing
+pub mod Writing
+pub mod Searching
+pub mod LinkSteps
+pub mod Reducing
+pub mod FirstLinked

@@ -1,3 +1,4 @@
--- Rows of indices, and the table of what vanishes.
+-- Rows of indices, the table of what vanishes, and the first linking.
 pub mod Rows
 pub mod Spans
+pub mod Links

@@ -1,5 +1,6 @@
 // Which stretches of one chosen string vanish. The string is lent as its bytes; for each k the table holds, as a row of bits, the indices from
 // which the stretch up to k vanishes. It grows by one simple type at a time.
+pub mod links;
 pub mod rows;
 
 use rows::Row;
