@@ -1,20 +1,20 @@
 -- What the rows say of a link is what the greedy argument asks: the nearest that the code finds is the nearest candidate.
 use Prim.Native.Nat.{ℕ, suc, _+_, _-_, _≤_, _<_}
 use native.Mathlib.Omega.{arith}
-use mathlib.Core.Path.{_≡_, refl, sym, ap, _∙_}
-use mathlib.Core.Logic.{_↔_, _⊎_, inl, inr, ⊎-elim}
+use mathlib.Core.Path.{_≡_}
+use mathlib.Core.Logic.{_↔_, _⊎_, ⊎-elim}
 use mathlib.Core.List.{List}
-use lib.ListN.{getD, length}
+use lib.ListN.{length}
 use lib.Seq.{slice}
-use Rattle.pregroup.specs.Types.{Basic, Simple, PregroupType, plain}
+use Rattle.pregroup.specs.Types.{Basic, PregroupType, plain}
 use Rattle.pregroup.specs.Order.{Relation}
-use Rattle.pregroup.specs.Vanish.{Contracts, Vanish}
+use Rattle.pregroup.specs.Vanish.{Vanish}
 use Rattle.linking.specs.Linking.{simpleAt, stretch}
 use Rattle.linking.proofs.Linked.{Linked, nothing, linked, linked-stretch}
 use Rattle.linking.proofs.Greedy.{Candidate, Stay, VanishBehind, ReducesFrom, Nearest, candidate-of-link}
 use Rattle.spans.specs.Rows.{rowBits, InRow}
-use Rattle.spans.specs.Spans.{heldAt, stringOf, ContractsAt, Span, Right}
-use Rattle.spans.specs.Links.{Remains, Closes, MayLink, NearestLink, ReducingRow}
+use Rattle.spans.specs.Spans.{heldAt, stringOf, ContractsAt, Right}
+use Rattle.spans.specs.Links.{MayLink, NearestLink, ReducingRow}
 use Rattle.spans.proofs.RowLaws.{less-or-not}
 use Rattle.spans.proofs.Stretches.{length-string, string-at}
 

@@ -1,11 +1,11 @@
 -- What is written is the first linking: the m partners from `at` on link the string greedily, and so are what `firstLinking` gives.
-use Prim.Native.Nat.{ℕ, suc, _+_, _-_, _≤_, _<_}
+use Prim.Native.Nat.{ℕ, _+_, _-_, _≤_}
 use native.Mathlib.Omega.{arith}
-use mathlib.Core.Path.{_≡_, refl, sym, ap, ap₂, _∙_}
-use mathlib.Core.Logic.{_↔_, _⊎_, inl, inr}
+use mathlib.Core.Path.{_≡_, sym, ap, ap₂, _∙_}
+use mathlib.Core.Logic.{inl, inr}
 use mathlib.Core.Option.{some}
 use mathlib.Core.List.{List, _++_}
-use lib.ListN.{getD, length, take, drop, length-drop, take-append-drop}
+use lib.ListN.{length, take, drop, length-drop, take-append-drop}
 use lib.Seq.{length-take-le, getD-take, getD-drop, drop-drop, ext-getD}
 use Rattle.pregroup.specs.Types.{Basic, PregroupType}
 use Rattle.pregroup.specs.Order.{Relation}
@@ -14,7 +14,6 @@ use Rattle.pregroup.specs.Tests.{Test, Decides}
 use Rattle.linking.specs.Linking.{partner, firstLinking}
 use Rattle.linking.proofs.Positions.{linking-iff-parted}
 use Rattle.linking.proofs.Reduction.{linking-iff-reduces}
-use Rattle.linking.proofs.Linked.{Link}
 use Rattle.linking.proofs.Greedy.{ReducesFrom, GreedyFrom, stays, links, greedy-agree, parted-of-greedy, reduces-of-parted}
 use Rattle.linking.proofs.FirstLinking.{first-linking-greedy}
 use Rattle.spans.specs.Rows.{HasRow, RowSays}

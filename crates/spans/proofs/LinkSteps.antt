@@ -9,7 +9,7 @@ use Rattle.pregroup.specs.Types.{Basic}
 use Rattle.pregroup.specs.Order.{Relation}
 use Rattle.linking.proofs.Greedy.{Stay, VanishBehind, ReducesFrom}
 use Rattle.spans.specs.Rows.{InRow}
-use Rattle.spans.specs.Spans.{maxString, stringOf, StringThere, Right}
+use Rattle.spans.specs.Spans.{maxString, stringOf, StringThere}
 use Rattle.spans.specs.Links.{Stays, NearestLink, EndsThere, LinkingThere, ReducingThere}
 use Rattle.spans.proofs.Table.{right-of-string}
 use Rattle.spans.proofs.Stretches.{length-string}

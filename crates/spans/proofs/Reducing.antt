@@ -1,8 +1,8 @@
 -- Where the string reduces to the target: what the rows say of the position that stays unlinked is what the greedy argument asks.
 use Prim.Native.Nat.{ℕ, suc, _+_, _-_, _≤_, _<_}
 use native.Mathlib.Omega.{arith}
-use mathlib.Core.Path.{_≡_, refl, sym, ap}
-use mathlib.Core.Logic.{_↔_, _⊎_, ⊎-elim, Iff·trans}
+use mathlib.Core.Path.{_≡_, sym, ap}
+use mathlib.Core.Logic.{_↔_, Iff·trans}
 use mathlib.Core.List.{List}
 use lib.IntN.{pos}
 use lib.ListN.{length}
@@ -13,7 +13,7 @@ use Rattle.linking.specs.Linking.{simpleAt, stretch}
 use Rattle.linking.proofs.Stretches.{stretch-empty}
 use Rattle.linking.proofs.Greedy.{Stay, ReducesFrom}
 use Rattle.spans.specs.Rows.{InRow, RowSays}
-use Rattle.spans.specs.Spans.{heldAt, stringOf, Right, MemberPart, Gathered, itself, within}
+use Rattle.spans.specs.Spans.{stringOf, Right, MemberPart, Gathered, itself, within}
 use Rattle.spans.specs.Links.{Remains, Stays, ReducingRow}
 use Rattle.spans.proofs.Stretches.{length-string}
 use Rattle.spans.proofs.Choosing.{simple-at-index, span-iff}

@@ -48,6 +48,15 @@ module _ (bases exponents : List ℕ) where
   pub slice-string : (i k m n : ℕ) → k ≤ m → k ≤ n → slice i k (stringOf bases exponents m) ≡ slice i k (stringOf bases exponents n)
   slice-string i k m n h g = ap (drop i) (take-string k m h ∙ sym (take-string k n g))
 
+-- The string goes by its own simple types only: those behind it may change.
+pub string-agrees :
+    (bases exponents bases′ exponents′ : List ℕ) (n : ℕ) → ((i : ℕ) → i < n → heldAt bases exponents i ≡ heldAt bases′ exponents′ i)
+    → stringOf bases exponents n ≡ stringOf bases′ exponents′ n
+unfolding stringOf
+string-agrees bases exponents bases′ exponents′ zero same = refl
+string-agrees bases exponents bases′ exponents′ (suc n) same =
+    rw (string-agrees bases exponents bases′ exponents′ n (λ i h. same i (omega arith)), same n (omega arith))
+
 -- The last simple type of a stretch that vanishes, at k, closes the one at i; what stands between them and before i vanishes.
 pub data LastLink (Le : Relation) (X : PregroupType) (v k : ℕ) : Type 0 where
   closes :

@@ -2,15 +2,15 @@
 -- the new one could close over what vanishes, all that its row has.
 use Prim.Native.Nat.{ℕ, suc, _+_, _-_, _≤_, _<_}
 use native.Mathlib.Omega.{arith}
-use mathlib.Core.Path.{_≡_, refl, sym, ap, _∙_}
-use mathlib.Core.Logic.{_↔_, _⊎_, inl, inr, ⊎-elim, Iff·trans}
-use mathlib.Core.List.{List, []}
+use mathlib.Core.Path.{_≡_, sym, ap, _∙_}
+use mathlib.Core.Logic.{_↔_, _⊎_, ⊎-elim, Iff·trans}
+use mathlib.Core.List.{List}
 use lib.ListN.{getD, length, take, drop}
 use lib.Seq.{slice, slice-empty, take-take}
-use Rattle.pregroup.specs.Types.{Simple, PregroupType, plain}
+use Rattle.pregroup.specs.Types.{PregroupType, plain}
 use Rattle.pregroup.specs.Order.{Relation}
 use Rattle.pregroup.specs.Vanish.{Contracts, Vanish, empty}
-use Rattle.spans.specs.Rows.{InRow, RowSays, Stored}
+use Rattle.spans.specs.Rows.{RowSays, Stored}
 use Rattle.spans.specs.Spans.{stringOf, ContractsAt, Span, Right, MemberPart, Gathered, itself, within}
 use Rattle.spans.proofs.RowLaws.{less-or-not}
 use Rattle.spans.proofs.Stretches.{length-string, take-string, string-at, LastLink, closes, last-link, last-closed}

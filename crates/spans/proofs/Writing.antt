@@ -3,15 +3,15 @@ use Prim.Native.Nat.{ℕ, suc, _+_, _-_, _≤_, _<_}
 use native.Mathlib.Omega.{arith}
 use mathlib.Core.Path.{_≡_, refl, sym, ap, _∙_}
 use mathlib.Core.Logic.{_⊎_, inl, inr, ⊎-elim}
-use mathlib.Core.List.{List, _++_}
-use lib.ListN.{getD, length, take, drop, set, length-set}
-use lib.Seq.{getD-drop, getD-take, getD-set-same, getD-set-other}
+use mathlib.Core.List.{List}
+use lib.ListN.{getD, length, drop, set, length-set}
+use lib.Seq.{getD-drop, getD-set-same, getD-set-other}
 use Rattle.pregroup.specs.Types.{Basic, PregroupType}
 use Rattle.pregroup.specs.Order.{Relation}
 use Rattle.pregroup.specs.Vanish.{Contracts}
 use Rattle.linking.specs.Linking.{simpleAt, partner}
 use Rattle.linking.proofs.Linked.{Link}
-use Rattle.linking.proofs.Greedy.{Candidate, Stay, VanishBehind, ReducesFrom, Greedy, done, nearest, GreedyFrom, stays, links, greedy-agree}
+use Rattle.linking.proofs.Greedy.{Stay, VanishBehind, ReducesFrom, Greedy, done, nearest, GreedyFrom, stays, links, greedy-agree}
 use Rattle.spans.specs.Spans.{stringOf}
 use Rattle.spans.specs.Links.{withLink, Kept, LinkedWithin, LinkedFrom}
 use Rattle.spans.proofs.Stretches.{length-string}

@@ -14,6 +14,9 @@ ghost use Rattle.spans.specs.Spans.{stringOf, ContractsAt, Right, String
 // How many simple types a string has at most: 24 words of at most 12.
 pub const MAX_STRING: usize = 288;
 
+// How many words the table of the longest string takes: 289 rows.
+pub const TABLE_WORDS: usize = 1445;
+
 // The row with that of i, where the simple type at i could contract with the one at k.
 fn join_row(
     order: &[u64],

@@ -2,7 +2,7 @@
 // else takes the nearest partner that leaves the rest linkable. Partners count from 1.
 use crate::rows;
 use crate::rows::Row;
-ghost use Prim.Native.Nat.{suc, _+_, _<_, _≤_};
+ghost use Prim.Native.Nat.{_+_, _<_};
 ghost use mathlib.Core.Path.{_≡_};
 ghost use mathlib.Core.Logic.{_↔_, _⊎_};
 ghost use mathlib.Core.Bool.{true};

@@ -1,8 +1,8 @@
 -- `spans::begin` meets its contract: one member is stored.
 use borrow.Author.Needs.{needs}
-use Rattle.spans.proofs.Gathering.{alone-says}
 use mathlib.Core.Path.{refl}
 use mathlib.Core.Logic.{Iff·trans}
+use Rattle.spans.proofs.Gathering.{alone-says}
 use Rattle.spans.proofs.begin.Statement.{statement}
 use Rattle.spans.proofs.begin.Tie as tie
 

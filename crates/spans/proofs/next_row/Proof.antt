@@ -1,6 +1,6 @@
 -- `spans::next_row` meets its contract: its loop is the walk of proofs/Walking.antt over row k.
+use Prim.Native.Nat.{suc, _-_}
 use native.Mathlib.Omega.{arith}
-use Prim.Native.Nat.{ℕ, suc, _+_, _-_, _≤_}
 use mathlib.Core.Path.{_≡_}
 use Rattle.pregroup.specs.Held.{InRows}
 use Rattle.spans.specs.Rows.{rowBits}

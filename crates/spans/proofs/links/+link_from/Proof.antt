@@ -1,8 +1,14 @@
 -- `spans::links::link_from` meets its contract, by recursion on the length of what is left of the string.
-use native.Mathlib.Omega.{arith}
-use Prim.Native.Nat.{ℕ, _+_, _-_, _<_}
 use borrow.Fn.Kinds.{In}
 use borrow.Fn.PlainCycle.{Measures, is, falls, and}
+use Prim.Native.Nat.{ℕ, _+_, _-_, _<_}
+use native.Mathlib.Omega.{arith}
+use mathlib.Core.Path.{_≡_, sym, _∙_}
+use mathlib.Core.Bool.{true≢false}
+use Rattle.pregroup.specs.Held.{InRows}
+use Rattle.spans.specs.Links.{Stays}
+use Rattle.spans.proofs.LinkSteps.{LinkStep, there-within, from-inside, reducing-ends-there, reducing-from, from-stays, from-chosen, from-step}
+use Rattle.spans.proofs.Writing.{linked-stay, linked-from}
 use Rattle.spans.proofs.links.link_from.Reads as link-from
 use Rattle.spans.proofs.links.link_from.Kinds as link-from-kinds
 use Rattle.spans.proofs.links.+link_from.Lts-link_from as link-from-lts
@@ -11,12 +17,6 @@ use Rattle.spans.proofs.links.may_stay.Reads as may-stay-reads
 use Rattle.spans.proofs.links.nearest.Reads as nearest-reads
 use Rattle.spans.proofs.links.write_link.Reads as write-link-reads
 use Rattle.spans.proofs.links.write_stay.Reads as write-stay-reads
-use mathlib.Core.Path.{_≡_, sym, _∙_}
-use mathlib.Core.Bool.{true≢false}
-use Rattle.pregroup.specs.Held.{InRows}
-use Rattle.spans.specs.Links.{Stays}
-use Rattle.spans.proofs.LinkSteps.{LinkStep, there-within, from-inside, reducing-ends-there, reducing-from, from-stays, from-chosen, from-step}
-use Rattle.spans.proofs.Writing.{linked-stay, linked-from}
 use Rattle.spans.proofs.links.+link_from.{statement}
 use Rattle.spans.proofs.links.+link_from.Tie.{close}
 

@@ -1,16 +1,16 @@
 -- `spans::links::link_within` meets its contract, by recursion on the length of the stretch.
-use native.Mathlib.Omega.{arith}
-use Prim.Native.Nat.{ℕ, _-_, _<_}
 use borrow.Fn.Kinds.{In}
 use borrow.Fn.PlainCycle.{Measures, is, falls, and}
+use Prim.Native.Nat.{ℕ, _-_, _<_}
+use native.Mathlib.Omega.{arith}
+use mathlib.Core.Path.{_≡_, _∙_}
+use Rattle.spans.proofs.LinkSteps.{LinkStep, there-within, row-ends-there, within-chosen, within-step}
+use Rattle.spans.proofs.Writing.{linked-none, linked-within}
 use Rattle.spans.proofs.links.link_within.Reads as link-within
 use Rattle.spans.proofs.links.link_within.Kinds as link-within-kinds
 use Rattle.spans.proofs.links.+link_within.Lts-link_within as link-within-lts
 use Rattle.spans.proofs.links.nearest.Reads as nearest-reads
 use Rattle.spans.proofs.links.write_link.Reads as write-link-reads
-use Rattle.spans.proofs.LinkSteps.{LinkStep, there-within, row-ends-there, within-chosen, within-step}
-use mathlib.Core.Path.{_≡_, _∙_}
-use Rattle.spans.proofs.Writing.{linked-none, linked-within}
 use Rattle.spans.proofs.links.+link_within.{statement}
 use Rattle.spans.proofs.links.+link_within.Tie.{close}
 

@@ -1,11 +1,11 @@
 -- `spans::links::first_linking` meets its contract: the row of indices from which the string reduces, and the linking from the first one on.
 use borrow.Author.Needs.{needs}
-use native.Mathlib.Omega.{arith}
 use Prim.Native.Nat.{ℕ}
-use Rattle.spans.proofs.FirstLinked.{reducing-there, first-linked}
+use native.Mathlib.Omega.{arith}
 use mathlib.Core.Path.{_≡_, sym, _∙_}
 use lib.ListN.{length, length-map}
 use Rattle.spans.specs.Rows.{rowWords}
+use Rattle.spans.proofs.FirstLinked.{reducing-there, first-linked}
 use Rattle.spans.proofs.links.first_linking.Statement.{statement}
 use Rattle.spans.proofs.links.first_linking.Tie as tie
 

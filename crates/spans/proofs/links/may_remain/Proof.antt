@@ -1,6 +1,5 @@
 -- `spans::links::may_remain` meets its contract: the raised exponent is the bias, and the rows are asked.
 use borrow.Author.Needs.{needs}
-use mathlib.Core.Path.{sym, _∙_}
 use Rattle.pregroup.proofs.HeldLaws.{held-plain, false-iff}
 use Rattle.spans.proofs.links.may_remain.Statement.{statement}
 use Rattle.spans.proofs.links.may_remain.Tie as tie

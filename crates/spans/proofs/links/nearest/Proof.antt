@@ -1,6 +1,6 @@
 -- `spans::links::nearest` meets its contract: its loop is the search of proofs/Searching.antt.
-use native.Mathlib.Omega.{arith}
 use Prim.Native.Nat.{_-_}
+use native.Mathlib.Omega.{arith}
 use mathlib.Core.Path.{sym, _∙_}
 use mathlib.Core.Bool.{true≢false}
 use Rattle.pregroup.specs.Held.{InRows}

@@ -1,6 +1,6 @@
 -- `spans::links::reducing_row` meets its contract: its loop is the walk of proofs/Walking.antt over row m.
-use native.Mathlib.Omega.{arith}
 use Prim.Native.Nat.{_-_}
+use native.Mathlib.Omega.{arith}
 use Rattle.pregroup.specs.Held.{InRows}
 use Rattle.spans.specs.Rows.{rowBits}
 use Rattle.spans.specs.Links.{Remains}

@@ -1,6 +1,6 @@
 -- `spans::rows::next_member` meets its contract: each turn passes one word, or finds its lowest member.
-use native.Mathlib.Omega.{arith}
 use Prim.Native.Nat.{_+_, _-_, _*_, _/_}
+use native.Mathlib.Omega.{arith}
 use mathlib.Core.Path.{_≡_}
 use Rattle.spans.specs.Rows.{rowBits}
 use Rattle.spans.proofs.RowLaws.{Walked, walk-starts, walk-on, walk-finds, walk-ends}

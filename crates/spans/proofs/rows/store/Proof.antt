@@ -1,6 +1,6 @@
 -- `spans::rows::store` meets its contract: word by word.
-use native.Mathlib.Omega.{arith}
 use Prim.Native.Nat.{_*_, _-_, _≤_}
+use native.Mathlib.Omega.{arith}
 use mathlib.Core.Path.{_≡_}
 use Rattle.spans.specs.Rows.{rowWords}
 use Rattle.spans.proofs.RowLaws.{Storing, store-starts, store-one, store-ends}

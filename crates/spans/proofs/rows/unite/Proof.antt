@@ -1,6 +1,6 @@
 -- `spans::rows::unite` meets its contract: word by word.
-use native.Mathlib.Omega.{arith}
 use Prim.Native.Nat.{ℕ, _*_, _-_, _≤_}
+use native.Mathlib.Omega.{arith}
 use mathlib.Core.Path.{_≡_, sym, _∙_}
 use lib.ListN.{length-map}
 use Rattle.spans.specs.Rows.{rowWords}
