@@ -9,7 +9,7 @@ use lib.Seq.{slice, slice-empty, slice-cons, length-slice, take-take, drop-appen
 use Rattle.pregroup.specs.Types.{PregroupType, plain}
 use Rattle.linking.specs.Linking.{simpleAt, stretch}
 
-slice-append : (X : PregroupType) (f k t : ℕ) → f ≤ k → k ≤ t → t ≤ length X → slice f t X ≡ slice f k X ++ slice k t X
+pub slice-append : (X : PregroupType) (f k t : ℕ) → f ≤ k → k ≤ t → t ≤ length X → slice f t X ≡ slice f k X ++ slice k t X
 slice-append X f k t h g b =
     let front : f ≤ length (take k X) = rw (length-take-le k X (omega arith)) h in
     ap (drop f) (sym (rw (take-take k t X g) at (take-append-drop k (take t X)))) ∙ drop-append-le f (take k X) (slice k t X) front

@@ -51,3 +51,7 @@ module _ (Le : Relation) (a b x y : ℕ) where
 -- A `false` that is right to say no.
 pub false-iff : {A : Type 0} → (A → ⊥) → (false ≡ true) ↔ A
 false-iff never = (λ h. absurd (false≢true h), λ a. absurd (never a))
+
+-- A held simple type is plain exactly when its raised exponent is the bias.
+pub held-plain : (x : ℕ) → (pos x -ℤ pos bias ≡ pos 0) ↔ (x ≡ bias)
+held-plain x = (λ e. bias-injective x bias e, λ e. rw e)
