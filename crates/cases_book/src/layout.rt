@@ -20,15 +20,32 @@ use book::layout::wide;
 pub fn rows(buf: &mut Space) {
     first_book(buf);
     second_book(buf);
-    kinds(buf);
-    body_lengths(buf);
-    name_lengths(buf);
-    name_bytes(buf);
-    word_lengths(buf);
-    word_bytes(buf);
-    simple_types(buf);
+    heads(buf);
+    names(buf);
+    entries(buf);
     pair_bodies(buf);
     target_bodies(buf);
+}
+
+fn heads(buf: &mut Space) {
+    kinds(buf);
+    kinds_of_two_bytes(buf);
+    body_lengths(buf);
+}
+
+fn names(buf: &mut Space) {
+    name_lengths(buf);
+    name_bytes(buf);
+    bytes_not_in_names(buf);
+}
+
+fn entries(buf: &mut Space) {
+    word_lengths(buf);
+    words_not_there(buf);
+    word_bytes(buf);
+    more_word_bytes(buf);
+    simple_types(buf);
+    odd_rests(buf);
 }
 
 // Puts the types o, p, w, u and the pair u ≤ w, 26 bytes.
@@ -40,31 +57,51 @@ fn paper_types(buf: &mut Space) -> usize {
     pair(buf, at, 3, 2)
 }
 
-// Puts entries 0 to 8, 119 bytes.
-fn paper_entries(buf: &mut Space, at: usize) -> usize {
+// Puts entries 0 to 4, 70 bytes.
+fn early_entries(buf: &mut Space, at: usize) -> usize {
     let at = record(buf, at, ENTRY, b"\x05fetch\x00\x00\x01\xff");
     let at = record(buf, at, ENTRY, b"\x05fetch\x00\x00\x02\xff\x01\xff");
     let at = record(buf, at, ENTRY, b"\x04bed4\x01\x00");
     let at = record(buf, at, ENTRY, b"\x05ward7\x03\x00");
-    let at = record(buf, at, ENTRY, b"\x08urgently\x00\x01\x00\x00");
+    record(buf, at, ENTRY, b"\x08urgently\x00\x01\x00\x00")
+}
+
+// Puts entries 5 to 8, 49 bytes.
+fn late_entries(buf: &mut Space, at: usize) -> usize {
     let at = record(buf, at, ENTRY, b"\x05admit\x00\x00\x03\xff");
     let at = record(buf, at, ENTRY, b"\x04site\x02\x00");
     let at = record(buf, at, ENTRY, b"\x02go\x00\x00");
     record(buf, at, ENTRY, b"\x06please\x00\x00\x00\xff")
 }
 
-// The first book of 150 bytes, and cuts of it. Its last record stands at 135, its target at 26.
+// Puts entries 0 to 8, 119 bytes.
+fn paper_entries(buf: &mut Space, at: usize) -> usize {
+    let at = early_entries(buf, at);
+    late_entries(buf, at)
+}
+
+// The first book, 150 bytes, and cuts of it.
 fn first_book(buf: &mut Space) {
     let at = paper_types(buf);
     let at = target(buf, at);
     let at = paper_entries(buf, at);
     row(buf, b"first-book", at);
+    cuts_in_the_last_record(buf);
+    cuts_further_in_front(buf);
+}
+
+// The first book's last record stands at 135.
+fn cuts_in_the_last_record(buf: &Space) {
     row(buf, b"first-book-cut-by-one-byte", 149);
     row(buf, b"first-book-cut-behind-a-head", 139);
     row(buf, b"first-book-three-bytes-of-a-head", 138);
     row(buf, b"first-book-two-bytes-of-a-head", 137);
     row(buf, b"first-book-one-byte-of-a-head", 136);
     row(buf, b"first-book-without-its-last-record", 135);
+}
+
+// The first book's second entry stands at 45, its target at 26.
+fn cuts_further_in_front(buf: &Space) {
     row(buf, b"first-book-cut-in-a-word", 50);
     row(buf, b"first-book-without-entries", 31);
     row(buf, b"first-book-cut-in-its-target", 30);
@@ -82,18 +119,22 @@ fn second_book(buf: &mut Space) {
     row(buf, b"second-book", at);
 }
 
-// Kinds that are not listed, and kind 4, which is. Both bytes of the kind count.
+// Kinds that are not listed, and kind 4, which is.
 fn kinds(buf: &mut Space) {
     row_ending(buf, b"kind-0", 0, b"\x00");
     row_ending(buf, b"kind-4", 4, b"\x00");
     row_ending(buf, b"kind-5", 5, b"\x00");
+    row_ending(buf, b"kind-65535", 65535, b"\x00");
+    row_ending(buf, b"kind-0-without-a-body", 0, b"");
+}
+
+// Both bytes of the kind count.
+fn kinds_of_two_bytes(buf: &mut Space) {
     row_ending(buf, b"kind-256", 256, b"\x00");
     row_ending(buf, b"kind-257", 257, b"c");
     row_ending(buf, b"kind-258", 258, b"\x00\x01");
     row_ending(buf, b"kind-260", 260, b"\x00");
     row_ending(buf, b"kind-1024", 1024, b"\x00");
-    row_ending(buf, b"kind-65535", 65535, b"\x00");
-    row_ending(buf, b"kind-0-without-a-body", 0, b"");
 }
 
 // The row of a book of two types and a target with a body of so many zeros.
@@ -129,20 +170,24 @@ fn name_lengths(buf: &mut Space) {
     name_of(buf, b"name-of-257", 257);
 }
 
-// The bytes beside a to z and 0 to 9, and the first byte's own rule.
+// Letters and digits, a letter first.
 fn name_bytes(buf: &mut Space) {
     row_of(buf, b"name-letters-and-digits", BASIC_TYPE, b"az09");
     row_of(buf, b"name-z-first", BASIC_TYPE, b"z");
     row_of(buf, b"name-digit-first", BASIC_TYPE, b"9a");
     row_of(buf, b"name-capital-first", BASIC_TYPE, b"Aa");
     row_of(buf, b"name-capital-later", BASIC_TYPE, b"aZ");
+    row_of(buf, b"name-starts-as-another", BASIC_TYPE, b"ab");
+}
+
+// The bytes beside a to z and 0 to 9.
+fn bytes_not_in_names(buf: &mut Space) {
     row_of(buf, b"name-byte-96-first", BASIC_TYPE, b"\x60");
     row_of(buf, b"name-byte-96-later", BASIC_TYPE, b"a\x60");
     row_of(buf, b"name-byte-123-first", BASIC_TYPE, b"\x7b");
     row_of(buf, b"name-byte-123-later", BASIC_TYPE, b"a\x7b");
     row_of(buf, b"name-byte-47", BASIC_TYPE, b"a\x2f");
     row_of(buf, b"name-byte-58", BASIC_TYPE, b"a\x3a");
-    row_of(buf, b"name-starts-as-another", BASIC_TYPE, b"ab");
 }
 
 // The row of a book with an entry that gives its word a length and holds so many bytes behind it.
@@ -161,6 +206,10 @@ fn word_lengths(buf: &mut Space) {
     word_of(buf, b"word-of-31", 31, 31);
     word_of(buf, b"word-of-32", 32, 32);
     word_of(buf, b"word-of-255", 255, 255);
+}
+
+// A word longer than what the body holds behind its length, and a body that holds no word.
+fn words_not_there(buf: &mut Space) {
     word_of(buf, b"word-of-31-past-the-body", 31, 30);
     word_of(buf, b"word-of-1-past-the-body", 1, 0);
     row_of(buf, b"word-of-3-past-the-body", ENTRY, b"\x03go");
@@ -174,6 +223,10 @@ fn word_bytes(buf: &mut Space) {
     row_of(buf, b"word-byte-33", ENTRY, b"\x01\x21");
     row_of(buf, b"word-byte-126", ENTRY, b"\x01\x7e");
     row_of(buf, b"word-byte-127", ENTRY, b"\x01\x7f");
+}
+
+// Bytes that no word holds, and a word with a capital.
+fn more_word_bytes(buf: &mut Space) {
     row_of(buf, b"word-byte-0", ENTRY, b"\x01\x00");
     row_of(buf, b"word-byte-255", ENTRY, b"\x01\xff");
     row_of(buf, b"word-byte-32-last", ENTRY, b"\x03go\x20\x00\x00");
@@ -195,6 +248,10 @@ fn simple_types(buf: &mut Space) {
     type_part_of(buf, b"simple-types-1", 2);
     type_part_of(buf, b"simple-types-12", 24);
     type_part_of(buf, b"simple-types-13", 26);
+}
+
+// A type part of an odd length.
+fn odd_rests(buf: &mut Space) {
     type_part_of(buf, b"odd-rest-1", 1);
     type_part_of(buf, b"odd-rest-23", 23);
     type_part_of(buf, b"odd-rest-25", 25);

@@ -21,8 +21,14 @@ pub fn rows(buf: &mut Space) {
     lengths(buf);
     full_lengths(buf);
     zeros(buf);
+    numbers(buf);
+}
+
+fn numbers(buf: &mut Space) {
     exponents(buf);
-    declared(buf);
+    negative_exponents(buf);
+    declared_for_entries(buf);
+    declared_for_pairs_and_targets(buf);
     declared_of_64(buf);
     declared_later(buf);
 }
@@ -100,16 +106,12 @@ fn zeros(buf: &mut Space) {
     row(buf, b"zeros-65535", 65535);
 }
 
-// The bounds are -8 and 8, in two's complement.
+// The upper bound is 8.
 fn exponents(buf: &mut Space) {
     row_of(buf, b"exponent-0", ENTRY, b"\x02go\x00\x00");
     row_of(buf, b"exponent-8", ENTRY, b"\x02go\x00\x08");
     row_of(buf, b"exponent-9", ENTRY, b"\x02go\x00\x09");
     row_of(buf, b"exponent-127", ENTRY, b"\x02go\x00\x7f");
-    row_of(buf, b"exponent-minus-1", ENTRY, b"\x02go\x00\xff");
-    row_of(buf, b"exponent-minus-8", ENTRY, b"\x02go\x00\xf8");
-    row_of(buf, b"exponent-minus-9", ENTRY, b"\x02go\x00\xf7");
-    row_of(buf, b"exponent-minus-128", ENTRY, b"\x02go\x00\x80");
     row_of(
         buf,
         b"exponent-9-last",
@@ -118,11 +120,22 @@ fn exponents(buf: &mut Space) {
     );
 }
 
+// The lower bound is -8, in two's complement 248.
+fn negative_exponents(buf: &mut Space) {
+    row_of(buf, b"exponent-minus-1", ENTRY, b"\x02go\x00\xff");
+    row_of(buf, b"exponent-minus-8", ENTRY, b"\x02go\x00\xf8");
+    row_of(buf, b"exponent-minus-9", ENTRY, b"\x02go\x00\xf7");
+    row_of(buf, b"exponent-minus-128", ENTRY, b"\x02go\x00\x80");
+}
+
 // Two types are declared, 0 and 1.
-fn declared(buf: &mut Space) {
+fn declared_for_entries(buf: &mut Space) {
     row_of(buf, b"entry-type-1", ENTRY, b"\x02go\x01\x00");
     row_of(buf, b"entry-type-2", ENTRY, b"\x02go\x02\x00");
     row_of(buf, b"entry-type-255", ENTRY, b"\x02go\x00\x00\xff\x00");
+}
+
+fn declared_for_pairs_and_targets(buf: &mut Space) {
     row_of(buf, b"pair-0-2", PAIR, b"\x00\x02");
     row_of(buf, b"pair-2-0", PAIR, b"\x02\x00");
     row_ending(buf, b"target-2", TARGET, b"\x02");

@@ -17,15 +17,20 @@ struct Moves {
 }
 
 pub fn rows(buf: &mut Space) {
-    behind_all(buf);
-    two_pairs(buf);
-    three_types(buf);
-    types_behind(buf);
-    diamond(buf);
+    few_types(buf);
     chain(buf);
     chain_from_the_end(buf);
     stars(buf);
     two_cycles(buf);
+}
+
+fn few_types(buf: &mut Space) {
+    behind_all(buf);
+    two_pairs(buf);
+    three_types(buf);
+    one_end_in_common(buf);
+    types_behind(buf);
+    diamond(buf);
 }
 
 // A pair behind the target and the entries counts.
@@ -62,13 +67,17 @@ fn through(buf: &mut Space, label: &[u8], p: u8, q: u8, r: u8, s: u8) {
     row(buf, label, at);
 }
 
-// The order closes through each of three types, whichever pair comes first; two pairs with one end in common close to no more.
+// The order closes through each of three types, whichever pair comes first.
 fn three_types(buf: &mut Space) {
     through(buf, b"through-type-0", 1, 0, 0, 2);
     through(buf, b"through-type-1", 0, 1, 1, 2);
     through(buf, b"through-type-2", 0, 2, 2, 1);
     through(buf, b"through-type-1-later-pair-first", 1, 2, 0, 1);
     through(buf, b"through-type-2-later-pair-first", 2, 0, 1, 2);
+}
+
+// Two pairs with one end in common close to no more.
+fn one_end_in_common(buf: &mut Space) {
     through(buf, b"two-above-one", 0, 1, 0, 2);
     through(buf, b"two-below-one", 0, 2, 1, 2);
 }
