@@ -10,7 +10,7 @@ use Rattle.pregroup.specs.Types.{Simple, PregroupType}
 use Rattle.pregroup.specs.Order.{Relation}
 use Rattle.pregroup.specs.Vanish.{Vanish}
 use Rattle.chart.specs.Graph.{Graph, Labelled, EntersBy, by, Path, here, take, enter}
-use Rattle.chart.specs.Completion.{Finishes, finishes, Boundary, Entry, ended, more, Choice, done, choose, Completes, completes, Completable, by-choice, CompletableBy, by-slot, NotAfter, same, smaller, later, FirstChoice}
+use Rattle.chart.specs.Completion.{Finishes, finishes, Boundary, Entry, ended, more, Choice, done, choose, Completes, completes, Completable, by-choice, CompletableBy, by-slot, NotAfter, same, smaller, later, FirstChoice, Scanned, ends, takes}
 use Rattle.chart.proofs.Recurrence.{path-append}
 use Rattle.chart.proofs.Completion.{path-of-entry}
 use Rattle.chart.proofs.RowLaws.{less-or-not, same-or-not}
@@ -84,14 +84,6 @@ module _ {g : Graph} where
   entry-same (more l t) (ended h) = absurd (omega (arith, l .simple))
   entry-same {c} (more l t) (more {T = R} m r) =
       same-more (l .label ∙ sym (m .label)) (entry-same t (subst (λ (n : ℕ). Entry g n R c) (m .next ∙ sym (l .next)) r))
-
--- Slot by slot: at each boundary the first slot from whose first node P is finished, until the end.
-pub data Scanned (Le : Relation) (g : Graph) (end : ℕ) : PregroupType → ℕ → List ℕ → Type 0 where
-  ends : {P : PregroupType} → Vanish Le P → Scanned Le g end P end []
-  takes :
-      {P T : PregroupType} {u s w b : ℕ} {slots : List ℕ} → EntersBy g u s w → Entry g w T b
-      → ((r v : ℕ) → r < s → EntersBy g u r v → Finishes Le g P v end → ⊥) → Scanned Le g end (P ++ T) b slots
-      → Scanned Le g end P u (s ∷ slots)
 
 -- A choice stays where it is or leaves by a slot.
 data Leaves (g : Graph) : ℕ → List ℕ → PregroupType → ℕ → Type 0 where

@@ -62,3 +62,11 @@ pub data NotAfter : List ℕ → List ℕ → Type 0 where
 pub record FirstChoice (Le : Relation) (g : Graph) (P : PregroupType) (u : ℕ) (slots : List ℕ) (end : ℕ) : Type 0 where
   pub reads : Completes Le g P u slots end
   pub first : (others : List ℕ) → Completes Le g P u others end → NotAfter slots others
+
+-- Slot by slot: at each boundary the first slot from whose first node P is finished, until the end.
+pub data Scanned (Le : Relation) (g : Graph) (end : ℕ) : PregroupType → ℕ → List ℕ → Type 0 where
+  ends : {P : PregroupType} → Vanish Le P → Scanned Le g end P end []
+  takes :
+      {P T : PregroupType} {u s w b : ℕ} {slots : List ℕ} → EntersBy g u s w → Entry g w T b
+      → ((r v : ℕ) → r < s → EntersBy g u r v → Finishes Le g P v end → ⊥) → Scanned Le g end (P ++ T) b slots
+      → Scanned Le g end P u (s ∷ slots)

@@ -13,10 +13,10 @@ use Rattle.pregroup.specs.Order.{Relation}
 use Rattle.pregroup.specs.Vanish.{Vanish, empty}
 use Rattle.chart.specs.Rows.{InRow}
 use Rattle.chart.specs.Graph.{Graph, labelOf, Labelled, EntersBy, by, Path, here, take as takes-node, enter, VanishTo, along}
-use Rattle.chart.specs.Completion.{Finishes, finishes, Boundary, Entry, ended, more, Choice, done, choose}
+use Rattle.chart.specs.Completion.{Finishes, finishes, Boundary, Entry, ended, more, Choice, done, choose, Scanned, ends, takes}
 use Rattle.chart.specs.Prefixes.{simpleAt, Stretch, Leaving, whole, linked}
 use Rattle.chart.proofs.RowLaws.{less-or-not, same-or-not}
-use Rattle.chart.proofs.Choices.{Scanned, ends, takes, scanned-is-first}
+use Rattle.chart.proofs.Choices.{scanned-is-first}
 use Rattle.choice.specs.Sets.{Among, OutPart, SomePart, NodeHeld, Growable, Grew, Searchable, FirstSlot, Started}
 use Rattle.choice.specs.Grown.{chosen, Grown}
 use Rattle.choice.specs.First.{Roomy, Choosable, Chose}
@@ -238,14 +238,16 @@ module _ (Le : Relation) (g : Graph) (rows picked slots backs outs comps : List 
   end-closed : (s w : ℕ) → EntersBy g end s w → ⊥
   end-closed s w e = let on = pre .upward .enters-up end s w (omega (arith, pre .last)) e in omega (arith, pre .last)
 
-  scanned : Scanned Le g end [] 0 (take words slots)
-  scanned =
+  scan-whole : Scanned Le g end [] 0 (take words slots)
+  scan-whole =
       let v : Vanish Le (chosen g picked places) = vanish-at-end (pre .ends) end-closed (now .finished) in
       rw append-nil at (now .scan [] (rest (ended (pre .ends)) (ends (rw append-nil v))))
 
   pub chose : Chose Le g picked slots end words places
   chose = record {
-    first = scanned-is-first (pre .ends) end-closed scanned;
+    scanned = scan-whole;
+    first = scanned-is-first (pre .ends) end-closed scan-whole;
+    nodes = now .nodes;
     spelled = rw (append-nil, append-nil) at (now .spell [] [] (ahead (ended (pre .ends)) (done (pre .ends))));
   }
 

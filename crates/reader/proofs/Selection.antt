@@ -21,9 +21,9 @@ use Rattle.linking.proofs.Reduction.{linking-iff-reduces}
 use Rattle.linking.proofs.FirstLinking.{first-linking-none}
 use Rattle.line.proofs.Passed.{AllKnown, known}
 use Rattle.chart.specs.Graph.{Graph, EntersBy, Enters, by, Path, here, take, enter}
-use Rattle.chart.specs.Completion.{Finishes, finishes, Boundary, Entry, Completes, completes}
+use Rattle.chart.specs.Completion.{Finishes, finishes, Boundary, Entry, Completes, completes, Scanned, ends, takes}
 use Rattle.chart.proofs.Completion.{finishes-iff-behind}
-use Rattle.chart.proofs.Choices.{SameEntry, same-entry, entry-same, path-of-choice, Scanned, ends, takes, scanned-is-first}
+use Rattle.chart.proofs.Choices.{SameEntry, same-entry, entry-same, path-of-choice, scanned-is-first}
 use Rattle.lattice.specs.Layout.{hasNone, slotted, Slots, none as no-slot, slot, Laid, goal, word}
 
 -- An answer with one entry number more in front.
