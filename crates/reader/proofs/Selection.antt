@@ -6,10 +6,10 @@ use native.Mathlib.Decide.{ℕ-discrete}
 use mathlib.Core.Path.{_≡_, refl, sym, ap, subst, _∙_}
 use mathlib.Core.Logic.{_↔_, _⊎_, inl, inr, ⊎-elim}
 use mathlib.Core.Bool.{Bool, true, false, false≢true}
-use mathlib.Core.List.{List, [], _∷_, _++_, append-nil, append-assoc}
+use mathlib.Core.List.{List, [], _∷_, _++_, map, append-nil, append-assoc}
 use mathlib.Core.Option.{Option, none, some}
 use lib.IntN.{pos}
-use lib.ListN.{getD}
+use lib.ListN.{getD, length, take}
 use Rattle.pregroup.specs.Types.{Basic, PregroupType, _⁽_⁾}
 use Rattle.pregroup.specs.Order.{Relation}
 use Rattle.pregroup.specs.Vanish.{Vanish}
@@ -20,8 +20,8 @@ use Rattle.linking.specs.Reading.{NumberedEntry, Words, Answer, firstEntry, fir
 use Rattle.linking.proofs.Reduction.{linking-iff-reduces}
 use Rattle.linking.proofs.FirstLinking.{first-linking-none}
 use Rattle.line.proofs.Passed.{AllKnown, known}
-use Rattle.chart.specs.Graph.{Graph, EntersBy, Enters, by, Path, here, take, enter}
-use Rattle.chart.specs.Completion.{Finishes, finishes, Boundary, Entry, Completes, completes, Scanned, ends, takes}
+use Rattle.chart.specs.Graph.{Graph, EntersBy, Enters, by, Path, here, take as take-node, enter}
+use Rattle.chart.specs.Completion.{Finishes, finishes, Boundary, Entry, Choice, done, choose, Completes, completes, Scanned, ends, takes}
 use Rattle.chart.proofs.Completion.{finishes-iff-behind}
 use Rattle.chart.proofs.Choices.{SameEntry, same-entry, entry-same, path-of-choice, scanned-is-first}
 use Rattle.lattice.specs.Layout.{hasNone, slotted, Slots, none as no-slot, slot, Laid, goal, word}
@@ -116,7 +116,7 @@ module _ {le : Test} {Le : Relation} (decides : Decides le Le) (g : Graph) (numb
   -- From the end nothing more is spelt.
   vanish-of-end : {P : PregroupType} → Finishes Le g P end end → Vanish Le P
   vanish-of-end (finishes here v) = rw append-nil at v
-  vanish-of-end (finishes (take l p) v) = absurd (omega (arith, l .simple))
+  vanish-of-end (finishes (take-node l p) v) = absurd (omega (arith, l .simple))
   vanish-of-end (finishes (enter (by s e) p) v) = absurd (closed s _ e)
 
   -- From any other boundary a slot is taken.
@@ -128,7 +128,7 @@ module _ {le : Test} {Le : Relation} (decides : Decides le Le) (g : Graph) (numb
 
   taken : {P : PregroupType} {u : ℕ} → Boundary g u → (u ≡ end → ⊥) → Finishes Le g P u end → Taken P u
   taken b apart (finishes here v) = absurd (apart refl)
-  taken b apart (finishes (take l p) v) = absurd (omega (arith, l .simple))
+  taken b apart (finishes (take-node l p) v) = absurd (omega (arith, l .simple))
   taken b apart (finishes (enter (by s e) p) v) = record { slot-taken = s; leads = _; enters = e; finished = finishes p v }
 
   finishes-enter : {P : PregroupType} {u s w : ℕ} → EntersBy g u s w → Finishes Le g P w end → Finishes Le g P u end
@@ -235,18 +235,44 @@ module _ {le : Test} {Le : Relation} (decides : Decides le Le) (g : Graph) (numb
         λ n. behind-word (e ∷ es) words P ∙ scan-none c words k P slots (λ r i j f. n (finishes-enter (record { boundary = b; from-on = i; before = j; entered = refl }) f)),
       )
 
-  -- The slots of a line's words, the numbers of their entries, and the string that they spell behind P.
-  pub data Chosen : PregroupType → ℕ → Words → List ℕ → List ℕ → PregroupType → Type 0 where
-    all : {P : PregroupType} {u : ℕ} {slots : List ℕ} → Chosen P u [] slots [] P
-    one : {P T Y : PregroupType} {u s w b : ℕ} {es : List NumberedEntry} {words : Words} {slots ns : List ℕ} → EntersBy g u s w → Entry g w T b
-        → Chosen (P ++ T) b words slots ns Y → Chosen P u (es ∷ words) (s ∷ slots) (getD numbers s 0 ∷ ns) Y
-
-  -- What is scanned of a line gives the definition's answer: the numbers of the entries, and the first linking of what they spell.
+  -- What is scanned of a line gives the definition's answer: the numbers of the entries, and the first linking of what they spell. Whatever
+  -- the slots spell behind P is that string, and then the target's right adjoint.
   pub record Answered (P : PregroupType) (u : ℕ) (words : Words) (slots : List ℕ) : Type 0 where
     pub ns : List ℕ
     pub string : PregroupType
-    pub chosen : Chosen P u words slots ns string
+    pub numbers-are : ns ≡ map (λ (s : ℕ). getD numbers s 0) (take (length words) slots)
+    pub spelt : (X : PregroupType) → Choice g u slots X end → (P ++ X ≡ string ++ (t ⁽ pos 1 ⁾ ∷ [])) × (length slots ≡ length words + 1)
     pub answer : firstBehind le t words P ≡ withNumbers ns (lastAnswer (firstLinking le t string))
+
+  -- A choice at the end has no slot.
+  choice-at-end : {v : ℕ} {slots : List ℕ} {X : PregroupType} → v ≡ end → Choice g v slots X end → (slots ≡ []) × (X ≡ [])
+  choice-at-end q (done b) = (refl, refl)
+  choice-at-end q (choose {s} {w} e r c) = absurd (closed s w (subst (λ (n : ℕ). EntersBy g n s w) q e))
+
+  -- The target's word has one slot, which spells its right adjoint.
+  goal-spelt : {u : ℕ} {slots : List ℕ} (P X : PregroupType) → Boundary g u → getD (g .froms) u 0 + 1 ≡ getD (g .tos) u 0
+      → Entry g (getD (g .enters) (getD (g .froms) u 0) 0) (t ⁽ pos 1 ⁾ ∷ []) end → Choice g u slots X end
+      → (P ++ X ≡ P ++ (t ⁽ pos 1 ⁾ ∷ [])) × (length slots ≡ 1)
+  goal-spelt P X b only entry (done h) =
+      absurd (closed (getD (g .froms) end 0) _ (record { boundary = b; from-on = omega arith; before = omega arith; entered = refl }))
+  goal-spelt {u} P X b only entry (choose {s} {w} {b = c} {T} {X = Y} {slots = more} e r k) =
+      let first : s ≡ getD (g .froms) u 0 = omega (arith, e .from-on, e .before) in
+      let there : w ≡ getD (g .enters) (getD (g .froms) u 0) 0 = e .entered ∙ ap (λ (n : ℕ). getD (g .enters) n 0) first in
+      go (entry-same entry (subst (λ (n : ℕ). Entry g n T c) there r)) k
+    where
+      go : {T : PregroupType} {c : ℕ} → SameEntry (t ⁽ pos 1 ⁾ ∷ []) end T c → Choice g c more Y end → (P ++ (T ++ Y) ≡ P ++ (t ⁽ pos 1 ⁾ ∷ [])) × (length (s ∷ more) ≡ 1)
+      go same-entry c =
+          let empty = choice-at-end refl c in
+          (ap (λ (Z : PregroupType). P ++ (t ⁽ pos 1 ⁾ ∷ Z)) (empty .1), ap (λ (l : List ℕ). length (s ∷ l)) (empty .0))
+
+  -- What a word's slot spells, and then the rest.
+  word-spelt : {u s w b n : ℕ} {T X Z : PregroupType} {slots : List ℕ} (P : PregroupType) → EntersBy g u s w → Entry g w T b
+      → ((Y : PregroupType) → Choice g b slots Y end → ((P ++ T) ++ Y ≡ Z) × (length slots ≡ n)) → Choice g u (s ∷ slots) X end → (P ++ X ≡ Z) × (length (s ∷ slots) ≡ n + 1)
+  word-spelt {s} {w} {b} {n} {T} {Z} {slots} P enters entry rest (choose {b = c} {T = R} {X = Y} e r k) =
+      go (entry-same entry (subst (λ (v : ℕ). Entry g v R c) (e .entered ∙ sym (enters .entered)) r)) k
+    where
+      go : {R : PregroupType} {c : ℕ} → SameEntry T b R c → Choice g c slots Y end → (P ++ (R ++ Y) ≡ Z) × (length (s ∷ slots) ≡ n + 1)
+      go same-entry c = let h = rest Y c in (sym (append-assoc P T Y) ∙ h .0, omega (arith, h .1))
 
   finishes-scanned : {P : PregroupType} {u : ℕ} {slots : List ℕ} → Scanned Le g end P u slots → Finishes Le g P u end
   finishes-scanned r = go (scanned-is-first last closed r .reads)
@@ -271,7 +297,8 @@ module _ {le : Test} {Le : Relation} (decides : Decides le Le) (g : Graph) (numb
         record {
           ns = getD numbers s 0 ∷ a .ns;
           string = a .string;
-          chosen = one enters (subst (λ (n : ℕ). Entry g w T n) (p .behind) entry) (a .chosen);
+          numbers-are = ap (λ (l : List ℕ). getD numbers s 0 ∷ l) (a .numbers-are);
+          spelt = λ X h. let x = word-spelt P enters (subst (λ (n : ℕ). Entry g w T n) (p .behind) entry) (a .spelt) h in (x .0, omega (arith, x .1));
           answer = behind-word (e ∷ es) words P ∙ p .answer ∙ ap (withNumber (getD numbers s 0)) (a .answer);
         }
 
@@ -283,6 +310,6 @@ module _ {le : Test} {Le : Relation} (decides : Decides le Le) (g : Graph) (numb
     scanned-word slots-of bound (takes enters entry earlier more) = taken-word slots-of bound enters entry earlier more
 
   pub scanned-answers : {u : ℕ} {words : Words} → Laid g numbers t u words end → AllKnown words → (P : PregroupType) (slots : List ℕ) → Scanned Le g end P u slots → Answered P u words slots
-  scanned-answers (goal b only entry) ks P slots r = record { ns = []; string = P; chosen = all; answer = behind-none le t P }
+  scanned-answers (goal b only entry) ks P slots r = record { ns = []; string = P; numbers-are = refl; spelt = λ X c. goal-spelt P X b only entry c; answer = behind-none le t P }
   scanned-answers (word {words = words} b slots-of rest) (known {e} {es} ks) P slots r =
       scanned-word e es words (λ Q. laid-none rest ks Q) (λ Q others s. scanned-answers rest ks Q others s) slots-of b r
