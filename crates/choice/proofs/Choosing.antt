@@ -248,6 +248,7 @@ module _ (Le : Relation) (g : Graph) (rows picked slots backs outs comps : List 
     scanned = scan-whole;
     first = scanned-is-first (pre .ends) end-closed scan-whole;
     nodes = now .nodes;
+    few = now .few;
     spelled = rw (append-nil, append-nil) at (now .spell [] [] (ahead (ended (pre .ends)) (done (pre .ends))));
   }
 

@@ -34,3 +34,4 @@ pub record Chose (Le : Relation) (g : Graph) (picked slots : List ℕ) (end word
   pub first : FirstChoice Le g [] 0 (take words slots) end
   pub spelled : Choice g 0 (take words slots) (chosen g picked places) end
   pub nodes : (i : ℕ) → i < places → getD picked i 0 < g .count
+  pub few : places + words ≤ end

@@ -2,3 +2,4 @@
 pub mod Table
 pub mod Promises
 pub mod Selection
+pub mod Gathering

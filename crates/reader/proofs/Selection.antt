@@ -80,7 +80,7 @@ module _ (rest : PregroupType → Option Answer) (X : PregroupType) where
       go false true q k ih = keep-empty e (slotted true es) es (rest (X ++ [])) (empty-of-none (e .type) q) refl (λ z. ih true (λ r. z))
 
 -- The answer for no more words, by the first linking.
-abbrev lastAnswer : Option (List ℕ) → Option Answer
+abbrev pub lastAnswer : Option (List ℕ) → Option Answer
 lastAnswer none = none
 lastAnswer (some Q) = some ([], Q)
 

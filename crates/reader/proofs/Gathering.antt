@@ -1,0 +1,99 @@
+-- From the first choice in a line's graph to the values of its answer: which numbers are written for the entries, which string is linked,
+-- that it reduces to the target, and that the first reading is what the entries and any first linking of the string make.
+use Prim.Native.Nat.{ℕ, zero, suc, _+_, _-_, _*_, _≤_, _<_}
+use native.Mathlib.Omega.{arith}
+use mathlib.Core.Path.{_≡_, refl, sym, ap, subst, _∙_}
+use mathlib.Core.Logic.{_↔_}
+use mathlib.Core.List.{List, [], _∷_, _++_, map, append-nil}
+use mathlib.Core.Option.{Option, none, some}
+use lib.IntN.{pos}
+use lib.ListN.{getD, length, take, length-append, length-map}
+use lib.Seq.{take-take, take-at, length-take-le}
+use Rattle.pregroup.specs.Types.{Basic, Simple, PregroupType, _⁽_⁾}
+use Rattle.pregroup.specs.Order.{Relation}
+use Rattle.pregroup.specs.Vanish.{Vanish, Reduces}
+use Rattle.pregroup.specs.Tests.{Test, Decides}
+use Rattle.pregroup.proofs.Switching.{reduces-iff-vanish}
+use Rattle.linking.specs.Linking.{firstLinking}
+use Rattle.linking.specs.Reading.{Words, Answer, firstBehind, firstReading}
+use Rattle.line.proofs.Passed.{AllKnown}
+use Rattle.chart.specs.Graph.{Graph, labelOf, EntersBy, Upward, VanishTo, along}
+use Rattle.chart.specs.Completion.{Finishes, finishes, Boundary, Completes, completes}
+use Rattle.choice.specs.Grown.{chosen}
+use Rattle.choice.specs.First.{Chose}
+use Rattle.lattice.specs.Layout.{Laid}
+use Rattle.reader.proofs.Selection.{withNumber, withNumbers, lastAnswer, Answered, laid-none, scanned-answers}
+
+take-map : {A B : Type 0} (f : A → B) (n : ℕ) (l : List A) → take n (map f l) ≡ map f (take n l)
+take-map f zero l = refl
+take-map f (suc n) [] = refl
+take-map f (suc n) (x ∷ l) = ap (λ k. f x ∷ k) (take-map f n l)
+
+with-numbers : (ns Q : List ℕ) → withNumbers ns (some ([], Q)) ≡ some (ns, Q)
+with-numbers [] Q = refl
+with-numbers (n ∷ ns) Q = ap (withNumber n) (with-numbers ns Q)
+
+module _ {Le : Relation} {g : Graph} {u end : ℕ} where
+  finishes-of : VanishTo Le g u end → Finishes Le g [] u end
+  finishes-of (along p v) = finishes p v
+
+  vanish-of : Finishes Le g [] u end → VanishTo Le g u end
+  vanish-of (finishes p v) = along p v
+
+-- What is known of a line once its first choice is found.
+pub record Gathered (le : Test) (Le : Relation) (g : Graph) (numbers : List ℕ) (t : Basic) (words : Words) (picked slots : List ℕ) (places : ℕ) : Type 0 where
+  pub m : ℕ
+  pub places-are : places ≡ m + 1
+  pub long : length (chosen g picked m) ≡ m
+  pub reduces : Reduces Le t (chosen g picked m)
+  pub room : length words < length slots
+  pub first : (Q : List ℕ) → firstLinking le t (chosen g picked m) ≡ some Q → firstReading le t words ≡ some (map (λ (s : ℕ). getD numbers s 0) (take (length words) slots), Q)
+
+module _ {le : Test} {Le : Relation} (decides : Decides le Le) (g : Graph) (numbers : List ℕ) (t : Basic) (end : ℕ) (last : Boundary g end)
+    (closed : (s w : ℕ) → EntersBy g end s w → ⊥) {words : Words} (laid : Laid g numbers t 0 words end) (known-words : AllKnown words) where
+  -- No reading exactly when the chart has no way from the first node to the last.
+  pub unread-iff : (firstReading le t words ≡ none) ↔ (VanishTo Le g 0 end → ⊥)
+  unfolding firstReading
+  unread-iff = let h = laid-none decides g numbers t end last closed laid known-words [] in (λ e v. h .0 e (finishes-of v), λ n. h .1 (λ f. n (vanish-of f)))
+
+  module _ {picked slots : List ℕ} {count places : ℕ} (c : Chose Le g picked slots end count places) (picked-room : places ≤ length picked) (slots-room : count ≤ length slots) where
+    answered : Answered decides g numbers t end last closed [] 0 words (take count slots)
+    answered = scanned-answers decides g numbers t end last closed laid known-words [] (take count slots) (c .scanned)
+
+    whole : (chosen g picked places ≡ answered .string ++ (t ⁽ pos 1 ⁾ ∷ [])) × (length (take count slots) ≡ length words + 1)
+    whole = answered .spelt (chosen g picked places) (c .spelled)
+
+    -- How many simple types the choice has, without the target's.
+    abbrev m : ℕ
+    m = length (answered .string)
+
+    places-are : places ≡ m + 1
+    places-are =
+        let long : length (chosen g picked places) ≡ places = length-map (take places picked) (labelOf g) ∙ length-take-le places picked picked-room in
+        sym long ∙ ap length (whole .0) ∙ length-append (answered .string) (t ⁽ pos 1 ⁾ ∷ [])
+
+    string-is : chosen g picked m ≡ answered .string
+    string-is =
+        ap (map (labelOf g)) (sym (take-take m places picked (omega (arith, places-are)))) ∙ sym (take-map (labelOf g) m (take places picked))
+        ∙ ap (take m) (whole .0) ∙ take-at (answered .string) (t ⁽ pos 1 ⁾ ∷ []) m refl
+
+    vanishes : Completes Le g [] 0 (take count slots) end → Vanish Le (answered .string ++ (t ⁽ pos 1 ⁾ ∷ []))
+    vanishes (completes {X} k v) = subst (λ (Y : PregroupType). Vanish Le Y) (answered .spelt X k .0) v
+
+    numbers-are : answered .ns ≡ map (λ (s : ℕ). getD numbers s 0) (take (length words) slots)
+    numbers-are =
+        answered .numbers-are
+        ∙ ap (map (λ (s : ℕ). getD numbers s 0)) (take-take (length words) count slots (omega (arith, whole .1, length-take-le count slots slots-room)))
+
+    pub gathered : Gathered le Le g numbers t words picked slots places
+    unfolding firstReading
+    gathered = record {
+      m = m;
+      places-are = places-are;
+      long = ap length string-is;
+      reduces = reduces-iff-vanish (chosen g picked m) .1 (rw string-is (vanishes (c .first .reads)));
+      room = omega (arith, whole .1, length-take-le count slots slots-room);
+      first = λ Q e.
+        answered .answer ∙ ap (λ (o : Option (List ℕ)). withNumbers (answered .ns) (lastAnswer o)) (ap (firstLinking le t) (sym string-is) ∙ e)
+        ∙ with-numbers (answered .ns) Q ∙ ap (λ (ns : List ℕ). some (ns, Q)) numbers-are
+    }
