@@ -1,16 +1,19 @@
 -- What holds of every line that breaks none of 11 to 14: its words are those of the definition, each has an entry, and the numbers of a
 -- word's entries ascend.
-use Prim.Native.Nat.{ℕ, _+_, _≤_, _<_}
+use Prim.Native.Nat.{ℕ, _+_, _*_, _≤_, _<_}
 use native.Mathlib.Omega.{arith}
 use mathlib.Core.Path.{_≡_, refl, sym, ap, subst, _∙_}
 use mathlib.Core.Bool.{Bool, true, false, cond}
-use mathlib.Core.List.{List, [], _∷_, map, List·Memᴰ, List·Memᴰ·not-nil, List·Memᴰ·cases-cons}
+use mathlib.Core.List.{List, [], _∷_, map, List·Memᴰ, List·Memᴰ·not-nil, List·Memᴰ·head, List·Memᴰ·tail, List·Memᴰ·cases-cons}
 use mathlib.Core.Logic.{⊎-elim}
 use mathlib.Core.Option.{Option, none, some}
 use lib.Dec.{ltb}
+use lib.ListN.{length, length-append}
 use borrow.Author.Tests.{ltb-false}
-use Rattle.linking.specs.Reading.{NumberedEntry, Words, Ascending, empty, more, AllAscending}
-use Rattle.book.specs.Format.{Bytes, Book, Entry}
+use Rattle.pregroup.specs.Types.{PregroupType}
+use Rattle.linking.specs.Reading.{NumberedEntry, Words, Choice, take, empty as empty-choice, Ascending, empty, more, AllAscending}
+use Rattle.book.specs.Format.{Bytes, Book, Entry, maxSimples as maxType}
+use Rattle.book.proofs.Accepted.{AllShort}
 use Rattle.line.specs.Words.{Word, wordsOf}
 use Rattle.line.specs.LineFaults.{maxSimples, sameWord, entriesFrom, entriesOf, entriesOfLine, byteFault, wordFault, entryFault, isEmpty, simplesOfWords, LineCheck, passed, stopped, orElse, lineCheck}
 
@@ -95,3 +98,41 @@ line-passing B line words h =
       ascending = subst AllAscending (sym (fits .1)) (words-ascend B (wordsOf line));
       few = subst (λ (w : Words). simplesOfWords w ≤ maxSimples) (sym (fits .1)) (ltb-false _ _ (fits .0));
     }
+
+-- No entry of a word has more than 12 simple types ..
+abbrev pub Brief : List NumberedEntry → Type 0
+Brief es = (f : NumberedEntry) → List·Memᴰ f es → length (f .type) ≤ maxType
+
+-- .. and none of any word of a line.
+pub data AllBrief : Words → Type 0 where
+  no-words : AllBrief []
+  brief : {es : List NumberedEntry} {words : Words} → Brief es → AllBrief words → AllBrief (es ∷ words)
+
+brief-cons : (e : NumberedEntry) (es : List NumberedEntry) → length (e .type) ≤ maxType → Brief es → Brief (e ∷ es)
+brief-cons e es h k f m = ⊎-elim (λ q. let same = ap (λ (x : NumberedEntry). length (x .type)) q in omega arith) (λ l. k f l) (List·Memᴰ·cases-cons m)
+
+entries-brief : (n : ℕ) (entries : List Entry) (word : Bytes) → AllShort entries → Brief (entriesFrom n entries word)
+unfolding entriesFrom
+entries-brief n [] word short = λ f m. absurd (List·Memᴰ·not-nil m)
+entries-brief n (e ∷ entries) word short =
+    go (sameWord (e .word) word) (entries-brief (n + 1) entries word (λ f m. short f (List·Memᴰ·tail m)))
+  where
+    rest : List NumberedEntry
+    rest = entriesFrom (n + 1) entries word
+
+    go : (b : Bool) → Brief rest → Brief (cond b (record { number = n; type = e .type } ∷ rest) rest)
+    go true later = brief-cons (record { number = n; type = e .type }) rest (short e (List·Memᴰ·head refl)) later
+    go false later = later
+
+words-brief : (B : Book) → AllShort (B .entries) → (words : List Word) → AllBrief (map (entriesOf B) words)
+words-brief B short [] = no-words
+words-brief B short (w ∷ words) = brief (entries-brief 0 (B .entries) (w .bytes) short) (words-brief B short words)
+
+-- The words of a line are brief, where the book's entries are short.
+pub line-brief : (B : Book) (line : Bytes) (words : Words) → AllShort (B .entries) → Passing B line words → AllBrief words
+line-brief B line words short p = subst AllBrief (sym (p .words-are)) (words-brief B short (wordsOf line))
+
+-- So a choice has at most 12 simple types a word.
+pub choice-brief : {words : Words} {ns : List ℕ} {X : PregroupType} → AllBrief words → Choice words ns X → length X ≤ maxType * length words
+choice-brief no-words empty-choice = omega arith
+choice-brief (brief b rest) (take {e} {X} m c) = let h = choice-brief rest c in let k = b e m in let n = length-append (e .type) X in omega arith
