@@ -1,0 +1,2 @@
+-- The laws of what is written into an answer.
+pub mod ValueLaws

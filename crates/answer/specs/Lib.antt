@@ -1,0 +1,2 @@
+-- The values of an answer.
+pub mod Entries
