@@ -34,10 +34,6 @@ entry-later {g} {h} (more {u = u} {n = n} {x = x} l e) same boundary =
     let labelled : Labelled h u x n = record { simple = omega (arith, l .simple); label = label; next = l .next ∙ sym nx } in
     more labelled (entry-later e same boundary)
 
--- Below a node the simple types are the same.
-pub continues-node : {n s : ℕ} {c : Cells} {g : Graph} {ns : List ℕ} → Continues n s c g ns → (x : ℕ) → x < n → SameNode (cellsGraph c) g x
-continues-node k x h = record { base = k .bases x h; exponent = k .exponents x h; next = k .nexts x h }
-
 -- What continues later cells continues these.
 pub continues-back :
     {n s n′ s′ : ℕ} {c c′ : Cells} {g : Graph} {ns : List ℕ} → Kept n s c c′ → Continues n′ s′ c′ g ns → n ≤ n′ → s ≤ s′ → Continues n s c g ns

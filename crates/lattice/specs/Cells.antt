@@ -104,6 +104,14 @@ pub record Lays (b : ℕ) (p : Place) (c : Cells) (p′ : Place) (c′ : Cells) 
   pub slot-on : p .slot ≤ p′ .slot
   pub entered : (y : ℕ) → p .slot ≤ y → y < p′ .slot → (p .node ≤ getD {A = ℕ} (c′ .enters) y 0) × (getD {A = ℕ} (c′ .enters) y 0 ≤ b)
 
+-- An entry's type can be laid from the place p on.
+pub record Fitting (part : Bytes) (number b : ℕ) (p : Place) (c : Cells) : Type 0 where
+  pub pairs : length part % 2 ≡ 0
+  pub listed : Listed part
+  pub fits : p .node + length part / 2 ≤ b
+  pub low : number ≤ 1024
+  pub placed : Placed b p c
+
 -- An entry of the book put before others, where it is the word's.
 abbrev pub withEntry : Bytes → ℕ → ℕ → Bytes → List NumberedEntry → List NumberedEntry
 withEntry bytes at number word rest =

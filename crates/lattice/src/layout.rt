@@ -1,12 +1,17 @@
 // Lays a checked line out: each word a boundary, then the simple types of its entries, and behind the last word the target.
 use crate::Place;
+use book::layout::body_at;
+use book::layout::type_part;
+use book::layout::word_part;
 ghost use mathlib.Core.Path.{_≡_};
 ghost use mathlib.Core.Bool.{true};
+ghost use mathlib.Core.List.{List, _∷_};
 ghost use Prim.Native.Nat.{ℕ, _+_, _≤_, _<_};
 ghost use lib.IntN.{pos, _-ℤ_};
 ghost use Rattle.pregroup.specs.Held.{bias};
-ghost use Rattle.book.specs.Format.{exponentOf, exponentListed};
-ghost use Rattle.lattice.specs.Cells.{nodes, Typable, Typed};
+ghost use Rattle.book.specs.Format.{exponentOf, exponentListed, simplesOf};
+ghost use Rattle.linking.specs.Reading.{NumberedEntry};
+ghost use Rattle.lattice.specs.Cells.{cells, nodes, Typable, Typed, Fitting, Enterable, Lays, withEntry};
 
 // An exponent of the book, a byte in two's complement, as it is held: raised, so that it is never negative.
 fn raise(exponent: u8) -> u8
@@ -46,4 +51,70 @@ fn lay_type(
         first = at;
     }
     first
+}
+
+// Gives an entry a slot and lays its type, but for a second empty type of a word.
+fn lay_slot(
+    part: &[u8],
+    number: usize,
+    boundary: usize,
+    p: Place,
+    bases: &mut [u8],
+    exponents: &mut [u8],
+    nexts: &mut [u16],
+    enters: &mut [u16],
+    numbers: &mut [u16],
+) -> Place
+    requires { ⌜ Fitting (now part) number boundary p (cells (now bases) (now exponents) (now nexts) (now enters) (now numbers)) ⌝ }
+    ensures { λ r. ⌜ ((rest : List NumberedEntry) → Lays boundary p (cells (now (bases .entry)) (now (exponents .entry)) (now (nexts .entry)) (now (enters .entry)) (now (numbers .entry))) r (cells (now (bases .exit)) (now (exponents .exit)) (now (nexts .exit)) (now (enters .exit)) (now (numbers .exit))) (record { number = number; type = simplesOf (now (part .entry)) } ∷ rest) rest) ⌝ }
+{
+    let node = p.node;
+    let slot = p.slot;
+    let seen = p.seen;
+    let empty = part.len() == 0;
+    if empty & seen {
+        return p;
+    }
+    let first = lay_type(part, node, boundary, bases, exponents, nexts);
+    enters[slot] = first as u16;
+    numbers[slot] = number as u16;
+    Place {
+        node: node + part.len() / 2,
+        slot: slot + 1,
+        seen: empty | seen,
+    }
+}
+
+// Lays the entry whose record stands at an offset of the book, where it is the word's.
+fn lay_entry(
+    book: &[u8],
+    at: usize,
+    number: usize,
+    word: &[u8],
+    boundary: usize,
+    p: Place,
+    bases: &mut [u8],
+    exponents: &mut [u8],
+    nexts: &mut [u16],
+    enters: &mut [u16],
+    numbers: &mut [u16],
+) -> Place
+    requires { ⌜ Enterable (now book) at number (now word) boundary p (cells (now bases) (now exponents) (now nexts) (now enters) (now numbers)) ⌝ }
+    ensures { λ r. ⌜ ((rest : List NumberedEntry) → Lays boundary p (cells (now (bases .entry)) (now (exponents .entry)) (now (nexts .entry)) (now (enters .entry)) (now (numbers .entry))) r (cells (now (bases .exit)) (now (exponents .exit)) (now (nexts .exit)) (now (enters .exit)) (now (numbers .exit))) (withEntry (now (book .entry)) at number (now (word .entry)) rest) rest) ⌝ }
+{
+    let body = body_at(book, at);
+    if !check::same(word_part(body), word) {
+        return p;
+    }
+    lay_slot(
+        type_part(body),
+        number,
+        boundary,
+        p,
+        bases,
+        exponents,
+        nexts,
+        enters,
+        numbers,
+    )
 }
