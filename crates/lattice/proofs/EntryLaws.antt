@@ -20,7 +20,7 @@ use Rattle.line.proofs.LookUpLaws.{left, left-same, left-other, left-end}
 use Rattle.chart.specs.Graph.{Graph}
 use Rattle.chart.specs.Completion.{Boundary, Entry}
 use Rattle.lattice.specs.Layout.{hasNone, slotted, Slots, none, slot}
-use Rattle.lattice.specs.Cells.{maxNodes, Cells, cells, nodes, cellsGraph, Same, Continues, Kept, Edges, Listed, Typable, Typed, Placed, Lays, Fitting, Enterable, withEntry, Lexicon, entriesOfWord}
+use Rattle.lattice.specs.Cells.{maxNodes, Cells, cells, nodes, cellsGraph, Same, Continues, Kept, Edges, Listed, Typable, Typed, Placed, Lays, Fitting, Enterable, withEntry, Lexicon, Layable, entriesOfWord}
 use Rattle.lattice.specs.declared.Place.{Place}
 use Rattle.lattice.proofs.TypeLaws.{SameNode, entry-later, continues-back, kept-here, same-set}
 
@@ -241,3 +241,71 @@ module _ (bytes : Bytes) (at number : ℕ) (word : Bytes) (b : ℕ) (p : Place) 
     entry-same p′ c′ l rest =
         let order : withEntry bytes at number word rest ≡ record { number = number; type = simplesOf part } ∷ rest = ap (λ (t : Bool). cond t (record-entry ∷ rest) rest) e ∙ ap (λ (q : Bytes). record { number = number; type = simplesOf q } ∷ rest) (sym s) in
         rw order (l rest)
+
+-- The loop over the book's entries.
+module _ (bytes : Bytes) (offsets : List ℕ) (count : ℕ) (word : Bytes) (b : ℕ) (p : Place) (c : Cells) where
+  -- How it stands before the i-th entry.
+  pub record Entering (place : Place) (c′ : Cells) (i : ℕ) : Type 0 where
+    pub inside : i ≤ count
+    pub lays : Lays b p c place c′ (left bytes offsets count word 0) (left bytes offsets count word i)
+    pub bases-length : length (c′ .bases) ≡ length (c .bases)
+    pub exponents-length : length (c′ .exponents) ≡ length (c .exponents)
+    pub nexts-length : length (c′ .nexts) ≡ length (c .nexts)
+    pub enters-length : length (c′ .enters) ≡ length (c .enters)
+    pub numbers-length : length (c′ .numbers) ≡ length (c .numbers)
+
+  module _ (n : Layable bytes offsets count word b p c) where
+    pub entering-start : Entering p c 0
+    entering-start =
+        record {
+          inside = omega arith;
+          lays = lays-same b p c (left bytes offsets count word 0) (left bytes offsets count word 0) (n .placed) refl refl;
+          bases-length = refl;
+          exponents-length = refl;
+          nexts-length = refl;
+          enters-length = refl;
+          numbers-length = refl;
+        }
+
+    pub entering-end : (place : Place) (c′ : Cells) (i : ℕ) → Entering place c′ i → count ≤ i → Lays b p c place c′ (entriesOfWord bytes offsets count word) []
+    entering-end place c′ i s h = rw (left-end bytes offsets count (n .lexicon .entries) word i h) at (s .lays)
+
+    module _ (place : Place) (c′ : Cells) (i : ℕ) (s : Entering place c′ i) (h : i < count) where
+      abbrev at : ℕ
+      at = getD {A = ℕ} offsets i 0
+
+      abbrev i-th : NumberedEntry
+      i-th = record { number = i; type = entryOf (bodyAt bytes at) .type }
+
+      -- The entries left are this one, where it is the word's, and those behind it.
+      left-here : left bytes offsets count word i ≡ withEntry bytes at i word (left bytes offsets count word (i + 1))
+      left-here = go (sameBytes (entryOf (bodyAt bytes at) .word) word) refl
+        where
+          behind : List NumberedEntry
+          behind = left bytes offsets count word (i + 1)
+
+          go : (t : Bool) → sameBytes (entryOf (bodyAt bytes at) .word) word ≡ t → left bytes offsets count word i ≡ withEntry bytes at i word behind
+          go true e = left-same bytes offsets count (n .lexicon .entries) word i h e ∙ sym (ap (λ (t : Bool). cond t (i-th ∷ behind) behind) e)
+          go false e = left-other bytes offsets count (n .lexicon .entries) word i h e ∙ sym (ap (λ (t : Bool). cond t (i-th ∷ behind) behind) e)
+
+      fits : sameBytes (entryOf (bodyAt bytes at) .word) word ≡ true → place .node + length (typePart (bodyAt bytes at)) / 2 ≤ b
+      fits e =
+          let same = ap simplesIn (left-same bytes offsets count (n .lexicon .entries) word i h e) ∙ simples-cons i-th (left bytes offsets count word (i + 1)) in
+          let long = simples-length (typePart (bodyAt bytes at)) (entry-shape (bodyAt bytes at) (n .lexicon .entries .layouts i h) .pairs) in
+          omega (arith, same, long, s .lays .count, n .fits)
+
+      pub entering-enterable : Enterable bytes at i word b place c′
+      entering-enterable =
+          record {
+            whole = n .lexicon .entries .whole .whole i h;
+            layout = n .lexicon .entries .layouts i h;
+            listed = n .lexicon .listed i h;
+            low = omega (arith, n .lexicon .entries .few);
+            fits = fits;
+            placed = s .lays .placed;
+          }
+
+      pub entering-next : (place′ : Place) (c″ : Cells) → ((rest : List NumberedEntry) → Lays b place c′ place′ c″ (withEntry bytes at i word rest) rest)
+          → Lays b p c place′ c″ (left bytes offsets count word 0) (left bytes offsets count word (i + 1))
+      entering-next place′ c″ l =
+          lays-then (s .lays) (subst (λ (es : List NumberedEntry). Lays b place c′ place′ c″ es (left bytes offsets count word (i + 1))) (sym left-here) (l (left bytes offsets count word (i + 1))))

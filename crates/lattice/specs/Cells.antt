@@ -134,3 +134,9 @@ pub record Lexicon (bytes : Bytes) (offsets : List ℕ) (count : ℕ) : Type 0 w
 -- The entries of a word.
 abbrev pub entriesOfWord : Bytes → List ℕ → ℕ → Bytes → List NumberedEntry
 entriesOfWord bytes offsets count word = entriesFrom 0 (entriesKept bytes offsets count) word
+
+-- All entries of a word can be laid from the place p on, before the boundary b.
+pub record Layable (bytes : Bytes) (offsets : List ℕ) (count : ℕ) (word : Bytes) (b : ℕ) (p : Place) (c : Cells) : Type 0 where
+  pub lexicon : Lexicon bytes offsets count
+  pub placed : Placed b p c
+  pub fits : p .node + simplesIn (entriesOfWord bytes offsets count word) ≤ b

@@ -3,15 +3,16 @@ use crate::Place;
 use book::layout::body_at;
 use book::layout::type_part;
 use book::layout::word_part;
+use book::rules::offset;
 ghost use mathlib.Core.Path.{_≡_};
 ghost use mathlib.Core.Bool.{true};
-ghost use mathlib.Core.List.{List, _∷_};
+ghost use mathlib.Core.List.{List, [], _∷_};
 ghost use Prim.Native.Nat.{ℕ, _+_, _≤_, _<_};
 ghost use lib.IntN.{pos, _-ℤ_};
 ghost use Rattle.pregroup.specs.Held.{bias};
 ghost use Rattle.book.specs.Format.{exponentOf, exponentListed, simplesOf};
 ghost use Rattle.linking.specs.Reading.{NumberedEntry};
-ghost use Rattle.lattice.specs.Cells.{cells, nodes, Typable, Typed, Fitting, Enterable, Lays, withEntry};
+ghost use Rattle.lattice.specs.Cells.{cells, nodes, Typable, Typed, Fitting, Enterable, Lays, withEntry, Layable, entriesOfWord};
 
 // An exponent of the book, a byte in two's complement, as it is held: raised, so that it is never negative.
 fn raise(exponent: u8) -> u8
@@ -117,4 +118,43 @@ fn lay_entry(
         enters,
         numbers,
     )
+}
+
+// Lays all entries of a word, in the book's order, before the boundary behind the word.
+fn lay_entries(
+    book: &[u8],
+    offsets: &[u16],
+    count: usize,
+    word: &[u8],
+    boundary: usize,
+    p: Place,
+    bases: &mut [u8],
+    exponents: &mut [u8],
+    nexts: &mut [u16],
+    enters: &mut [u16],
+    numbers: &mut [u16],
+) -> Place
+    requires { ⌜ Layable (now book) (now offsets) count (now word) boundary p (cells (now bases) (now exponents) (now nexts) (now enters) (now numbers)) ⌝ }
+    ensures { λ r. ⌜ Lays boundary p (cells (now (bases .entry)) (now (exponents .entry)) (now (nexts .entry)) (now (enters .entry)) (now (numbers .entry))) r (cells (now (bases .exit)) (now (exponents .exit)) (now (nexts .exit)) (now (enters .exit)) (now (numbers .exit))) (entriesOfWord (now (book .entry)) (now (offsets .entry)) count (now (word .entry))) [] ⌝ }
+{
+    let mut place = p;
+    let mut i = 0;
+    while i < count {
+        let at = offset(offsets[i]);
+        place = lay_entry(
+            book,
+            at,
+            i,
+            word,
+            boundary,
+            place,
+            bases,
+            exponents,
+            nexts,
+            enters,
+            numbers,
+        );
+        i += 1;
+    }
+    place
 }
