@@ -16,20 +16,13 @@ use Rattle.book.specs.Format.{Bytes, simplesOf, bodyAt, entryOf, sameBytes, typ
 use Rattle.book.proofs.Layouts.{entry-shape}
 use Rattle.line.specs.LineFaults.{simplesIn, entriesFrom}
 use Rattle.line.specs.LookUp.{entriesKept, Entries}
-use Rattle.line.proofs.LookUpLaws.{left, left-same, left-other, left-end}
+use Rattle.line.proofs.LookUpLaws.{simples-length, left, left-same, left-other, left-end}
 use Rattle.chart.specs.Graph.{Graph}
 use Rattle.chart.specs.Completion.{Boundary, Entry}
 use Rattle.lattice.specs.Layout.{hasNone, slotted, Slots, none, slot}
 use Rattle.lattice.specs.Cells.{maxNodes, Cells, cells, nodes, cellsGraph, Same, Continues, Kept, Edges, Listed, Typable, Typed, Placed, Lays, Fitting, Enterable, withEntry, Lexicon, Layable, entriesOfWord}
 use Rattle.lattice.specs.declared.Place.{Place}
 use Rattle.lattice.proofs.TypeLaws.{SameNode, entry-later, continues-back, kept-here, same-set}
-
--- Two bytes a simple type.
-pub simples-length : (part : Bytes) → length part % 2 ≡ 0 → length (simplesOf part) ≡ length part / 2
-unfolding simplesOf
-simples-length [] h = omega arith
-simples-length (number ∷ []) h = absurd (omega arith)
-simples-length (number ∷ exponent ∷ rest) h = let e = simples-length rest (omega arith) in omega arith
 
 some-long : (n : ℕ) → eqb (suc n) 0 ≡ false
 some-long n = ne-eqb (suc n) 0 (λ e. omega arith)
