@@ -2,3 +2,4 @@
 pub mod RaiseLaws
 pub mod TypeLaws
 pub mod EntryLaws
+pub mod WordLaws

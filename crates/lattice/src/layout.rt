@@ -4,6 +4,7 @@ use book::layout::body_at;
 use book::layout::type_part;
 use book::layout::word_part;
 use book::rules::offset;
+use line::lookup::tally_word;
 ghost use mathlib.Core.Path.{_≡_};
 ghost use mathlib.Core.Bool.{true};
 ghost use mathlib.Core.List.{List, [], _∷_};
@@ -13,6 +14,10 @@ ghost use Rattle.pregroup.specs.Held.{bias};
 ghost use Rattle.book.specs.Format.{exponentOf, exponentListed, simplesOf};
 ghost use Rattle.linking.specs.Reading.{NumberedEntry};
 ghost use Rattle.lattice.specs.Cells.{cells, nodes, Typable, Typed, Fitting, Enterable, Lays, withEntry, Layable, entriesOfWord};
+ghost use Rattle.linking.specs.Reading.{Words};
+ghost use Rattle.lattice.specs.Lists.{lists, Wordable, Linable, Lined, entriesOfWords, Ended, Standing, Outlayable, LaidOut};
+ghost use Rattle.lattice.specs.Cells.{maxNodes};
+ghost use Rattle.line.specs.Words.{wordsOf};
 
 // An exponent of the book, a byte in two's complement, as it is held: raised, so that it is never negative.
 fn raise(exponent: u8) -> u8
@@ -157,4 +162,55 @@ fn lay_entries(
         i += 1;
     }
     place
+}
+
+// Lays a word at the boundary of a place: the range of its slots, and its entries. The place behind it is at the next boundary, which is
+// known beforehand from the number of simple types.
+fn lay_word(
+    book: &[u8],
+    offsets: &[u16],
+    count: usize,
+    word: &[u8],
+    p: Place,
+    bases: &mut [u8],
+    exponents: &mut [u8],
+    nexts: &mut [u16],
+    froms: &mut [u16],
+    tos: &mut [u16],
+    enters: &mut [u16],
+    numbers: &mut [u16],
+) -> Place
+    requires { ⌜ Wordable (now book) (now offsets) count (now word) p (lists (now bases) (now exponents) (now nexts) (now froms) (now tos) (now enters) (now numbers)) ⌝ }
+    ensures { λ r. ⌜ ((rest : Words) → Lined p (lists (now (bases .entry)) (now (exponents .entry)) (now (nexts .entry)) (now (froms .entry)) (now (tos .entry)) (now (enters .entry)) (now (numbers .entry))) r (lists (now (bases .exit)) (now (exponents .exit)) (now (nexts .exit)) (now (froms .exit)) (now (tos .exit)) (now (enters .exit)) (now (numbers .exit))) (entriesOfWord (now (book .entry)) (now (offsets .entry)) count (now (word .entry)) ∷ rest) rest) ⌝ }
+{
+    let node = p.node;
+    let slot = p.slot;
+    let tally = tally_word(book, offsets, count, word);
+    let boundary = node + 1 + tally.simples;
+    let first = Place {
+        node: node + 1,
+        slot,
+        seen: false,
+    };
+    let last = lay_entries(
+        book,
+        offsets,
+        count,
+        word,
+        boundary,
+        first,
+        bases,
+        exponents,
+        nexts,
+        enters,
+        numbers,
+    );
+    let to = last.slot;
+    froms[node] = slot as u16;
+    tos[node] = to as u16;
+    Place {
+        node: boundary,
+        slot: to,
+        seen: false,
+    }
 }
