@@ -3,3 +3,4 @@ pub mod RaiseLaws
 pub mod TypeLaws
 pub mod EntryLaws
 pub mod WordLaws
+pub mod LineLaws

@@ -214,3 +214,124 @@ fn lay_word(
         seen: false,
     }
 }
+
+// Lays all words of a line, each from its boundary to the next.
+fn lay_words(
+    book: &[u8],
+    offsets: &[u16],
+    count: usize,
+    line: &[u8],
+    starts: &[usize],
+    ends: &[usize],
+    words: usize,
+    p: Place,
+    bases: &mut [u8],
+    exponents: &mut [u8],
+    nexts: &mut [u16],
+    froms: &mut [u16],
+    tos: &mut [u16],
+    enters: &mut [u16],
+    numbers: &mut [u16],
+) -> Place
+    requires { ⌜ Linable (now book) (now offsets) count (now line) (now starts) (now ends) words p (lists (now bases) (now exponents) (now nexts) (now froms) (now tos) (now enters) (now numbers)) ⌝ }
+    ensures { λ r. ⌜ Lined p (lists (now (bases .entry)) (now (exponents .entry)) (now (nexts .entry)) (now (froms .entry)) (now (tos .entry)) (now (enters .entry)) (now (numbers .entry))) r (lists (now (bases .exit)) (now (exponents .exit)) (now (nexts .exit)) (now (froms .exit)) (now (tos .exit)) (now (enters .exit)) (now (numbers .exit))) (entriesOfWords (now (book .entry)) (now (offsets .entry)) count (wordsOf (now (line .entry)))) [] ⌝ }
+{
+    let mut place = p;
+    let mut k = 0;
+    while k < words {
+        let start = starts[k];
+        let end = ends[k];
+        place = lay_word(
+            book,
+            offsets,
+            count,
+            &line[start..end],
+            place,
+            bases,
+            exponents,
+            nexts,
+            froms,
+            tos,
+            enters,
+            numbers,
+        );
+        k += 1;
+    }
+    place
+}
+
+// Lays the target behind the last word: a boundary with one slot, the target's right adjoint, and the end. The number of nodes is
+// returned.
+fn lay_goal(
+    target: u8,
+    p: Place,
+    bases: &mut [u8],
+    exponents: &mut [u8],
+    nexts: &mut [u16],
+    froms: &mut [u16],
+    tos: &mut [u16],
+    enters: &mut [u16],
+) -> usize
+    requires { ⌜ Standing p (lists (now bases) (now exponents) (now nexts) (now froms) (now tos) (now enters) []) × (p .node + 3 < maxNodes) ⌝ }
+    ensures { λ r. ⌜ Ended target p (lists (now (bases .entry)) (now (exponents .entry)) (now (nexts .entry)) (now (froms .entry)) (now (tos .entry)) (now (enters .entry)) []) (lists (now (bases .exit)) (now (exponents .exit)) (now (nexts .exit)) (now (froms .exit)) (now (tos .exit)) (now (enters .exit)) []) r ⌝ }
+{
+    let node = p.node;
+    let slot = p.slot;
+    let goal = node + 1;
+    let end = node + 2;
+    let exponent = raise(1);
+    froms[node] = slot as u16;
+    tos[node] = (slot + 1) as u16;
+    enters[slot] = goal as u16;
+    bases[goal] = target;
+    exponents[goal] = exponent;
+    nexts[goal] = end as u16;
+    node + 3
+}
+
+// Lays a checked line out in empty lists and returns the number of nodes: a graph that goes up, from node 0 that of the line's words and
+// the target, to its last node.
+pub fn lay_out(
+    book: &[u8],
+    offsets: &[u16],
+    count: usize,
+    line: &[u8],
+    starts: &[usize],
+    ends: &[usize],
+    words: usize,
+    target: u8,
+    bases: &mut [u8],
+    exponents: &mut [u8],
+    nexts: &mut [u16],
+    froms: &mut [u16],
+    tos: &mut [u16],
+    enters: &mut [u16],
+    numbers: &mut [u16],
+) -> usize
+    requires { ⌜ Outlayable (now book) (now offsets) count (now line) (now starts) (now ends) words (lists (now bases) (now exponents) (now nexts) (now froms) (now tos) (now enters) (now numbers)) ⌝ }
+    ensures { λ r. ⌜ LaidOut (now (book .entry)) (now (offsets .entry)) count (now (line .entry)) target (lists (now (bases .exit)) (now (exponents .exit)) (now (nexts .exit)) (now (froms .exit)) (now (tos .exit)) (now (enters .exit)) (now (numbers .exit))) r ⌝ }
+{
+    let first = Place {
+        node: 0,
+        slot: 0,
+        seen: false,
+    };
+    let last = lay_words(
+        book,
+        offsets,
+        count,
+        line,
+        starts,
+        ends,
+        words,
+        first,
+        bases,
+        exponents,
+        nexts,
+        froms,
+        tos,
+        enters,
+        numbers,
+    );
+    lay_goal(target, last, bases, exponents, nexts, froms, tos, enters)
+}
