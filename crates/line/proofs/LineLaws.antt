@@ -45,23 +45,23 @@ kept-at line starts ends (suc n) k d h = go (λ g. kept-at line starts ends n k 
         let inside : k < n = omega (arith, o) in
         List·getD-append rest (here n ∷ []) d k (omega (arith, kept-length line starts ends n)) ∙ below inside
 
-simples-cons : (es : List NumberedEntry) (words : Words) → simplesOfWords (es ∷ words) ≡ simplesIn es + simplesOfWords words
+pub simples-cons : (es : List NumberedEntry) (words : Words) → simplesOfWords (es ∷ words) ≡ simplesIn es + simplesOfWords words
 unfolding simplesOfWords
 simples-cons es words = refl
 
 module _ (B : Book) (line : Bytes) (starts ends : List ℕ) (words : ℕ) (s : SplitInto line starts ends words) where
   -- The k-th word.
-  abbrev word : ℕ → Word
+  abbrev pub word : ℕ → Word
   word k = wordAt line (getD {A = ℕ} starts k 0) (getD {A = ℕ} ends k 0)
 
-  words-length : length (wordsOf line) ≡ words
+  pub words-length : length (wordsOf line) ≡ words
   words-length = ap length (s .words) ∙ kept-length line starts ends words
 
   word-at : (k : ℕ) → k < words → getD (wordsOf line) k (wordAt line 0 0) ≡ word k
   word-at k h = ap (λ (l : List Word). getD l k (wordAt line 0 0)) (s .words) ∙ kept-at line starts ends words k (wordAt line 0 0) h
 
   -- The words from the k-th on.
-  words-at : (k : ℕ) → k < words → drop k (wordsOf line) ≡ word k ∷ drop (k + 1) (wordsOf line)
+  pub words-at : (k : ℕ) → k < words → drop k (wordsOf line) ≡ word k ∷ drop (k + 1) (wordsOf line)
   words-at k h = rw (drop-cons (wordsOf line) k (wordAt line 0 0) (omega (arith, words-length)), word-at k h, add-one k)
 
   abbrev leftWords : ℕ → Words
@@ -111,7 +111,7 @@ module _ (B : Book) (line : Bytes) (starts ends : List ℕ) (words : ℕ) (s : S
         more : simplesOfWords (leftWords k) ≡ tally .simples + simplesOfWords (leftWords (k + 1))
         more = added ∙ ap (λ (m : ℕ). m + simplesOfWords (leftWords (k + 1))) (sym (t .sum ∙ ap (λ (es : List _). simplesIn (entriesFrom 0 es (word k .bytes))) (sym kept)))
 
-  none-left : (k : ℕ) → words ≤ k → drop k (wordsOf line) ≡ []
+  pub none-left : (k : ℕ) → words ≤ k → drop k (wordsOf line) ≡ []
   none-left k h = drop-of-length-le (wordsOf line) {i = k} (omega (arith, words-length))
 
   all-found : (sum k : ℕ) → Looking sum k → words ≤ k → entryFault B (wordsOf line) ≡ none

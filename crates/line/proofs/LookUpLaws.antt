@@ -18,7 +18,7 @@ use Rattle.line.specs.LookUp.{entriesKept, Entries, Counts, Countable, C
 use Rattle.line.specs.declared.Tally.{Tally}
 
 -- Two bytes a simple type.
-simples-length : (part : Bytes) → length part % 2 ≡ 0 → length (simplesOf part) ≡ length part / 2
+pub simples-length : (part : Bytes) → length part % 2 ≡ 0 → length (simplesOf part) ≡ length part / 2
 unfolding simplesOf
 simples-length [] h = omega arith
 simples-length (number ∷ []) h = absurd (omega arith)

@@ -1,0 +1,304 @@
+-- Entries laid one behind another: steps follow each other, an entry without a slot changes nothing, and one with a slot has the next one.
+use Prim.Native.Nat.{ℕ, zero, suc, _+_, _-_, _*_, _/_, _%_, _≤_, _<_}
+use native.Mathlib.Numerals.{add-one}
+use native.Mathlib.Omega.{arith}
+use native.Mathlib.Decide.{ℕ-discrete, decLt}
+use mathlib.Core.Path.{_≡_, refl, sym, ap, ap₂, subst, _∙_}
+use mathlib.Core.Bool.{Bool, true, false, cond, _&&_, _||_, true≢false, false≢true}
+use mathlib.Core.List.{List, [], _∷_}
+use lib.Dec.{eqb}
+use lib.ListN.{length, getD, drop, set, length-set}
+use lib.Seq.{getD-set-same, getD-set-other}
+use borrow.Author.Tests.{ne-eqb}
+use Rattle.pregroup.specs.Types.{Simple, PregroupType}
+use Rattle.linking.specs.Reading.{NumberedEntry}
+use Rattle.book.specs.Format.{Bytes, simplesOf, bodyAt, entryOf, sameBytes, typePart, isEntry}
+use Rattle.book.proofs.Layouts.{entry-shape}
+use Rattle.line.specs.LineFaults.{simplesIn, entriesFrom}
+use Rattle.line.specs.LookUp.{entriesKept, Entries}
+use Rattle.line.proofs.LookUpLaws.{simples-length, left, left-same, left-other, left-end}
+use Rattle.chart.specs.Graph.{Graph}
+use Rattle.chart.specs.Completion.{Boundary, Entry}
+use Rattle.lattice.specs.Layout.{hasNone, slotted, Slots, none, slot}
+use Rattle.lattice.specs.Cells.{maxNodes, Cells, cells, nodes, cellsGraph, Same, Continues, Kept, Edges, Listed, Typable, Typed, Placed, Lays, Fitting, Enterable, withEntry, Lexicon, Layable, entriesOfWord}
+use Rattle.lattice.specs.declared.Place.{Place}
+use Rattle.lattice.proofs.TypeLaws.{SameNode, entry-later, continues-back, kept-here, same-set}
+
+some-long : (n : ℕ) → eqb (suc n) 0 ≡ false
+some-long n = ne-eqb (suc n) 0 (λ e. omega arith)
+
+-- A type is empty where its bytes are none.
+none-empty : (part : Bytes) → length part % 2 ≡ 0 → hasNone (simplesOf part) ≡ eqb (length part) 0
+unfolding simplesOf
+none-empty [] h = refl
+none-empty (number ∷ []) h = absurd (omega arith)
+none-empty (number ∷ exponent ∷ rest) h = sym (some-long (suc (length rest)))
+
+-- Which entries get a slot.
+slotted-passed : (seen : Bool) (e : NumberedEntry) (es : List NumberedEntry) → hasNone (e .type) && seen ≡ true → slotted seen (e ∷ es) ≡ slotted seen es
+unfolding slotted
+slotted-passed seen e es h = go (hasNone (e .type)) seen h
+  where
+    go : (empty seen : Bool) → empty && seen ≡ true
+        → (elim empty [ true ↦ elim seen [ true ↦ slotted true es | false ↦ e ∷ slotted true es ] | false ↦ e ∷ slotted seen es ]) ≡ slotted seen es
+    go true true h = refl
+    go true false h = absurd (false≢true h)
+    go false seen h = absurd (false≢true h)
+
+slotted-taken :
+    (seen : Bool) (e : NumberedEntry) (es : List NumberedEntry) → hasNone (e .type) && seen ≡ false
+    → slotted seen (e ∷ es) ≡ e ∷ slotted (hasNone (e .type) || seen) es
+unfolding slotted
+slotted-taken seen e es h = go (hasNone (e .type)) seen h
+  where
+    go : (empty seen : Bool) → empty && seen ≡ false
+        → (elim empty [ true ↦ elim seen [ true ↦ slotted true es | false ↦ e ∷ slotted true es ] | false ↦ e ∷ slotted seen es ]) ≡ e ∷ slotted (empty || seen) es
+    go true true h = absurd (true≢false h)
+    go true false h = refl
+    go false seen h = refl
+
+simples-cons : (e : NumberedEntry) (es : List NumberedEntry) → simplesIn (e ∷ es) ≡ length (e .type) + simplesIn es
+unfolding simplesIn
+simples-cons e es = refl
+
+-- Nothing is laid.
+pub lays-same :
+    (b : ℕ) (p : Place) (c : Cells) (es es′ : List NumberedEntry) → Placed b p c → slotted (p .seen) es ≡ slotted (p .seen) es′ → simplesIn es ≡ simplesIn es′
+    → Lays b p c p c es es′
+lays-same b p c es es′ placed e f =
+    record {
+      slots = λ g numbers k boundary to s. rw e s;
+      kept = kept-here _ _ c;
+      placed = placed;
+      count = ap (λ (m : ℕ). p .node + m) (sym f);
+      node-on = omega arith;
+      slot-on = omega arith;
+      entered = λ y h i. absurd (omega arith);
+    }
+
+-- One step behind another.
+pub lays-then :
+    {b : ℕ} {p p′ p″ : Place} {c c′ c″ : Cells} {es es′ es″ : List NumberedEntry} → Lays b p c p′ c′ es es′ → Lays b p′ c′ p″ c″ es′ es″
+    → Lays b p c p″ c″ es es″
+lays-then {b} {p} {p′} {p″} {c} {c′} {c″} {es} {es′} {es″} l l′ =
+    record {
+      slots = λ g numbers k boundary to s.
+          l .slots g numbers (continues-back (l′ .kept) k (l′ .node-on) (l′ .slot-on)) boundary to (l′ .slots g numbers k boundary to s);
+      kept = continues-back (l .kept) (l′ .kept) (l .node-on) (l .slot-on);
+      placed = l′ .placed;
+      count = l′ .count ∙ l .count;
+      node-on = omega (arith, l .node-on, l′ .node-on);
+      slot-on = omega (arith, l .slot-on, l′ .slot-on);
+      entered = each;
+    }
+  where
+    each : (y : ℕ) → p .slot ≤ y → y < p″ .slot → (p .node ≤ getD {A = ℕ} (c″ .enters) y 0) × (getD {A = ℕ} (c″ .enters) y 0 ≤ b)
+    each y h i = go (decLt y (p′ .slot))
+      where
+        go : Dec (y < p′ .slot) → (p .node ≤ getD {A = ℕ} (c″ .enters) y 0) × (getD {A = ℕ} (c″ .enters) y 0 ≤ b)
+        go (yes before) = rw (l′ .kept .enters y before) (l .entered y h before)
+        go (no behind) = let e = l′ .entered y (omega (arith, behind)) i in (omega (arith, e .0, l .node-on), e .1)
+
+module _ (part : Bytes) (number b : ℕ) (p : Place) (c : Cells) (f : Fitting part number b p c) where
+  abbrev entry : NumberedEntry
+  entry = record { number = number; type = simplesOf part }
+
+  pub slot-passed : eqb (length part) 0 && p .seen ≡ true → (rest : List NumberedEntry) → Lays b p c p c (entry ∷ rest) rest
+  slot-passed h rest =
+      let e = simples-cons entry rest in
+      let n : length (simplesOf part) ≡ 0 = simples-length part (f .pairs) ∙ none-long (length part) (p .seen) h in
+      lays-same b p c (entry ∷ rest) rest (f .placed) (slotted-passed (p .seen) entry rest (rw (none-empty part (f .pairs)) h)) (omega arith)
+    where
+      none-long : (n : ℕ) (seen : Bool) → eqb n 0 && seen ≡ true → n / 2 ≡ 0
+      none-long zero seen h = omega arith
+      none-long (suc n) seen h =
+          let e : false && seen ≡ true = rw (some-long n) at h in
+          absurd (false≢true e)
+
+  pub slot-typable : Typable part (p .node) b (nodes (c .bases) (c .exponents) (c .nexts))
+  slot-typable =
+      record {
+        pairs = f .pairs;
+        listed = f .listed;
+        fits = f .fits;
+        small = f .placed .small;
+        bases-room = f .placed .bases-room;
+        exponents-room = f .placed .exponents-room;
+        nexts-room = f .placed .nexts-room;
+        up = f .placed .up;
+      }
+
+  module _ (taken : eqb (length part) 0 && p .seen ≡ false) (bases exponents nexts : List ℕ) (bases-length : length bases ≡ length (c .bases)) (exponents-length : length exponents ≡ length (c .exponents)) (nexts-length : length nexts ≡ length (c .nexts)) (first : ℕ) (t : Typed part (p .node) b (nodes (c .bases) (c .exponents) (c .nexts)) (nodes bases exponents nexts) first) where
+    abbrev p′ : Place
+    p′ = record { node = p .node + length part / 2; slot = p .slot + 1; seen = eqb (length part) 0 || p .seen }
+
+    abbrev c′ : Cells
+    c′ = cells bases exponents nexts (set (c .enters) (p .slot) first) (set (c .numbers) (p .slot) number)
+
+    -- There is a slot left: an empty type takes the one that the word has to spare.
+    room : (p .slot < p .node + length part / 2) × (p′ .seen ≡ false → p .slot + 1 < p .node + length part / 2)
+    room = go (length part) (p .seen) taken (f .pairs) (f .placed .spare)
+      where
+        go : (n : ℕ) (seen : Bool) → eqb n 0 && seen ≡ false → n % 2 ≡ 0 → (seen ≡ false → p .slot < p .node)
+            → (p .slot < p .node + n / 2) × (eqb n 0 || seen ≡ false → p .slot + 1 < p .node + n / 2)
+        go zero true h even spare = absurd (true≢false h)
+        go zero false h even spare = (omega (arith, spare refl), λ e. absurd (true≢false e))
+        go (suc n) seen h even spare = (omega (arith, f .placed .few), λ e. omega (arith, spare (rw (some-long n) at e)))
+
+    place : p .slot < maxNodes
+    place = omega (arith, room .0, f .fits, f .placed .small)
+
+    here : getD {A = ℕ} (c′ .enters) (p .slot) 0 ≡ first
+    here = getD-set-same (c .enters) (p .slot) first 0 (omega (arith, place, f .placed .enters-room))
+
+    placed′ : Placed b p′ c′
+    placed′ =
+        record {
+          few = omega (arith, room .0);
+          spare = λ e. room .1 e;
+          inside = f .fits;
+          small = f .placed .small;
+          bases-room = omega (arith, f .placed .bases-room);
+          exponents-room = omega (arith, f .placed .exponents-room);
+          nexts-room = omega (arith, f .placed .nexts-room);
+          enters-room = omega (arith, f .placed .enters-room, length-set (c .enters) (p .slot) first);
+          numbers-room = omega (arith, f .placed .numbers-room, length-set (c .numbers) (p .slot) number);
+          up = t .up;
+        }
+
+    each : (y : ℕ) → p .slot ≤ y → y < p .slot + 1 → (p .node ≤ getD {A = ℕ} (c′ .enters) y 0) × (getD {A = ℕ} (c′ .enters) y 0 ≤ b)
+    each y h i = let e : y ≡ p .slot = omega arith in rw (e, here) (t .low, t .high)
+
+    slots′ : (rest : List NumberedEntry) (g : Graph) (numbers : List ℕ) → Continues (p′ .node) (p′ .slot) c′ g numbers → Boundary g b → (to : ℕ)
+        → Slots g numbers b (p′ .slot) to (slotted (p′ .seen) rest) → Slots g numbers b (p .slot) to (slotted (p .seen) (entry ∷ rest))
+    slots′ rest g numbers k boundary to s =
+        let empty = none-empty part (f .pairs) in
+        let order : slotted (p .seen) (entry ∷ rest) ≡ entry ∷ slotted (p′ .seen) rest = slotted-taken (p .seen) entry rest (rw empty taken) ∙ ap (λ (z : Bool). entry ∷ slotted (z || p .seen) rest) empty in
+        let enters : getD {A = ℕ} (g .enters) (p .slot) 0 ≡ first = k .enters (p .slot) (omega arith) ∙ here in
+        let number′ : getD {A = ℕ} numbers (p .slot) 0 ≡ number = k .numbers (p .slot) (omega arith) ∙ getD-set-same (c .numbers) (p .slot) number 0 (omega (arith, place, f .placed .numbers-room)) in
+        let spelt : Entry g first (simplesOf part) b = entry-later (t .spelt) (λ x q. node x (t .up x q .0)) boundary in
+        rw order (slot {e = entry} number′ (rw enters spelt) s)
+      where
+        node : (x : ℕ) → x < p′ .node → SameNode (cellsGraph (nodes bases exponents nexts)) g x
+        node x h = record { base = k .bases x h; exponent = k .exponents x h; next = k .nexts x h }
+
+    pub slot-taken : (rest : List NumberedEntry) → Lays b p c p′ c′ (entry ∷ rest) rest
+    slot-taken rest =
+        record {
+          slots = slots′ rest;
+          kept = record {
+            bases = t .kept .bases;
+            exponents = t .kept .exponents;
+            nexts = t .kept .nexts;
+            enters = same-set (p .slot) (c .enters) (c .enters) (p .slot) first (omega arith) (λ y h. refl);
+            numbers = same-set (p .slot) (c .numbers) (c .numbers) (p .slot) number (omega arith) (λ y h. refl);
+          };
+          placed = placed′;
+          count =
+              let e = simples-cons entry rest in
+              let n = simples-length part (f .pairs) in
+              omega (arith, e, n);
+          node-on = omega arith;
+          slot-on = omega arith;
+          entered = each;
+        }
+
+-- The entry of a record, where it is another word's and where it is the word's.
+module _ (bytes : Bytes) (at number : ℕ) (word : Bytes) (b : ℕ) (p : Place) (c : Cells) (n : Enterable bytes at number word b p c) where
+  abbrev mine : Bool
+  mine = sameBytes (entryOf (bodyAt bytes at) .word) word
+
+  abbrev record-entry : NumberedEntry
+  record-entry = record { number = number; type = entryOf (bodyAt bytes at) .type }
+
+  with-other : (rest : List NumberedEntry) → mine ≡ false → withEntry bytes at number word rest ≡ rest
+  with-other rest e = ap (λ (t : Bool). cond t (record-entry ∷ rest) rest) e
+
+  pub entry-other : mine ≡ false → (rest : List NumberedEntry) → Lays b p c p c (withEntry bytes at number word rest) rest
+  entry-other e rest =
+      lays-same b p c (withEntry bytes at number word rest) rest (n .placed) (ap (slotted (p .seen)) (with-other rest e)) (ap simplesIn (with-other rest e))
+
+  module _ (e : mine ≡ true) (part : Bytes) (s : part ≡ typePart (bodyAt bytes at)) where
+    pub entry-fitting : Fitting part number b p c
+    entry-fitting =
+        rw s
+        (record {
+          pairs = entry-shape _ (n .layout) .pairs;
+          listed = n .listed;
+          fits = n .fits e;
+          low = n .low;
+          placed = n .placed;
+        })
+
+    pub entry-same : (p′ : Place) (c′ : Cells) → ((rest : List NumberedEntry) → Lays b p c p′ c′ (record { number = number; type = simplesOf part } ∷ rest) rest) → (rest : List NumberedEntry) → Lays b p c p′ c′ (withEntry bytes at number word rest) rest
+    entry-same p′ c′ l rest =
+        let order : withEntry bytes at number word rest ≡ record { number = number; type = simplesOf part } ∷ rest = ap (λ (t : Bool). cond t (record-entry ∷ rest) rest) e ∙ ap (λ (q : Bytes). record { number = number; type = simplesOf q } ∷ rest) (sym s) in
+        rw order (l rest)
+
+-- The loop over the book's entries.
+module _ (bytes : Bytes) (offsets : List ℕ) (count : ℕ) (word : Bytes) (b : ℕ) (p : Place) (c : Cells) where
+  -- How it stands before the i-th entry.
+  pub record Entering (place : Place) (c′ : Cells) (i : ℕ) : Type 0 where
+    pub inside : i ≤ count
+    pub lays : Lays b p c place c′ (left bytes offsets count word 0) (left bytes offsets count word i)
+    pub bases-length : length (c′ .bases) ≡ length (c .bases)
+    pub exponents-length : length (c′ .exponents) ≡ length (c .exponents)
+    pub nexts-length : length (c′ .nexts) ≡ length (c .nexts)
+    pub enters-length : length (c′ .enters) ≡ length (c .enters)
+    pub numbers-length : length (c′ .numbers) ≡ length (c .numbers)
+
+  module _ (n : Layable bytes offsets count word b p c) where
+    pub entering-start : Entering p c 0
+    entering-start =
+        record {
+          inside = omega arith;
+          lays = lays-same b p c (left bytes offsets count word 0) (left bytes offsets count word 0) (n .placed) refl refl;
+          bases-length = refl;
+          exponents-length = refl;
+          nexts-length = refl;
+          enters-length = refl;
+          numbers-length = refl;
+        }
+
+    pub entering-end : (place : Place) (c′ : Cells) (i : ℕ) → Entering place c′ i → count ≤ i → Lays b p c place c′ (entriesOfWord bytes offsets count word) []
+    entering-end place c′ i s h = rw (left-end bytes offsets count (n .lexicon .entries) word i h) at (s .lays)
+
+    module _ (place : Place) (c′ : Cells) (i : ℕ) (s : Entering place c′ i) (h : i < count) where
+      abbrev at : ℕ
+      at = getD {A = ℕ} offsets i 0
+
+      abbrev i-th : NumberedEntry
+      i-th = record { number = i; type = entryOf (bodyAt bytes at) .type }
+
+      -- The entries left are this one, where it is the word's, and those behind it.
+      left-here : left bytes offsets count word i ≡ withEntry bytes at i word (left bytes offsets count word (i + 1))
+      left-here = go (sameBytes (entryOf (bodyAt bytes at) .word) word) refl
+        where
+          behind : List NumberedEntry
+          behind = left bytes offsets count word (i + 1)
+
+          go : (t : Bool) → sameBytes (entryOf (bodyAt bytes at) .word) word ≡ t → left bytes offsets count word i ≡ withEntry bytes at i word behind
+          go true e = left-same bytes offsets count (n .lexicon .entries) word i h e ∙ sym (ap (λ (t : Bool). cond t (i-th ∷ behind) behind) e)
+          go false e = left-other bytes offsets count (n .lexicon .entries) word i h e ∙ sym (ap (λ (t : Bool). cond t (i-th ∷ behind) behind) e)
+
+      fits : sameBytes (entryOf (bodyAt bytes at) .word) word ≡ true → place .node + length (typePart (bodyAt bytes at)) / 2 ≤ b
+      fits e =
+          let same = ap simplesIn (left-same bytes offsets count (n .lexicon .entries) word i h e) ∙ simples-cons i-th (left bytes offsets count word (i + 1)) in
+          let long = simples-length (typePart (bodyAt bytes at)) (entry-shape (bodyAt bytes at) (n .lexicon .entries .layouts i h) .pairs) in
+          omega (arith, same, long, s .lays .count, n .fits)
+
+      pub entering-enterable : Enterable bytes at i word b place c′
+      entering-enterable =
+          record {
+            whole = n .lexicon .entries .whole .whole i h;
+            layout = n .lexicon .entries .layouts i h;
+            listed = n .lexicon .listed i h;
+            low = omega (arith, n .lexicon .entries .few);
+            fits = fits;
+            placed = s .lays .placed;
+          }
+
+      pub entering-next : (place′ : Place) (c″ : Cells) → ((rest : List NumberedEntry) → Lays b place c′ place′ c″ (withEntry bytes at i word rest) rest)
+          → Lays b p c place′ c″ (left bytes offsets count word 0) (left bytes offsets count word (i + 1))
+      entering-next place′ c″ l =
+          lays-then (s .lays) (subst (λ (es : List NumberedEntry). Lays b place c′ place′ c″ es (left bytes offsets count word (i + 1))) (sym left-here) (l (left bytes offsets count word (i + 1))))

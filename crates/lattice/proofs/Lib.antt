@@ -1,0 +1,6 @@
+-- Laws that the proofs of several functions cite.
+pub mod RaiseLaws
+pub mod TypeLaws
+pub mod EntryLaws
+pub mod WordLaws
+pub mod LineLaws

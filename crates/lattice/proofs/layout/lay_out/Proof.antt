@@ -1,0 +1,62 @@
+-- `lattice::layout::lay_out` meets its contract: its words are laid, and then the target.
+use borrow.Author.Needs.{needs}
+use mathlib.Core.Path.{refl}
+use Rattle.lattice.proofs.LineLaws.{out-linable, out-standing, out-laid}
+use Rattle.lattice.specs.Lists.{Lists, lists}
+use Rattle.lattice.proofs.layout.lay_out.Statement.{statement}
+use Rattle.lattice.proofs.layout.lay_out.Tie as tie
+use Rattle.lattice.proofs.layout.lay_out.Reads as reads
+use Rattle.lattice.proofs.layout.lay_out.Lts as lts
+use Rattle.lattice.proofs.layout.lay_goal.Reads as lay-goal-reads
+use Rattle.lattice.proofs.layout.lay_words.Reads as lay-words-reads
+
+lay-words-requires : tie.Need-lay-words-requires
+lay-words-requires c κs =
+    let a = c .before .before .before .before .before .before .before .before .before .before .before .before .before .before .before .before .before .before .before .args in
+    out-linable (a .book .now) (a .offsets .now) (a .count) (a .line .now) (a .starts .now) (a .ends .now) (a .words) (lists (a .bases .now) (a .exponents .now) (a .nexts .now) (a .froms .now) (a .tos .now) (a .enters .now) (a .numbers .now)) (c .before .before .before .before .before .before .before .before .before .before .before .before .before .before .before .before .before .before .before .pre)
+
+lay-goal-requires : tie.Need-lay-goal-requires
+lay-goal-requires c κs =
+    let a = c .before .before .before .before .before .before .before .before .before .before .before .before .before .before .before .before .before .before .before .before .before .before .before .before .before .before .before .before .before .before .before .before .before .before .before .before .before .before .before .before .args in
+    out-standing (a .book .now) (a .offsets .now) (a .count) (a .line .now) (a .starts .now) (a .ends .now) (a .words) (lists (a .bases .now) (a .exponents .now) (a .nexts .now) (a .froms .now) (a .tos .now) (a .enters .now) (a .numbers .now)) (c .before .before .before .before .before .before .before .before .before .before .before .before .before .before .before .before .before .before .before .before .before .before .before .before .before .before .before .before .before .before .before .before .before .before .before .before .before .before .before .before .pre) _ (lists _ _ _ _ _ _ _) (c .before .before .before .before .before .before .before .before .before .before .before .before .before .before .before .before .before .before .before .before .lay-words .ensures)
+
+same-length : tie.Need-same-length
+same-length c = search needs
+
+same-length-2 : tie.Need-same-length-2
+same-length-2 c = search needs
+
+same-length-3 : tie.Need-same-length-3
+same-length-3 c = search needs
+
+same-length-4 : tie.Need-same-length-4
+same-length-4 c = search needs
+
+same-length-5 : tie.Need-same-length-5
+same-length-5 c = search needs
+
+same-length-6 : tie.Need-same-length-6
+same-length-6 c = search needs
+
+same-length-7 : tie.Need-same-length-7
+same-length-7 c = search needs
+
+returns : tie.Need-returns
+returns c =
+    let a = c .before .before .before .before .before .before .before .before .before .before .before .before .before .before .before .before .before .before .before .before .before .before .before .before .before .before .before .before .before .before .before .before .before .before .before .before .before .before .before .before .before .before .before .before .before .before .before .before .before .before .before .before .before .args in
+    out-laid (a .book .now) (a .offsets .now) (a .count) (a .line .now) (a .starts .now) (a .ends .now) (a .words) (lists (a .bases .now) (a .exponents .now) (a .nexts .now) (a .froms .now) (a .tos .now) (a .enters .now) (a .numbers .now)) (c .before .before .before .before .before .before .before .before .before .before .before .before .before .before .before .before .before .before .before .before .before .before .before .before .before .before .before .before .before .before .before .before .before .before .before .before .before .before .before .before .before .before .before .before .before .before .before .before .before .before .before .before .before .pre) _ (lists _ _ _ _ _ _ _) (c .before .before .before .before .before .before .before .before .before .before .before .before .before .before .before .before .before .before .before .before .before .before .before .before .before .before .before .before .before .before .before .before .before .lay-words .ensures) (a .target) (lists _ _ _ _ _ _ _) refl _ (c .before .before .before .before .before .before .before .before .before .before .before .before .lay-goal .ensures)
+
+pub lay-out-spec : {M : Type 1} → statement M
+lay-out-spec =
+    tie.close
+    (tie.spec
+    lay-words-requires
+    lay-goal-requires
+    same-length
+    same-length-2
+    same-length-3
+    same-length-4
+    same-length-5
+    same-length-6
+    same-length-7
+    returns)

@@ -1,0 +1,83 @@
+-- `lattice::layout::lay_slot` meets its contract: a second empty type is passed, and any other gets the next slot.
+use borrow.Author.Needs.{needs}
+use native.Mathlib.Omega.{arith}
+use Rattle.lattice.proofs.EntryLaws.{slot-passed, slot-typable, slot-taken}
+use Rattle.lattice.specs.Cells.{cells}
+use Rattle.lattice.proofs.layout.lay_slot.Statement.{statement}
+use Rattle.lattice.proofs.layout.lay_slot.Tie as tie
+use Rattle.lattice.proofs.layout.lay_slot.Reads as reads
+use Rattle.lattice.proofs.layout.lay_slot.Lts as lts
+use Rattle.lattice.proofs.layout.lay_type.Reads as lay-type-reads
+
+returns : tie.Need-returns
+returns c =
+    let a = c .before .before .before .before .before .before .before .args in
+    slot-passed (a .part .now) (a .number) (a .boundary) (a .p) (cells (a .bases .now) (a .exponents .now) (a .nexts .now) (a .enters .now) (a .numbers .now)) (c .before .before .before .before .before .before .before .pre) (c .if1 .taken)
+
+lay-type-requires : tie.Need-lay-type-requires
+lay-type-requires c κs = search needs
+
+cast-enters : tie.Need-cast-enters
+cast-enters c = search needs
+
+mul-enters : tie.Need-mul-enters
+mul-enters c = search needs
+
+slice-write-enters : tie.Need-slice-write-enters
+slice-write-enters c = search needs
+
+cast-numbers : tie.Need-cast-numbers
+cast-numbers c = search needs
+
+mul-numbers : tie.Need-mul-numbers
+mul-numbers c = search needs
+
+slice-write-numbers : tie.Need-slice-write-numbers
+slice-write-numbers c = search needs
+
+add-t27 : tie.Need-add-t27
+add-t27 c = search needs
+
+add-t28 : tie.Need-add-t28
+add-t28 c = search needs
+
+same-length : tie.Need-same-length
+same-length c = search needs
+
+same-length-2 : tie.Need-same-length-2
+same-length-2 c = search needs
+
+same-length-3 : tie.Need-same-length-3
+same-length-3 c = search needs
+
+same-length-4 : tie.Need-same-length-4
+same-length-4 c = search needs
+
+same-length-5 : tie.Need-same-length-5
+same-length-5 c = search needs
+
+returns-2 : tie.Need-returns-2
+returns-2 c =
+    let a = c .before .before .before .before .before .before .before .before .before .before .before .before .before .before .before .before .before .args in
+    slot-taken (a .part .now) (a .number) (a .boundary) (a .p) (cells (a .bases .now) (a .exponents .now) (a .nexts .now) (a .enters .now) (a .numbers .now)) (c .before .before .before .before .before .before .before .before .before .before .before .before .before .before .before .before .before .pre) (c .before .before .before .before .before .before .before .before .before .before .if1 .left) _ _ _ (omega arith) (omega arith) (omega arith) _ (c .before .before .before .before .before .before .lay-type .ensures)
+
+pub lay-slot-spec : {M : Type 1} → statement M
+lay-slot-spec =
+    tie.close
+    (tie.spec
+    returns
+    lay-type-requires
+    cast-enters
+    mul-enters
+    slice-write-enters
+    cast-numbers
+    mul-numbers
+    slice-write-numbers
+    add-t27
+    add-t28
+    same-length
+    same-length-2
+    same-length-3
+    same-length-4
+    same-length-5
+    returns-2)
