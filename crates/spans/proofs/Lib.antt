@@ -1,4 +1,4 @@
--- The laws of rows, of the string's stretches and of the table.
+-- The laws of rows, of the string's stretches, of the table and of the copied string.
 pub mod RowLaws
 pub mod Gathering
 pub mod Walking
@@ -10,3 +10,4 @@ pub mod Searching
 pub mod LinkSteps
 pub mod Reducing
 pub mod FirstLinked
+pub mod CopyLaws

@@ -2,6 +2,7 @@
 // which the stretch up to k vanishes. It grows by one simple type at a time.
 pub mod links;
 pub mod rows;
+pub mod string;
 
 use rows::Row;
 ghost use Prim.Native.Nat.{suc, _+_, _<_};
@@ -72,4 +73,18 @@ pub fn extend(order: &[u64], bases: &[u8], exponents: &[u8], k: usize, rows: &mu
 {
     let row = next_row(order, bases, exponents, rows, k);
     rows::store(rows, k + 1, row);
+}
+
+// Makes the whole table of the string of the first m simple types.
+pub fn fill_table(order: &[u64], bases: &[u8], exponents: &[u8], m: usize, rows: &mut [u64])
+    requires { ⌜ StringThere (now bases) (now exponents) m ⌝ }
+    requires { ⌜ HasRow (now rows) m ⌝ }
+    ensures { λ _. ⌜ Right (InRows (now (order .entry))) (stringOf (now (bases .entry)) (now (exponents .entry)) m) (now (rows .exit)) m ⌝ }
+{
+    begin(rows);
+    let mut k = 0;
+    while k < m {
+        extend(order, bases, exponents, k, rows);
+        k += 1;
+    }
 }
