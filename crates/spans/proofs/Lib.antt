@@ -1,12 +1,12 @@
--- The laws of rows, of the string's stretches and of the table.
+-- The laws of rows, of the string's stretches and of the table; then those of the linking, up to what is written.
 pub mod RowLaws
 pub mod Gathering
 pub mod Walking
 pub mod Stretches
 pub mod Table
-pub mod Choosing
-pub mod Writing
 pub mod Searching
-pub mod LinkSteps
+pub mod Choosing
 pub mod Reducing
+pub mod LinkSteps
+pub mod Writing
 pub mod FirstLinked
