@@ -1,13 +1,13 @@
--- The laws of rows, of the string's stretches, of the table and of the copied string.
+-- The laws of rows, of the string's stretches and of the table; then those of the linking, up to what is written, and of the copied string.
 pub mod RowLaws
 pub mod Gathering
 pub mod Walking
 pub mod Stretches
 pub mod Table
-pub mod Choosing
-pub mod Writing
 pub mod Searching
-pub mod LinkSteps
+pub mod Choosing
 pub mod Reducing
+pub mod LinkSteps
+pub mod Writing
 pub mod FirstLinked
 pub mod CopyLaws

@@ -27,7 +27,7 @@ pub record Closes (Le : Relation) (bases exponents rows : List ℕ) (i k : ℕ) 
   pub contract : ContractsAt Le bases exponents k i
   pub between : InRow rows k (i + 1)
 
--- .. and what stands behind k is in row e of `ends`.
+-- .. and the index behind k is in row e of `ends`.
 pub record MayLink (Le : Relation) (bases exponents rows ends : List ℕ) (e i k : ℕ) : Type 0 where
   pub closing : Closes Le bases exponents rows i k
   pub rest : InRow ends e (k + 1)

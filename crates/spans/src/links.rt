@@ -24,6 +24,27 @@ fn may_remain(order: &[u64], bases: &[u8], exponents: &[u8], target: u8, u: usiz
     pregroup::stands_below(order, bases[u], target)
 }
 
+// Whether i may stay unlinked: its simple type may remain, and what stands behind it vanishes.
+fn may_stay(
+    order: &[u64],
+    bases: &[u8],
+    exponents: &[u8],
+    target: u8,
+    rows: &[u64],
+    m: usize,
+    i: usize,
+) -> bool
+    requires { ⌜ i < m ⌝ }
+    requires { ⌜ StringThere (now bases) (now exponents) m ⌝ }
+    requires { ⌜ HasRow (now rows) m ⌝ }
+    ensures { λ r. ⌜ (r ≡ true) ↔ Stays (InRows (now (order .entry))) target (now (bases .entry)) (now (exponents .entry)) (now (rows .entry)) m i ⌝ }
+{
+    if may_remain(order, bases, exponents, target, i) {
+        return rows::member(rows, m, i + 1);
+    }
+    false
+}
+
 // Whether i may be linked to k: they could contract, and what stands between them vanishes.
 fn may_close(
     order: &[u64],
@@ -66,6 +87,15 @@ fn nearest(
         j = rows::next_member(ends, e, j + 1);
     }
     rows::ROW_BITS
+}
+
+// Writes i as its own partner.
+fn write_stay(answer: &mut [u16], at: usize, i: usize)
+    requires { ⌜ i < maxString ⌝ }
+    requires { ⌜ at + i < length (now answer) ⌝ }
+    ensures { λ _. ⌜ now (answer .exit) ≡ set (now (answer .entry)) (at + i) (i + 1) ⌝ }
+{
+    answer[at + i] = (i + 1) as u16;
 }
 
 // Writes i and k as partners of each other.
@@ -143,36 +173,6 @@ fn link_within(
         link_within(order, bases, exponents, rows, i + 1, k, answer, at);
         link_within(order, bases, exponents, rows, k + 1, j, answer, at);
     }
-}
-
-// Whether i may stay unlinked: its simple type may remain, and what stands behind it vanishes.
-fn may_stay(
-    order: &[u64],
-    bases: &[u8],
-    exponents: &[u8],
-    target: u8,
-    rows: &[u64],
-    m: usize,
-    i: usize,
-) -> bool
-    requires { ⌜ i < m ⌝ }
-    requires { ⌜ StringThere (now bases) (now exponents) m ⌝ }
-    requires { ⌜ HasRow (now rows) m ⌝ }
-    ensures { λ r. ⌜ (r ≡ true) ↔ Stays (InRows (now (order .entry))) target (now (bases .entry)) (now (exponents .entry)) (now (rows .entry)) m i ⌝ }
-{
-    if may_remain(order, bases, exponents, target, i) {
-        return rows::member(rows, m, i + 1);
-    }
-    false
-}
-
-// Writes i as its own partner.
-fn write_stay(answer: &mut [u16], at: usize, i: usize)
-    requires { ⌜ i < maxString ⌝ }
-    requires { ⌜ at + i < length (now answer) ⌝ }
-    ensures { λ _. ⌜ now (answer .exit) ≡ set (now (answer .entry)) (at + i) (i + 1) ⌝ }
-{
-    answer[at + i] = (i + 1) as u16;
 }
 
 // Writes the partners of the string from i on, which reduces to the target. Row 0 of `ends` has the indices from which it does.
