@@ -94,6 +94,6 @@ module _ {le : Test} {Le : Relation} (decides : Decides le Le) (g : Graph) (numb
       reduces = reduces-iff-vanish (chosen g picked m) .1 (rw string-is (vanishes (c .first .reads)));
       room = omega (arith, whole .1, length-take-le count slots slots-room);
       first = λ Q e.
-        answered .answer ∙ ap (λ (o : Option (List ℕ)). withNumbers (answered .ns) (lastAnswer o)) (ap (firstLinking le t) (sym string-is) ∙ e)
-        ∙ with-numbers (answered .ns) Q ∙ ap (λ (ns : List ℕ). some (ns, Q)) numbers-are
+          answered .answer ∙ ap (λ (o : Option (List ℕ)). withNumbers (answered .ns) (lastAnswer o)) (ap (firstLinking le t) (sym string-is) ∙ e)
+          ∙ with-numbers (answered .ns) Q ∙ ap (λ (ns : List ℕ). some (ns, Q)) numbers-are;
     }

@@ -3,3 +3,4 @@ pub mod Table
 pub mod Promises
 pub mod Selection
 pub mod Gathering
+pub mod WritingLaws
