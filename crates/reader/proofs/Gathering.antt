@@ -41,12 +41,12 @@ module _ {Le : Relation} {g : Graph} {u end : ℕ} where
   vanish-of (finishes p v) = along p v
 
 -- What is known of a line once its first choice is found.
-pub record Gathered (le : Test) (Le : Relation) (g : Graph) (numbers : List ℕ) (t : Basic) (words : Words) (picked slots : List ℕ) (places : ℕ) : Type 0 where
+pub record Gathered (le : Test) (Le : Relation) (g : Graph) (numbers : List ℕ) (t : Basic) (words : Words) (picked slots : List ℕ) (count places : ℕ) : Type 0 where
   pub m : ℕ
   pub places-are : places ≡ m + 1
   pub long : length (chosen g picked m) ≡ m
   pub reduces : Reduces Le t (chosen g picked m)
-  pub room : length words < length slots
+  pub taken : length words < count
   pub first : (Q : List ℕ) → firstLinking le t (chosen g picked m) ≡ some Q → firstReading le t words ≡ some (map (λ (s : ℕ). getD numbers s 0) (take (length words) slots), Q)
 
 module _ {le : Test} {Le : Relation} (decides : Decides le Le) (g : Graph) (numbers : List ℕ) (t : Basic) (end : ℕ) (last : Boundary g end)
@@ -85,14 +85,14 @@ module _ {le : Test} {Le : Relation} (decides : Decides le Le) (g : Graph) (numb
         answered .numbers-are
         ∙ ap (map (λ (s : ℕ). getD numbers s 0)) (take-take (length words) count slots (omega (arith, whole .1, length-take-le count slots slots-room)))
 
-    pub gathered : Gathered le Le g numbers t words picked slots places
+    pub gathered : Gathered le Le g numbers t words picked slots count places
     unfolding firstReading
     gathered = record {
       m = m;
       places-are = places-are;
       long = ap length string-is;
       reduces = reduces-iff-vanish (chosen g picked m) .1 (rw string-is (vanishes (c .first .reads)));
-      room = omega (arith, whole .1, length-take-le count slots slots-room);
+      taken = omega (arith, whole .1, length-take-le count slots slots-room);
       first = λ Q e.
           answered .answer ∙ ap (λ (o : Option (List ℕ)). withNumbers (answered .ns) (lastAnswer o)) (ap (firstLinking le t) (sym string-is) ∙ e)
           ∙ with-numbers (answered .ns) Q ∙ ap (λ (ns : List ℕ). some (ns, Q)) numbers-are;

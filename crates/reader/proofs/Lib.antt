@@ -4,3 +4,4 @@ pub mod Promises
 pub mod Selection
 pub mod Gathering
 pub mod WritingLaws
+pub mod ReadingLaws

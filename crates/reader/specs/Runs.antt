@@ -10,7 +10,7 @@ use Rattle.pregroup.specs.Tests.{Test, Decides}
 use Rattle.pregroup.specs.Held.{InRows}
 use Rattle.order.specs.Closed.{below}
 use Rattle.book.specs.Format.{Bytes, Book, accepted, parse}
-use Rattle.linking.specs.Reading.{Words, firstReading}
+use Rattle.linking.specs.Reading.{Words, AllAscending, firstReading}
 use Rattle.linking.proofs.Greedy.{GreedyFrom}
 use Rattle.line.specs.LookUp.{entriesKept}
 use Rattle.line.specs.LineFaults.{maxWords}
@@ -44,6 +44,7 @@ pub record Drawn (g : Graph) (numbers : List ℕ) (t : Basic) (n : ℕ) (words :
   pub laid : (end : ℕ) → end + 1 ≡ g .count → Laid g numbers t 0 words end
   pub known-words : AllKnown words
   pub brief-words : AllBrief words
+  pub ascending : AllAscending words
   pub count : length words ≡ n
 
 -- What is asked of a graph: its edges go up, it is that of some words, not too many, and its order can be tested.
