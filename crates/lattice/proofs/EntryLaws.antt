@@ -1,26 +1,23 @@
 -- Entries laid one behind another: steps follow each other, an entry without a slot changes nothing, and one with a slot has the next one.
-use Prim.Native.Nat.{ℕ, zero, suc, _+_, _-_, _*_, _/_, _%_, _≤_, _<_}
-use native.Mathlib.Numerals.{add-one}
+use Prim.Native.Nat.{ℕ, zero, suc, _+_, _-_, _/_, _%_, _≤_, _<_}
 use native.Mathlib.Omega.{arith}
-use native.Mathlib.Decide.{ℕ-discrete, decLt}
-use mathlib.Core.Path.{_≡_, refl, sym, ap, ap₂, subst, _∙_}
+use native.Mathlib.Decide.{decLt}
+use mathlib.Core.Path.{_≡_, refl, sym, ap, subst, _∙_}
 use mathlib.Core.Bool.{Bool, true, false, cond, _&&_, _||_, true≢false, false≢true}
 use mathlib.Core.List.{List, [], _∷_}
 use lib.Dec.{eqb}
-use lib.ListN.{length, getD, drop, set, length-set}
-use lib.Seq.{getD-set-same, getD-set-other}
+use lib.ListN.{length, getD, set, length-set}
+use lib.Seq.{getD-set-same}
 use borrow.Author.Tests.{ne-eqb}
-use Rattle.pregroup.specs.Types.{Simple, PregroupType}
 use Rattle.linking.specs.Reading.{NumberedEntry}
-use Rattle.book.specs.Format.{Bytes, simplesOf, bodyAt, entryOf, sameBytes, typePart, isEntry}
+use Rattle.book.specs.Format.{Bytes, simplesOf, bodyAt, entryOf, sameBytes, typePart}
 use Rattle.book.proofs.Layouts.{entry-shape}
-use Rattle.line.specs.LineFaults.{simplesIn, entriesFrom}
-use Rattle.line.specs.LookUp.{entriesKept, Entries}
+use Rattle.line.specs.LineFaults.{simplesIn}
 use Rattle.line.proofs.LookUpLaws.{simples-length, left, left-same, left-other, left-end}
 use Rattle.chart.specs.Graph.{Graph}
 use Rattle.chart.specs.Completion.{Boundary, Entry}
-use Rattle.lattice.specs.Layout.{hasNone, slotted, Slots, none, slot}
-use Rattle.lattice.specs.Cells.{maxNodes, Cells, cells, nodes, cellsGraph, Same, Continues, Kept, Edges, Listed, Typable, Typed, Placed, Lays, Fitting, Enterable, withEntry, Lexicon, Layable, entriesOfWord}
+use Rattle.lattice.specs.Layout.{hasNone, slotted, Slots, slot}
+use Rattle.lattice.specs.Cells.{maxNodes, Cells, cells, nodes, cellsGraph, Continues, Typed, Placed, Lays, SlotFits, EntryFits, withEntry, EntriesFit, entriesOfWord}
 use Rattle.lattice.specs.declared.Place.{Place}
 use Rattle.lattice.proofs.TypeLaws.{SameNode, entry-later, continues-back, kept-here, same-set}
 
@@ -99,7 +96,7 @@ lays-then {b} {p} {p′} {p″} {c} {c′} {c″} {es} {es′} {es″} l l′ =
         go (yes before) = rw (l′ .kept .enters y before) (l .entered y h before)
         go (no behind) = let e = l′ .entered y (omega (arith, behind)) i in (omega (arith, e .0, l .node-on), e .1)
 
-module _ (part : Bytes) (number b : ℕ) (p : Place) (c : Cells) (f : Fitting part number b p c) where
+module _ (part : Bytes) (number b : ℕ) (p : Place) (c : Cells) (f : SlotFits part number b p c) where
   abbrev entry : NumberedEntry
   entry = record { number = number; type = simplesOf part }
 
@@ -115,20 +112,9 @@ module _ (part : Bytes) (number b : ℕ) (p : Place) (c : Cells) (f : Fitting pa
           let e : false && seen ≡ true = rw (some-long n) at h in
           absurd (false≢true e)
 
-  pub slot-typable : Typable part (p .node) b (nodes (c .bases) (c .exponents) (c .nexts))
-  slot-typable =
-      record {
-        pairs = f .pairs;
-        listed = f .listed;
-        fits = f .fits;
-        small = f .placed .small;
-        bases-room = f .placed .bases-room;
-        exponents-room = f .placed .exponents-room;
-        nexts-room = f .placed .nexts-room;
-        up = f .placed .up;
-      }
-
-  module _ (taken : eqb (length part) 0 && p .seen ≡ false) (bases exponents nexts : List ℕ) (bases-length : length bases ≡ length (c .bases)) (exponents-length : length exponents ≡ length (c .exponents)) (nexts-length : length nexts ≡ length (c .nexts)) (first : ℕ) (t : Typed part (p .node) b (nodes (c .bases) (c .exponents) (c .nexts)) (nodes bases exponents nexts) first) where
+  module _ (taken : eqb (length part) 0 && p .seen ≡ false) (bases exponents nexts : List ℕ)
+      (bases-length : length bases ≡ length (c .bases)) (exponents-length : length exponents ≡ length (c .exponents)) (nexts-length : length nexts ≡ length (c .nexts))
+      (first : ℕ) (t : Typed part (p .node) b (nodes (c .bases) (c .exponents) (c .nexts)) (nodes bases exponents nexts) first) where
     abbrev p′ : Place
     p′ = record { node = p .node + length part / 2; slot = p .slot + 1; seen = eqb (length part) 0 || p .seen }
 
@@ -173,9 +159,11 @@ module _ (part : Bytes) (number b : ℕ) (p : Place) (c : Cells) (f : Fitting pa
         → Slots g numbers b (p′ .slot) to (slotted (p′ .seen) rest) → Slots g numbers b (p .slot) to (slotted (p .seen) (entry ∷ rest))
     slots′ rest g numbers k boundary to s =
         let empty = none-empty part (f .pairs) in
-        let order : slotted (p .seen) (entry ∷ rest) ≡ entry ∷ slotted (p′ .seen) rest = slotted-taken (p .seen) entry rest (rw empty taken) ∙ ap (λ (z : Bool). entry ∷ slotted (z || p .seen) rest) empty in
+        let order : slotted (p .seen) (entry ∷ rest) ≡ entry ∷ slotted (p′ .seen) rest =
+        slotted-taken (p .seen) entry rest (rw empty taken) ∙ ap (λ (z : Bool). entry ∷ slotted (z || p .seen) rest) empty in
         let enters : getD {A = ℕ} (g .enters) (p .slot) 0 ≡ first = k .enters (p .slot) (omega arith) ∙ here in
-        let number′ : getD {A = ℕ} numbers (p .slot) 0 ≡ number = k .numbers (p .slot) (omega arith) ∙ getD-set-same (c .numbers) (p .slot) number 0 (omega (arith, place, f .placed .numbers-room)) in
+        let number′ : getD {A = ℕ} numbers (p .slot) 0 ≡ number =
+        k .numbers (p .slot) (omega arith) ∙ getD-set-same (c .numbers) (p .slot) number 0 (omega (arith, place, f .placed .numbers-room)) in
         let spelt : Entry g first (simplesOf part) b = entry-later (t .spelt) (λ x q. node x (t .up x q .0)) boundary in
         rw order (slot {e = entry} number′ (rw enters spelt) s)
       where
@@ -204,7 +192,7 @@ module _ (part : Bytes) (number b : ℕ) (p : Place) (c : Cells) (f : Fitting pa
         }
 
 -- The entry of a record, where it is another word's and where it is the word's.
-module _ (bytes : Bytes) (at number : ℕ) (word : Bytes) (b : ℕ) (p : Place) (c : Cells) (n : Enterable bytes at number word b p c) where
+module _ (bytes : Bytes) (at number : ℕ) (word : Bytes) (b : ℕ) (p : Place) (c : Cells) (n : EntryFits bytes at number word b p c) where
   abbrev mine : Bool
   mine = sameBytes (entryOf (bodyAt bytes at) .word) word
 
@@ -219,8 +207,8 @@ module _ (bytes : Bytes) (at number : ℕ) (word : Bytes) (b : ℕ) (p : Place) 
       lays-same b p c (withEntry bytes at number word rest) rest (n .placed) (ap (slotted (p .seen)) (with-other rest e)) (ap simplesIn (with-other rest e))
 
   module _ (e : mine ≡ true) (part : Bytes) (s : part ≡ typePart (bodyAt bytes at)) where
-    pub entry-fitting : Fitting part number b p c
-    entry-fitting =
+    pub entry-slot-fits : SlotFits part number b p c
+    entry-slot-fits =
         rw s
         (record {
           pairs = entry-shape _ (n .layout) .pairs;
@@ -230,9 +218,12 @@ module _ (bytes : Bytes) (at number : ℕ) (word : Bytes) (b : ℕ) (p : Place) 
           placed = n .placed;
         })
 
-    pub entry-same : (p′ : Place) (c′ : Cells) → ((rest : List NumberedEntry) → Lays b p c p′ c′ (record { number = number; type = simplesOf part } ∷ rest) rest) → (rest : List NumberedEntry) → Lays b p c p′ c′ (withEntry bytes at number word rest) rest
+    pub entry-same : (p′ : Place) (c′ : Cells)
+        → ((rest : List NumberedEntry) → Lays b p c p′ c′ (record { number = number; type = simplesOf part } ∷ rest) rest)
+        → (rest : List NumberedEntry) → Lays b p c p′ c′ (withEntry bytes at number word rest) rest
     entry-same p′ c′ l rest =
-        let order : withEntry bytes at number word rest ≡ record { number = number; type = simplesOf part } ∷ rest = ap (λ (t : Bool). cond t (record-entry ∷ rest) rest) e ∙ ap (λ (q : Bytes). record { number = number; type = simplesOf q } ∷ rest) (sym s) in
+        let order : withEntry bytes at number word rest ≡ record { number = number; type = simplesOf part } ∷ rest =
+        ap (λ (t : Bool). cond t (record-entry ∷ rest) rest) e ∙ ap (λ (q : Bytes). record { number = number; type = simplesOf q } ∷ rest) (sym s) in
         rw order (l rest)
 
 -- The loop over the book's entries.
@@ -247,7 +238,7 @@ module _ (bytes : Bytes) (offsets : List ℕ) (count : ℕ) (word : Bytes) (b : 
     pub enters-length : length (c′ .enters) ≡ length (c .enters)
     pub numbers-length : length (c′ .numbers) ≡ length (c .numbers)
 
-  module _ (n : Layable bytes offsets count word b p c) where
+  module _ (n : EntriesFit bytes offsets count word b p c) where
     pub entering-start : Entering p c 0
     entering-start =
         record {
@@ -287,8 +278,8 @@ module _ (bytes : Bytes) (offsets : List ℕ) (count : ℕ) (word : Bytes) (b : 
           let long = simples-length (typePart (bodyAt bytes at)) (entry-shape (bodyAt bytes at) (n .lexicon .entries .layouts i h) .pairs) in
           omega (arith, same, long, s .lays .count, n .fits)
 
-      pub entering-enterable : Enterable bytes at i word b place c′
-      entering-enterable =
+      pub entering-fits : EntryFits bytes at i word b place c′
+      entering-fits =
           record {
             whole = n .lexicon .entries .whole .whole i h;
             layout = n .lexicon .entries .layouts i h;
@@ -301,4 +292,6 @@ module _ (bytes : Bytes) (offsets : List ℕ) (count : ℕ) (word : Bytes) (b : 
       pub entering-next : (place′ : Place) (c″ : Cells) → ((rest : List NumberedEntry) → Lays b place c′ place′ c″ (withEntry bytes at i word rest) rest)
           → Lays b p c place′ c″ (left bytes offsets count word 0) (left bytes offsets count word (i + 1))
       entering-next place′ c″ l =
-          lays-then (s .lays) (subst (λ (es : List NumberedEntry). Lays b place c′ place′ c″ es (left bytes offsets count word (i + 1))) (sym left-here) (l (left bytes offsets count word (i + 1))))
+          lays-then (s .lays)
+          (subst (λ (es : List NumberedEntry). Lays b place c′ place′ c″ es (left bytes offsets count word (i + 1))) (sym left-here)
+          (l (left bytes offsets count word (i + 1))))

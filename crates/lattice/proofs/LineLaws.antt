@@ -1,31 +1,30 @@
 -- All words of a line laid, the target behind them, and the whole line laid out.
-use Prim.Native.Nat.{ℕ, zero, suc, _+_, _-_, _≤_, _<_}
-use native.Mathlib.Numerals.{add-one}
+use Prim.Native.Nat.{ℕ, _+_, _-_, _≤_, _<_}
 use native.Mathlib.Omega.{arith}
 use native.Mathlib.Decide.{ℕ-discrete}
 use mathlib.Core.Path.{_≡_, refl, sym, ap, ap₂, subst, _∙_}
-use mathlib.Core.Bool.{Bool, true, false}
+use mathlib.Core.Bool.{false}
 use mathlib.Core.List.{List, [], _∷_, map}
 use lib.IntN.{ℤ, pos, _-ℤ_}
 use lib.ListN.{length, getD, drop, set, length-set, length-map}
 use lib.Seq.{getD-set-same, getD-set-other}
-use Rattle.pregroup.specs.Types.{Basic, Simple, _⁽_⁾}
+use Rattle.pregroup.specs.Types.{Basic, _⁽_⁾}
 use Rattle.pregroup.specs.Held.{bias}
 use Rattle.linking.specs.Reading.{NumberedEntry, Words}
 use Rattle.book.specs.Format.{Bytes, Book, Entry as BookEntry, exponentOf}
 use Rattle.line.specs.Words.{Word, wordsOf}
-use Rattle.line.specs.LineFaults.{maxWords, maxSimples, simplesIn, simplesOfWords, entriesFrom, entriesOfLine}
+use Rattle.line.specs.LineFaults.{simplesOfWords, entriesFrom, entriesOfLine}
 use Rattle.line.specs.LookUp.{entriesKept}
-use Rattle.line.specs.Split.{SplitInto, wordAt}
+use Rattle.line.specs.Split.{wordAt}
 use Rattle.line.proofs.LineLaws.{simples-cons, words-length, words-at, none-left}
-use Rattle.chart.specs.Graph.{Graph, Labelled, EntersBy, Upward}
-use Rattle.chart.specs.Completion.{Boundary, Entry, ended, more}
-use Rattle.lattice.specs.Layout.{Laid, goal, word}
-use Rattle.lattice.specs.Cells.{maxNodes, Cells, cells, Continues, Edges, Lexicon, entriesOfWord}
-use Rattle.lattice.specs.Lists.{Lists, lists, graphOf, Follows, Room, Standing, Lined, entriesOfWords, Wordable, Linable, Ended, Empty, Checked, Outlayable, LaidOut}
+use Rattle.chart.specs.Graph.{Labelled, Upward}
+use Rattle.chart.specs.Completion.{Entry, ended, more}
+use Rattle.lattice.specs.Layout.{Laid, goal}
+use Rattle.lattice.specs.Cells.{maxNodes, cells, Edges, entriesOfWord}
+use Rattle.lattice.specs.Lists.{Lists, lists, graphOf, Follows, Standing, Lined, entriesOfWords, WordFits, WordsFit, Ended, LineFits, LaidOut}
 use Rattle.lattice.specs.declared.Place.{Place}
 use Rattle.lattice.proofs.TypeLaws.{same-set, no-edge}
-use Rattle.lattice.proofs.WordLaws.{continues-lists, follows-back, lined-then, lined-here, from-here, to-here, enters-more, tos-more}
+use Rattle.lattice.proofs.WordLaws.{lined-then, lined-here, from-here, to-here, enters-more, tos-more}
 
 -- The laws of a split line hold for any book.
 abbrev any-book : Book
@@ -49,7 +48,7 @@ module _ (bytes : Bytes) (offsets : List ℕ) (count : ℕ) (line : Bytes) (star
     pub enters-length : length (l′ .cells .enters) ≡ length (l .cells .enters)
     pub numbers-length : length (l′ .cells .numbers) ≡ length (l .cells .numbers)
 
-  module _ (n : Linable bytes offsets count line starts ends words p l) where
+  module _ (n : WordsFit bytes offsets count line starts ends words p l) where
     pub lining-start : Lining p l 0
     lining-start =
         record {
@@ -82,8 +81,8 @@ module _ (bytes : Bytes) (offsets : List ℕ) (count : ℕ) (line : Bytes) (star
       all-words : length (words-from 0) ≡ words
       all-words = length-map (wordsOf line) (λ (w : Word). entriesOfWord bytes offsets count (w .bytes)) ∙ words-length any-book line starts ends words (n .split)
 
-      pub lining-wordable : Wordable bytes offsets count here place l′
-      lining-wordable =
+      pub lining-fits : WordFits bytes offsets count here place l′
+      lining-fits =
           let simples = ap simplesOfWords words-here ∙ simples-cons es (words-from (k + 1)) in
           let long = ap length words-here in
           record {
@@ -93,7 +92,8 @@ module _ (bytes : Bytes) (offsets : List ℕ) (count : ℕ) (line : Bytes) (star
             fits = omega (arith, n .fits, s .lined .count, all-words, simples, long);
           }
 
-      pub lining-next : (place′ : Place) (l″ : Lists) → ((rest : Words) → Lined place l′ place′ l″ (es ∷ rest) rest) → Lined p l place′ l″ (words-from 0) (words-from (k + 1))
+      pub lining-next : (place′ : Place) (l″ : Lists) → ((rest : Words) → Lined place l′ place′ l″ (es ∷ rest) rest)
+          → Lined p l place′ l″ (words-from 0) (words-from (k + 1))
       lining-next place′ l″ t =
           lined-then (s .lined) (subst (λ (ws : Words). Lined place l′ place′ l″ ws (words-from (k + 1))) (sym words-here) (t (words-from (k + 1))))
 
@@ -115,7 +115,8 @@ standing-upward p l s h =
     }
 
 -- The target behind the last word.
-module _ (target : Basic) (p : Place) (l : Lists) (s : Standing p l) (fits : p .node + 3 < maxNodes) (raised : ℕ) (right : pos raised -ℤ pos bias ≡ exponentOf 1) where
+module _ (target : Basic) (p : Place) (l : Lists) (s : Standing p l) (fits : p .node + 3 < maxNodes)
+    (raised : ℕ) (right : pos raised -ℤ pos bias ≡ exponentOf 1) where
   abbrev adjoint : ℕ
   adjoint = p .node + 1
 
@@ -205,8 +206,11 @@ module _ (target : Basic) (p : Place) (l : Lists) (s : Standing p l) (fits : p .
   goal-ended =
       let from = from-here p l s end (p .slot + 1) (omega arith) (omega arith) (omega arith) enters′ kept entered in
       let to = to-here p l s end (p .slot + 1) (omega arith) (omega arith) (omega arith) enters′ kept entered in
-      let boundary = getD-set-other (l .cells .nexts) adjoint (p .node) end 0 (omega arith) ∙ no-edge (l .cells .nexts) (p .node) (p .node) (s .nexts-up) (p .node) (omega arith) in
-      let entry : Entry (graphOf (p .node + 3) l′) (getD {A = ℕ} enters′ (getD {A = ℕ} (l′ .froms) (p .node) 0) 0) (target ⁽ pos 1 ⁾ ∷ []) end = rw (from, enters-here) spelt in
+      let boundary =
+      getD-set-other (l .cells .nexts) adjoint (p .node) end 0 (omega arith)
+      ∙ no-edge (l .cells .nexts) (p .node) (p .node) (s .nexts-up) (p .node) (omega arith) in
+      let entry : Entry (graphOf (p .node + 3) l′) (getD {A = ℕ} enters′ (getD {A = ℕ} (l′ .froms) (p .node) 0) 0) (target ⁽ pos 1 ⁾ ∷ []) end =
+      rw (from, enters-here) spelt in
       record {
         nodes = refl;
         kept = record {
@@ -225,7 +229,8 @@ module _ (target : Basic) (p : Place) (l : Lists) (s : Standing p l) (fits : p .
       }
 
 -- The whole line.
-module _ (bytes : Bytes) (offsets : List ℕ) (count : ℕ) (line : Bytes) (starts ends : List ℕ) (words : ℕ) (l : Lists) (n : Outlayable bytes offsets count line starts ends words l) where
+module _ (bytes : Bytes) (offsets : List ℕ) (count : ℕ) (line : Bytes) (starts ends : List ℕ) (words : ℕ) (l : Lists)
+    (n : LineFits bytes offsets count line starts ends words l) where
   abbrev kept-book : Book
   kept-book = record { names = []; pairs = []; entries = entriesKept bytes offsets count; target = 0 }
 
@@ -245,8 +250,8 @@ module _ (bytes : Bytes) (offsets : List ℕ) (count : ℕ) (line : Bytes) (star
         tos-low = λ x. let e = n .empty .tos x in omega arith;
       }
 
-  pub out-linable : Linable bytes offsets count line starts ends words first l
-  out-linable =
+  pub out-words-fit : WordsFit bytes offsets count line starts ends words first l
+  out-words-fit =
       let c = n .checked kept-book refl in
       record {
         lexicon = n .lexicon;
@@ -263,7 +268,8 @@ module _ (bytes : Bytes) (offsets : List ℕ) (count : ℕ) (line : Bytes) (star
     unfolding simplesOfWords
     bounded =
         let c = n .checked kept-book refl in
-        let long : length all ≡ words = length-map (wordsOf line) (λ (w : Word). entriesOfWord bytes offsets count (w .bytes)) ∙ words-length kept-book line starts ends words (c .0) in
+        let long : length all ≡ words =
+        length-map (wordsOf line) (λ (w : Word). entriesOfWord bytes offsets count (w .bytes)) ∙ words-length kept-book line starts ends words (c .0) in
         omega (arith, c .2, c .0 .few, t .count, long)
 
     -- The target needs no entry numbers.
@@ -290,7 +296,8 @@ module _ (bytes : Bytes) (offsets : List ℕ) (count : ℕ) (line : Bytes) (star
           omega (arith, bounded),
         )
 
-    module _ (target : Basic) (l″ : Lists) (same : l″ .cells .numbers ≡ l′ .cells .numbers) (nodes : ℕ) (e : Ended target last (without l′) (without l″) nodes) where
+    module _ (target : Basic) (l″ : Lists) (same : l″ .cells .numbers ≡ l′ .cells .numbers) (nodes : ℕ)
+        (e : Ended target last (without l′) (without l″) nodes) where
       follows : Follows last l′ (graphOf nodes l″) (l″ .cells .numbers)
       follows =
           record {
@@ -316,6 +323,7 @@ module _ (bytes : Bytes) (offsets : List ℕ) (count : ℕ) (line : Bytes) (star
             upward = e .upward;
             laid = λ B kept end last-node.
                 let same-end : last .node + 2 ≡ end = omega (arith, e .nodes) in
-                let same-words : all ≡ entriesOfLine B line = ap (λ (es : List BookEntry). map (λ (w : Word). entriesFrom 0 es (w .bytes)) (wordsOf line)) (sym kept) in
+                let same-words : all ≡ entriesOfLine B line =
+                ap (λ (es : List BookEntry). map (λ (w : Word). entriesFrom 0 es (w .bytes)) (wordsOf line)) (sym kept) in
                 rw (same-end, same-words) at laid′;
           }

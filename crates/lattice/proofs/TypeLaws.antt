@@ -1,21 +1,20 @@
 -- A type laid from its last simple type to its first: what is behind is spelt already, and a store before it does not disturb it.
 use Prim.Native.Nat.{ℕ, zero, suc, _+_, _-_, _*_, _/_, _%_, _≤_, _<_}
-use native.Mathlib.Numerals.{add-one, add-two}
 use native.Mathlib.Omega.{arith}
 use native.Mathlib.Decide.{ℕ-discrete}
 use mathlib.Core.Path.{_≡_, refl, sym, ap, ap₂, _∙_}
-use mathlib.Core.Bool.{Bool, true, false}
-use mathlib.Core.List.{List, [], _∷_}
+use mathlib.Core.Bool.{true}
+use mathlib.Core.List.{List, _∷_}
 use lib.IntN.{ℤ, pos, _-ℤ_}
 use lib.ListN.{length, getD, drop, set, length-set, drop-of-length-le}
 use lib.Seq.{getD-set-same, getD-set-other}
-use Rattle.pregroup.specs.Types.{Simple, PregroupType, _⁽_⁾}
+use Rattle.pregroup.specs.Types.{PregroupType, _⁽_⁾}
 use Rattle.pregroup.specs.Held.{bias, held}
 use Rattle.book.specs.Format.{Bytes, simplesOf, exponentOf, exponentListed}
 use Rattle.book.proofs.Simples.{simpleAt, simples-step}
-use Rattle.chart.specs.Graph.{Graph, graph, Labelled, labelOf}
+use Rattle.chart.specs.Graph.{Graph, Labelled, labelOf}
 use Rattle.chart.specs.Completion.{Boundary, Entry, ended, more}
-use Rattle.lattice.specs.Cells.{maxNodes, Cells, cells, nodes, cellsGraph, Same, Continues, Kept, Edges, Listed, Typable, Typed}
+use Rattle.lattice.specs.Cells.{maxNodes, Cells, cells, cellsGraph, Same, Continues, Kept, Edges, TypeFits, Typed}
 use Rattle.lattice.proofs.RaiseLaws.{listed-at}
 
 -- Another graph has the same simple type on a node.
@@ -25,7 +24,9 @@ pub record SameNode (g h : Graph) (x : ℕ) : Type 0 where
   pub next : getD {A = ℕ} (h .nexts) x 0 ≡ getD {A = ℕ} (g .nexts) x 0
 
 -- An entry is spelt by every graph that has the same simple types, and the boundary.
-pub entry-later : {g h : Graph} {u v : ℕ} {T : PregroupType} → Entry g u T v → ((x : ℕ) → 0 < getD {A = ℕ} (g .nexts) x 0 → SameNode g h x) → Boundary h v → Entry h u T v
+pub entry-later :
+    {g h : Graph} {u v : ℕ} {T : PregroupType} → Entry g u T v
+    → ((x : ℕ) → 0 < getD {A = ℕ} (g .nexts) x 0 → SameNode g h x) → Boundary h v → Entry h u T v
 entry-later (ended b) same boundary = ended boundary
 entry-later {g} {h} (more {u = u} {n = n} {x = x} l e) same boundary =
     let s = same u (l .simple) in
@@ -48,6 +49,10 @@ continues-back k k′ h i =
 
 pub kept-here : (n s : ℕ) (c : Cells) → Kept n s c c
 kept-here n s c = record { bases = λ x h. refl; exponents = λ x h. refl; nexts = λ x h. refl; enters = λ y h. refl; numbers = λ y h. refl }
+
+-- What continues the cells far continues them less far.
+pub continues-less : {n s n′ s′ : ℕ} {c : Cells} {g : Graph} {ns : List ℕ} → Continues n′ s′ c g ns → n ≤ n′ → s ≤ s′ → Continues n s c g ns
+continues-less {n} {s} {c = c} k h i = continues-back (kept-here n s c) k h i
 
 -- A store behind what is kept.
 pub same-set : (n : ℕ) (l₀ l : List ℕ) (i v : ℕ) → n ≤ i → Same n l₀ l → Same n l₀ (set l i v)
@@ -74,7 +79,7 @@ pub record Typing (part : Bytes) (node b : ℕ) (c₀ c : Cells) (first i : ℕ)
   pub exponents-length : length (c .exponents) ≡ length (c₀ .exponents)
   pub nexts-length : length (c .nexts) ≡ length (c₀ .nexts)
 
-module _ (part : Bytes) (node b : ℕ) (c₀ : Cells) (t : Typable part node b c₀) where
+module _ (part : Bytes) (node b : ℕ) (c₀ : Cells) (t : TypeFits part node b c₀) where
   no-next : (x : ℕ) → node ≤ x → getD {A = ℕ} (c₀ .nexts) x 0 ≡ 0
   no-next x h = no-edge (c₀ .nexts) node b (t .up) x h
 
@@ -99,7 +104,7 @@ module _ (part : Bytes) (node b : ℕ) (c₀ : Cells) (t : Typable part node b c
       let e : i ≡ 0 = omega arith in
       let s : Typing part node b c₀ c first 0 = rw e at laying in
       record {
-        kept = continues-back (kept-here node 0 c₀) (s .kept) (omega arith) (omega arith);
+        kept = continues-less (s .kept) (omega arith) (omega arith);
         up = s .up;
         spelt = s .spelt;
         low = omega (arith, s .low);

@@ -1,24 +1,23 @@
 -- Words laid one behind another, each from its boundary to the next.
-use Prim.Native.Nat.{ℕ, zero, suc, _+_, _-_, _≤_, _<_}
-use native.Mathlib.Numerals.{add-one}
+use Prim.Native.Nat.{ℕ, _+_, _-_, _≤_, _<_}
 use native.Mathlib.Omega.{arith}
 use native.Mathlib.Decide.{ℕ-discrete}
-use mathlib.Core.Path.{_≡_, refl, sym, ap, subst, _∙_}
-use mathlib.Core.Bool.{Bool, true, false}
+use mathlib.Core.Path.{_≡_, refl, ap, _∙_}
+use mathlib.Core.Bool.{false}
 use mathlib.Core.List.{List, [], _∷_}
 use lib.ListN.{length, getD, set, length-set}
 use lib.Seq.{getD-set-same, getD-set-other}
 use Rattle.pregroup.specs.Types.{Basic}
 use Rattle.linking.specs.Reading.{NumberedEntry, Words}
-use Rattle.line.specs.LineFaults.{simplesIn, simplesOfWords}
+use Rattle.line.specs.LineFaults.{simplesIn}
 use Rattle.line.proofs.LineLaws.{simples-cons}
 use Rattle.chart.specs.Graph.{Graph}
 use Rattle.chart.specs.Completion.{Boundary}
 use Rattle.lattice.specs.Layout.{slotted, Slots, none, slot, Laid, goal, word}
-use Rattle.lattice.specs.Cells.{maxNodes, Cells, cells, cellsGraph, Same, Continues, Kept, Edges, Placed, Lays}
-use Rattle.lattice.specs.Lists.{Lists, graphOf, Follows, Room, Standing, Lined}
+use Rattle.lattice.specs.Cells.{maxNodes, Cells, cells, Same, Continues, Placed, Lays}
+use Rattle.lattice.specs.Lists.{Lists, graphOf, Follows, Standing, Lined}
 use Rattle.lattice.specs.declared.Place.{Place}
-use Rattle.lattice.proofs.TypeLaws.{continues-back, kept-here, same-set, no-edge}
+use Rattle.lattice.proofs.TypeLaws.{continues-back, continues-less, same-set, no-edge}
 
 pub laid-boundary : {g : Graph} {numbers : List ℕ} {t : Basic} {u end : ℕ} {words : Words} → Laid g numbers t u words end → Boundary g u
 laid-boundary (goal b range e) = b
@@ -70,7 +69,9 @@ lined-here p l ws s =
     }
 
 -- The slots from `p .slot` up to `to` become those of the boundary `p .node`: their edges go up as the others do.
-module _ (p : Place) (l : Lists) (s : Standing p l) (b to : ℕ) (inside : p .node ≤ b) (small : p .node < maxNodes) (on : p .slot ≤ to) (enters : List ℕ) (kept : Same (p .slot) (l .cells .enters) enters) (entered : (y : ℕ) → p .slot ≤ y → y < to → (p .node < getD {A = ℕ} enters y 0) × (getD {A = ℕ} enters y 0 ≤ b)) where
+module _ (p : Place) (l : Lists) (s : Standing p l) (b to : ℕ) (inside : p .node ≤ b) (small : p .node < maxNodes) (on : p .slot ≤ to)
+    (enters : List ℕ) (kept : Same (p .slot) (l .cells .enters) enters)
+    (entered : (y : ℕ) → p .slot ≤ y → y < to → (p .node < getD {A = ℕ} enters y 0) × (getD {A = ℕ} enters y 0 ≤ b)) where
   abbrev froms′ : List ℕ
   froms′ = set (l .froms) (p .node) (p .slot)
 
@@ -108,7 +109,8 @@ module _ (p : Place) (l : Lists) (s : Standing p l) (b to : ℕ) (inside : p .no
       go (no d) = let z = getD-set-other (l .tos) (p .node) x to 0 d in omega (arith, s .tos-low x)
 
 -- A word, from its boundary to the next.
-module _ (p : Place) (l : Lists) (s : Standing p l) (numbers-room : maxNodes ≤ length (l .cells .numbers)) (es : List NumberedEntry) (b : ℕ) (next : b ≡ p .node + 1 + simplesIn es) (small : b < maxNodes) where
+module _ (p : Place) (l : Lists) (s : Standing p l) (numbers-room : maxNodes ≤ length (l .cells .numbers))
+    (es : List NumberedEntry) (b : ℕ) (next : b ≡ p .node + 1 + simplesIn es) (small : b < maxNodes) where
   abbrev first : Place
   first = record { node = p .node + 1; slot = p .slot; seen = false }
 
@@ -154,9 +156,11 @@ module _ (p : Place) (l : Lists) (s : Standing p l) (numbers-room : maxNodes ≤
         → Laid g numbers target (p .node) (es ∷ rest) end
     unfolding slotted
     laid′ rest g numbers f target end r =
-        let boundary : Boundary g (p .node) = f .cells .nexts (p .node) inside ∙ t .kept .nexts (p .node) (omega arith) ∙ no-edge (l .cells .nexts) (p .node) (p .node) (s .nexts-up) (p .node) (omega arith) in
-        let k : Continues (last .node) (last .slot) c g numbers = continues-back (kept-here (last .node) (last .slot) c) (f .cells) (omega (arith, all-laid)) (omega arith) in
-        let slots : Slots g numbers b (p .slot) (last .slot) (slotted false es) = t .slots g numbers k (laid-boundary r) (last .slot) (none refl) in
+        let boundary : Boundary g (p .node) =
+        f .cells .nexts (p .node) inside ∙ t .kept .nexts (p .node) (omega arith) ∙ no-edge (l .cells .nexts) (p .node) (p .node) (s .nexts-up) (p .node) (omega arith) in
+        let k : Continues (last .node) (last .slot) c g numbers = continues-less (f .cells) (omega (arith, all-laid)) (omega arith) in
+        let slots : Slots g numbers b (p .slot) (last .slot) (slotted false es) =
+        t .slots g numbers k (laid-boundary r) (last .slot) (none refl) in
         let from : getD {A = ℕ} (g .froms) (p .node) 0 ≡ p .slot = f .froms (p .node) inside ∙ from-here′ in
         let to : getD {A = ℕ} (g .tos) (p .node) 0 ≡ last .slot = f .tos (p .node) inside ∙ to-here′ in
         word {b = b} {es = es} boundary (rw (from, to) slots) r
@@ -183,7 +187,7 @@ module _ (p : Place) (l : Lists) (s : Standing p l) (numbers-room : maxNodes ≤
         record {
           laid = laid′ rest;
           kept = record {
-            cells = continues-back {n = p .node} {s = p .slot} {n′ = p .node + 1} {s′ = p .slot} {c = l .cells} {c′ = l .cells} (kept-here _ _ (l .cells)) (continues-back (t .kept) (continues-lists (p .node + 1) (p .slot) 0 l′) (omega arith) (omega arith)) (omega arith) (omega arith);
+            cells = continues-back (continues-less (t .kept) (omega arith) (omega arith)) (continues-lists (p .node + 1) (p .slot) 0 l′) (omega arith) (omega arith);
             froms = same-set (p .node) (l .froms) (l .froms) (p .node) (p .slot) (omega arith) (λ x h. refl);
             tos = same-set (p .node) (l .tos) (l .tos) (p .node) (last .slot) (omega arith) (λ x h. refl);
           };

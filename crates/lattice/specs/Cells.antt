@@ -2,10 +2,9 @@
 -- is laid is said of every graph that agrees with the lists as far as they are filled, so later stores cannot disturb it.
 use Prim.Native.Nat.{ℕ, _+_, _/_, _%_, _≤_, _<_}
 use mathlib.Core.Path.{_≡_}
-use mathlib.Core.Bool.{Bool, true, false, cond}
+use mathlib.Core.Bool.{true, false, cond}
 use mathlib.Core.List.{List, [], _∷_}
 use lib.ListN.{length, getD}
-use Rattle.pregroup.specs.Types.{PregroupType}
 use Rattle.linking.specs.Reading.{NumberedEntry}
 use Rattle.book.specs.Format.{Bytes, bodyAt, nextAt, entryOf, isEntry, wordOf, typePart, simplesOf, every, exponents, exponentListed}
 use Rattle.line.specs.LineFaults.{sameWord, entriesFrom, simplesIn}
@@ -62,7 +61,7 @@ abbrev pub Listed : Bytes → Type 0
 Listed part = every exponentListed (exponents (simplesOf part)) ≡ true
 
 -- A type can be laid from a node on, before the boundary b.
-pub record Typable (part : Bytes) (node b : ℕ) (c : Cells) : Type 0 where
+pub record TypeFits (part : Bytes) (node b : ℕ) (c : Cells) : Type 0 where
   pub pairs : length part % 2 ≡ 0
   pub listed : Listed part
   pub fits : node + length part / 2 ≤ b
@@ -105,7 +104,7 @@ pub record Lays (b : ℕ) (p : Place) (c : Cells) (p′ : Place) (c′ : Cells) 
   pub entered : (y : ℕ) → p .slot ≤ y → y < p′ .slot → (p .node ≤ getD {A = ℕ} (c′ .enters) y 0) × (getD {A = ℕ} (c′ .enters) y 0 ≤ b)
 
 -- An entry's type can be laid from the place p on.
-pub record Fitting (part : Bytes) (number b : ℕ) (p : Place) (c : Cells) : Type 0 where
+pub record SlotFits (part : Bytes) (number b : ℕ) (p : Place) (c : Cells) : Type 0 where
   pub pairs : length part % 2 ≡ 0
   pub listed : Listed part
   pub fits : p .node + length part / 2 ≤ b
@@ -118,7 +117,7 @@ withEntry bytes at number word rest =
     cond (sameWord (entryOf (bodyAt bytes at) .word) word) (record { number = number; type = entryOf (bodyAt bytes at) .type } ∷ rest) rest
 
 -- The record at an offset is an entry's, and it can be laid where it is the word's.
-pub record Enterable (bytes : Bytes) (at number : ℕ) (word : Bytes) (b : ℕ) (p : Place) (c : Cells) : Type 0 where
+pub record EntryFits (bytes : Bytes) (at number : ℕ) (word : Bytes) (b : ℕ) (p : Place) (c : Cells) : Type 0 where
   pub whole : nextAt bytes at ≤ length bytes
   pub layout : isEntry (bodyAt bytes at) ≡ true
   pub listed : Listed (typePart (bodyAt bytes at))
@@ -136,7 +135,7 @@ abbrev pub entriesOfWord : Bytes → List ℕ → ℕ → Bytes → List Numbere
 entriesOfWord bytes offsets count word = entriesFrom 0 (entriesKept bytes offsets count) word
 
 -- All entries of a word can be laid from the place p on, before the boundary b.
-pub record Layable (bytes : Bytes) (offsets : List ℕ) (count : ℕ) (word : Bytes) (b : ℕ) (p : Place) (c : Cells) : Type 0 where
+pub record EntriesFit (bytes : Bytes) (offsets : List ℕ) (count : ℕ) (word : Bytes) (b : ℕ) (p : Place) (c : Cells) : Type 0 where
   pub lexicon : Lexicon bytes offsets count
   pub placed : Placed b p c
   pub fits : p .node + simplesIn (entriesOfWord bytes offsets count word) ≤ b

@@ -1,10 +1,10 @@
 -- What the code writes while it lays out the words of a line, from left to right, and then the target.
 use Prim.Native.Nat.{ℕ, _+_, _≤_, _<_}
 use mathlib.Core.Path.{_≡_}
-use mathlib.Core.List.{List, [], _∷_, map}
+use mathlib.Core.List.{List, [], map}
 use lib.ListN.{length, getD}
 use Rattle.pregroup.specs.Types.{Basic}
-use Rattle.linking.specs.Reading.{NumberedEntry, Words}
+use Rattle.linking.specs.Reading.{Words}
 use Rattle.book.specs.Format.{Bytes, Book}
 use Rattle.line.specs.Words.{Word, wordsOf}
 use Rattle.line.specs.LineFaults.{maxWords, simplesIn, simplesOfWords, entriesOfLine}
@@ -68,14 +68,14 @@ abbrev pub entriesOfWords : Bytes → List ℕ → ℕ → List Word → Words
 entriesOfWords bytes offsets count words = map (λ (w : Word). entriesOfWord bytes offsets count (w .bytes)) words
 
 -- A word can be laid at the boundary of the place p.
-pub record Wordable (bytes : Bytes) (offsets : List ℕ) (count : ℕ) (word : Bytes) (p : Place) (l : Lists) : Type 0 where
+pub record WordFits (bytes : Bytes) (offsets : List ℕ) (count : ℕ) (word : Bytes) (p : Place) (l : Lists) : Type 0 where
   pub lexicon : Lexicon bytes offsets count
   pub standing : Standing p l
   pub numbers-room : maxNodes ≤ length (l .cells .numbers)
   pub fits : p .node + 1 + simplesIn (entriesOfWord bytes offsets count word) < maxNodes
 
 -- All words of a line that is split can be laid from the place p on, and the target behind them.
-pub record Linable (bytes : Bytes) (offsets : List ℕ) (count : ℕ) (line : Bytes) (starts ends : List ℕ) (words : ℕ) (p : Place) (l : Lists) : Type 0 where
+pub record WordsFit (bytes : Bytes) (offsets : List ℕ) (count : ℕ) (line : Bytes) (starts ends : List ℕ) (words : ℕ) (p : Place) (l : Lists) : Type 0 where
   pub lexicon : Lexicon bytes offsets count
   pub split : SplitInto line starts ends words
   pub starts-room : maxWords ≤ length starts
@@ -102,7 +102,7 @@ Checked bytes offsets count line starts ends words =
     (B : Book) → B .entries ≡ entriesKept bytes offsets count → LineSays B line starts ends (Found words)
 
 -- A line that passed its check can be laid out in empty lists.
-pub record Outlayable (bytes : Bytes) (offsets : List ℕ) (count : ℕ) (line : Bytes) (starts ends : List ℕ) (words : ℕ) (l : Lists) : Type 0 where
+pub record LineFits (bytes : Bytes) (offsets : List ℕ) (count : ℕ) (line : Bytes) (starts ends : List ℕ) (words : ℕ) (l : Lists) : Type 0 where
   pub lexicon : Lexicon bytes offsets count
   pub checked : Checked bytes offsets count line starts ends words
   pub starts-room : maxWords ≤ length starts

@@ -5,29 +5,31 @@ use book::layout::type_part;
 use book::layout::word_part;
 use book::rules::offset;
 use line::lookup::tally_word;
+use pregroup::EXPONENT_BIAS;
 ghost use mathlib.Core.Path.{_≡_};
 ghost use mathlib.Core.Bool.{true};
 ghost use mathlib.Core.List.{List, [], _∷_};
-ghost use Prim.Native.Nat.{ℕ, _+_, _≤_, _<_};
+ghost use Prim.Native.Nat.{_+_, _<_};
 ghost use lib.IntN.{pos, _-ℤ_};
 ghost use Rattle.pregroup.specs.Held.{bias};
 ghost use Rattle.book.specs.Format.{exponentOf, exponentListed, simplesOf};
-ghost use Rattle.linking.specs.Reading.{NumberedEntry};
-ghost use Rattle.lattice.specs.Cells.{cells, nodes, Typable, Typed, Fitting, Enterable, Lays, withEntry, Layable, entriesOfWord};
-ghost use Rattle.linking.specs.Reading.{Words};
-ghost use Rattle.lattice.specs.Lists.{lists, Wordable, Linable, Lined, entriesOfWords, Ended, Standing, Outlayable, LaidOut};
-ghost use Rattle.lattice.specs.Cells.{maxNodes};
+ghost use Rattle.linking.specs.Reading.{NumberedEntry, Words};
 ghost use Rattle.line.specs.Words.{wordsOf};
+ghost use Rattle.lattice.specs.Cells.{maxNodes, cells, nodes, TypeFits, Typed, SlotFits, EntryFits, Lays, withEntry, EntriesFit, entriesOfWord};
+ghost use Rattle.lattice.specs.Lists.{lists, WordFits, WordsFit, Lined, entriesOfWords, Ended, Standing, LineFits, LaidOut};
+
+// The byte of the least exponent, -8, which is held as 0.
+const LEAST: u8 = 248;
 
 // An exponent of the book, a byte in two's complement, as it is held: raised, so that it is never negative.
 fn raise(exponent: u8) -> u8
     requires { ⌜ exponentListed (exponentOf exponent) ≡ true ⌝ }
     ensures { λ r. ⌜ pos r -ℤ pos bias ≡ exponentOf exponent ⌝ }
 {
-    if exponent < 248 {
-        exponent + 8
+    if exponent < LEAST {
+        exponent + EXPONENT_BIAS
     } else {
-        exponent - 248
+        exponent - LEAST
     }
 }
 
@@ -41,7 +43,7 @@ fn lay_type(
     exponents: &mut [u8],
     nexts: &mut [u16],
 ) -> usize
-    requires { ⌜ Typable (now part) node boundary (nodes (now bases) (now exponents) (now nexts)) ⌝ }
+    requires { ⌜ TypeFits (now part) node boundary (nodes (now bases) (now exponents) (now nexts)) ⌝ }
     ensures { λ r. ⌜ Typed (now (part .entry)) node boundary (nodes (now (bases .entry)) (now (exponents .entry)) (now (nexts .entry))) (nodes (now (bases .exit)) (now (exponents .exit)) (now (nexts .exit))) r ⌝ }
 {
     let mut first = boundary;
@@ -71,7 +73,7 @@ fn lay_slot(
     enters: &mut [u16],
     numbers: &mut [u16],
 ) -> Place
-    requires { ⌜ Fitting (now part) number boundary p (cells (now bases) (now exponents) (now nexts) (now enters) (now numbers)) ⌝ }
+    requires { ⌜ SlotFits (now part) number boundary p (cells (now bases) (now exponents) (now nexts) (now enters) (now numbers)) ⌝ }
     ensures { λ r. ⌜ ((rest : List NumberedEntry) → Lays boundary p (cells (now (bases .entry)) (now (exponents .entry)) (now (nexts .entry)) (now (enters .entry)) (now (numbers .entry))) r (cells (now (bases .exit)) (now (exponents .exit)) (now (nexts .exit)) (now (enters .exit)) (now (numbers .exit))) (record { number = number; type = simplesOf (now (part .entry)) } ∷ rest) rest) ⌝ }
 {
     let node = p.node;
@@ -81,11 +83,12 @@ fn lay_slot(
     if empty & seen {
         return p;
     }
+    let behind = node + part.len() / 2;
     let first = lay_type(part, node, boundary, bases, exponents, nexts);
     enters[slot] = first as u16;
     numbers[slot] = number as u16;
     Place {
-        node: node + part.len() / 2,
+        node: behind,
         slot: slot + 1,
         seen: empty | seen,
     }
@@ -105,7 +108,7 @@ fn lay_entry(
     enters: &mut [u16],
     numbers: &mut [u16],
 ) -> Place
-    requires { ⌜ Enterable (now book) at number (now word) boundary p (cells (now bases) (now exponents) (now nexts) (now enters) (now numbers)) ⌝ }
+    requires { ⌜ EntryFits (now book) at number (now word) boundary p (cells (now bases) (now exponents) (now nexts) (now enters) (now numbers)) ⌝ }
     ensures { λ r. ⌜ ((rest : List NumberedEntry) → Lays boundary p (cells (now (bases .entry)) (now (exponents .entry)) (now (nexts .entry)) (now (enters .entry)) (now (numbers .entry))) r (cells (now (bases .exit)) (now (exponents .exit)) (now (nexts .exit)) (now (enters .exit)) (now (numbers .exit))) (withEntry (now (book .entry)) at number (now (word .entry)) rest) rest) ⌝ }
 {
     let body = body_at(book, at);
@@ -139,7 +142,7 @@ fn lay_entries(
     enters: &mut [u16],
     numbers: &mut [u16],
 ) -> Place
-    requires { ⌜ Layable (now book) (now offsets) count (now word) boundary p (cells (now bases) (now exponents) (now nexts) (now enters) (now numbers)) ⌝ }
+    requires { ⌜ EntriesFit (now book) (now offsets) count (now word) boundary p (cells (now bases) (now exponents) (now nexts) (now enters) (now numbers)) ⌝ }
     ensures { λ r. ⌜ Lays boundary p (cells (now (bases .entry)) (now (exponents .entry)) (now (nexts .entry)) (now (enters .entry)) (now (numbers .entry))) r (cells (now (bases .exit)) (now (exponents .exit)) (now (nexts .exit)) (now (enters .exit)) (now (numbers .exit))) (entriesOfWord (now (book .entry)) (now (offsets .entry)) count (now (word .entry))) [] ⌝ }
 {
     let mut place = p;
@@ -180,7 +183,7 @@ fn lay_word(
     enters: &mut [u16],
     numbers: &mut [u16],
 ) -> Place
-    requires { ⌜ Wordable (now book) (now offsets) count (now word) p (lists (now bases) (now exponents) (now nexts) (now froms) (now tos) (now enters) (now numbers)) ⌝ }
+    requires { ⌜ WordFits (now book) (now offsets) count (now word) p (lists (now bases) (now exponents) (now nexts) (now froms) (now tos) (now enters) (now numbers)) ⌝ }
     ensures { λ r. ⌜ ((rest : Words) → Lined p (lists (now (bases .entry)) (now (exponents .entry)) (now (nexts .entry)) (now (froms .entry)) (now (tos .entry)) (now (enters .entry)) (now (numbers .entry))) r (lists (now (bases .exit)) (now (exponents .exit)) (now (nexts .exit)) (now (froms .exit)) (now (tos .exit)) (now (enters .exit)) (now (numbers .exit))) (entriesOfWord (now (book .entry)) (now (offsets .entry)) count (now (word .entry)) ∷ rest) rest) ⌝ }
 {
     let node = p.node;
@@ -233,7 +236,7 @@ fn lay_words(
     enters: &mut [u16],
     numbers: &mut [u16],
 ) -> Place
-    requires { ⌜ Linable (now book) (now offsets) count (now line) (now starts) (now ends) words p (lists (now bases) (now exponents) (now nexts) (now froms) (now tos) (now enters) (now numbers)) ⌝ }
+    requires { ⌜ WordsFit (now book) (now offsets) count (now line) (now starts) (now ends) words p (lists (now bases) (now exponents) (now nexts) (now froms) (now tos) (now enters) (now numbers)) ⌝ }
     ensures { λ r. ⌜ Lined p (lists (now (bases .entry)) (now (exponents .entry)) (now (nexts .entry)) (now (froms .entry)) (now (tos .entry)) (now (enters .entry)) (now (numbers .entry))) r (lists (now (bases .exit)) (now (exponents .exit)) (now (nexts .exit)) (now (froms .exit)) (now (tos .exit)) (now (enters .exit)) (now (numbers .exit))) (entriesOfWords (now (book .entry)) (now (offsets .entry)) count (wordsOf (now (line .entry)))) [] ⌝ }
 {
     let mut place = p;
@@ -308,7 +311,7 @@ pub fn lay_out(
     enters: &mut [u16],
     numbers: &mut [u16],
 ) -> usize
-    requires { ⌜ Outlayable (now book) (now offsets) count (now line) (now starts) (now ends) words (lists (now bases) (now exponents) (now nexts) (now froms) (now tos) (now enters) (now numbers)) ⌝ }
+    requires { ⌜ LineFits (now book) (now offsets) count (now line) (now starts) (now ends) words (lists (now bases) (now exponents) (now nexts) (now froms) (now tos) (now enters) (now numbers)) ⌝ }
     ensures { λ r. ⌜ LaidOut (now (book .entry)) (now (offsets .entry)) count (now (line .entry)) target (lists (now (bases .exit)) (now (exponents .exit)) (now (nexts .exit)) (now (froms .exit)) (now (tos .exit)) (now (enters .exit)) (now (numbers .exit))) r ⌝ }
 {
     let first = Place {

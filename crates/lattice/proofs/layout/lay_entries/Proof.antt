@@ -1,7 +1,7 @@
 -- `lattice::layout::lay_entries` meets its contract: the entries passed are laid, and those left are the rest.
 use native.Mathlib.Omega.{arith}
 use Prim.Native.Nat.{_-_}
-use Rattle.lattice.proofs.EntryLaws.{Entering, entering-start, entering-enterable, entering-next, entering-end}
+use Rattle.lattice.proofs.EntryLaws.{Entering, entering-start, entering-fits, entering-next, entering-end}
 use Rattle.lattice.specs.Cells.{cells}
 use Rattle.lattice.proofs.layout.lay_entries.Statement.{statement}
 use Rattle.lattice.proofs.layout.lay_entries.Tie as tie
@@ -36,7 +36,7 @@ lay-entry-requires : tie.Need-lay-entry-requires Inv-loop μ-loop
 lay-entry-requires c κs =
     let a = c .before .before .before .before .before .before .before .before .before .before .before .before .before .before .before .before .before .args in
     let l = c .before .before .before .before .before .before .before .before .loop in
-    rw (c .before .before .before .before .before .offset .ensures) (entering-enterable (a .book .now) (a .offsets .now) (a .count) (a .word .now) (a .boundary) (a .p) (cells (a .bases .now) (a .exponents .now) (a .nexts .now) (a .enters .now) (a .numbers .now)) (c .before .before .before .before .before .before .before .before .before .before .before .before .before .before .before .before .before .pre) (l .place) (cells (l .bases) (l .exponents) (l .nexts) (l .enters) (l .numbers)) (l .i) (l .inv) (omega arith))
+    rw (c .before .before .before .before .before .offset .ensures) (entering-fits (a .book .now) (a .offsets .now) (a .count) (a .word .now) (a .boundary) (a .p) (cells (a .bases .now) (a .exponents .now) (a .nexts .now) (a .enters .now) (a .numbers .now)) (c .before .before .before .before .before .before .before .before .before .before .before .before .before .before .before .before .before .pre) (l .place) (cells (l .bases) (l .exponents) (l .nexts) (l .enters) (l .numbers)) (l .i) (l .inv) (omega arith))
 
 add-i : tie.Need-add-i Inv-loop μ-loop
 add-i c = omega arith
@@ -48,9 +48,10 @@ loop-again : tie.Need-loop-again Inv-loop μ-loop
 loop-again c =
     let a = c .before .before .before .before .before .before .before .before .before .before .before .before .before .before .before .before .before .before .before .before .before .before .before .before .before .before .before .before .args in
     let l = c .before .before .before .before .before .before .before .before .before .before .before .before .before .before .before .before .before .before .before .loop in
+    let m = c .before .before .before .before .before .before .before .before .before .before .lay-entry .last .1 .1 .1 .1 .1 .1 in
     record {
       inside = omega arith;
-      lays = entering-next (a .book .now) (a .offsets .now) (a .count) (a .word .now) (a .boundary) (a .p) (cells (a .bases .now) (a .exponents .now) (a .nexts .now) (a .enters .now) (a .numbers .now)) (c .before .before .before .before .before .before .before .before .before .before .before .before .before .before .before .before .before .before .before .before .before .before .before .before .before .before .before .before .pre) (l .place) (cells (l .bases) (l .exponents) (l .nexts) (l .enters) (l .numbers)) (l .i) (l .inv) (omega arith) _ _ (rw (c .before .before .before .before .before .before .before .before .before .before .before .before .before .before .before .before .offset .ensures) at (c .before .before .before .before .before .before .before .before .before .before .lay-entry .ensures));
+      lays = entering-next (a .book .now) (a .offsets .now) (a .count) (a .word .now) (a .boundary) (a .p) (cells (a .bases .now) (a .exponents .now) (a .nexts .now) (a .enters .now) (a .numbers .now)) (c .before .before .before .before .before .before .before .before .before .before .before .before .before .before .before .before .before .before .before .before .before .before .before .before .before .before .before .before .pre) (l .place) (cells (l .bases) (l .exponents) (l .nexts) (l .enters) (l .numbers)) (l .i) (l .inv) (omega arith) (c .before .before .before .before .before .before .before .before .before .before .lay-entry .result) (cells (m .0) (m .1 .0) (m .1 .1 .0) (m .1 .1 .1 .0) (m .1 .1 .1 .1 .0)) (rw (c .before .before .before .before .before .before .before .before .before .before .before .before .before .before .before .before .offset .ensures) at (c .before .before .before .before .before .before .before .before .before .before .lay-entry .ensures));
       bases-length = omega (arith, l .inv .bases-length);
       exponents-length = omega (arith, l .inv .exponents-length);
       nexts-length = omega (arith, l .inv .nexts-length);

@@ -1,11 +1,10 @@
 -- `lattice::layout::lay_entry` meets its contract: the comparison decides whether the entry is laid.
 use borrow.Author.Needs.{needs}
-use mathlib.Core.Path.{_≡_, refl, sym, ap, _∙_}
+use mathlib.Core.Path.{sym, ap, _∙_}
 use borrow.Author.Tests.{not-true, not-false}
-use Rattle.lattice.proofs.EntryLaws.{entry-other, entry-fitting, entry-same}
+use Rattle.lattice.proofs.EntryLaws.{entry-other, entry-slot-fits, entry-same}
 use Rattle.lattice.specs.Cells.{cells}
-use Rattle.linking.specs.Reading.{NumberedEntry}
-use Rattle.book.specs.Format.{Bytes, sameBytes, wordOf, typePart, simplesOf}
+use Rattle.book.specs.Format.{Bytes, sameBytes, wordOf, typePart}
 use Rattle.book.proofs.Names.{same-test}
 use Rattle.lattice.proofs.layout.lay_entry.Statement.{statement}
 use Rattle.lattice.proofs.layout.lay_entry.Tie as tie
@@ -42,7 +41,7 @@ lay-slot-requires c κs =
     let body = c .before .before .before .before .before .before .before .before .before .body-at .ensures in
     let says = ap (λ (w : Bytes). sameBytes w (a .word .now)) (sym (c .before .before .before .before .before .before .before .before .word-part .ensures ∙ ap wordOf body)) ∙ same-test _ _ _ (c .before .before .before .before .before .before .before .same .ensures) in
     let part = c .before .before .before .before .before .type-part .ensures ∙ ap typePart body in
-    entry-fitting (a .book .now) (a .at) (a .number) (a .word .now) (a .boundary) (a .p) (cells (a .bases .now) (a .exponents .now) (a .nexts .now) (a .enters .now) (a .numbers .now)) (c .before .before .before .before .before .before .before .before .before .before .before .before .before .before .before .before .before .pre) (says ∙ not-false _ (c .before .before .before .before .before .before .if1 .left)) _ part
+    entry-slot-fits (a .book .now) (a .at) (a .number) (a .word .now) (a .boundary) (a .p) (cells (a .bases .now) (a .exponents .now) (a .nexts .now) (a .enters .now) (a .numbers .now)) (c .before .before .before .before .before .before .before .before .before .before .before .before .before .before .before .before .before .pre) (says ∙ not-false _ (c .before .before .before .before .before .before .if1 .left)) _ part
 
 same-length : tie.Need-same-length
 same-length c = search needs
@@ -65,7 +64,8 @@ returns-2 c =
     let body = c .before .before .before .before .before .before .before .before .before .before .before .before .before .before .before .before .before .before .before .before .body-at .ensures in
     let says = ap (λ (w : Bytes). sameBytes w (a .word .now)) (sym (c .before .before .before .before .before .before .before .before .before .before .before .before .before .before .before .before .before .before .before .word-part .ensures ∙ ap wordOf body)) ∙ same-test _ _ _ (c .before .before .before .before .before .before .before .before .before .before .before .before .before .before .before .before .before .before .same .ensures) in
     let part = c .before .before .before .before .before .before .before .before .before .before .before .before .before .before .before .before .type-part .ensures ∙ ap typePart body in
-    entry-same (a .book .now) (a .at) (a .number) (a .word .now) (a .boundary) (a .p) (cells (a .bases .now) (a .exponents .now) (a .nexts .now) (a .enters .now) (a .numbers .now)) (c .before .before .before .before .before .before .before .before .before .before .before .before .before .before .before .before .before .before .before .before .before .before .before .before .before .before .before .before .pre) (says ∙ not-false _ (c .before .before .before .before .before .before .before .before .before .before .before .before .before .before .before .before .before .if1 .left)) _ part _ _ (c .before .before .before .before .before .before .before .before .before .before .lay-slot .ensures)
+    let m = c .before .before .before .before .before .before .before .before .before .before .lay-slot .last .1 .1 .1 .1 in
+    entry-same (a .book .now) (a .at) (a .number) (a .word .now) (a .boundary) (a .p) (cells (a .bases .now) (a .exponents .now) (a .nexts .now) (a .enters .now) (a .numbers .now)) (c .before .before .before .before .before .before .before .before .before .before .before .before .before .before .before .before .before .before .before .before .before .before .before .before .before .before .before .before .pre) (says ∙ not-false _ (c .before .before .before .before .before .before .before .before .before .before .before .before .before .before .before .before .before .if1 .left)) _ part (c .before .before .before .before .before .before .before .before .before .before .lay-slot .result) (cells (m .0) (m .1 .0) (m .1 .1 .0) (m .1 .1 .1 .0) (m .1 .1 .1 .1 .0)) (c .before .before .before .before .before .before .before .before .before .before .lay-slot .ensures)
 
 pub lay-entry-spec : {M : Type 1} → statement M
 lay-entry-spec =

@@ -1,7 +1,7 @@
 -- `lattice::layout::lay_slot` meets its contract: a second empty type is passed, and any other gets the next slot.
 use borrow.Author.Needs.{needs}
 use native.Mathlib.Omega.{arith}
-use Rattle.lattice.proofs.EntryLaws.{slot-passed, slot-typable, slot-taken}
+use Rattle.lattice.proofs.EntryLaws.{slot-passed, slot-taken}
 use Rattle.lattice.specs.Cells.{cells}
 use Rattle.lattice.proofs.layout.lay_slot.Statement.{statement}
 use Rattle.lattice.proofs.layout.lay_slot.Tie as tie
@@ -13,6 +13,9 @@ returns : tie.Need-returns
 returns c =
     let a = c .before .before .before .before .before .before .before .args in
     slot-passed (a .part .now) (a .number) (a .boundary) (a .p) (cells (a .bases .now) (a .exponents .now) (a .nexts .now) (a .enters .now) (a .numbers .now)) (c .before .before .before .before .before .before .before .pre) (c .if1 .taken)
+
+add-behind : tie.Need-add-behind
+add-behind c = search needs
 
 lay-type-requires : tie.Need-lay-type-requires
 lay-type-requires c κs = search needs
@@ -35,11 +38,8 @@ mul-numbers c = search needs
 slice-write-numbers : tie.Need-slice-write-numbers
 slice-write-numbers c = search needs
 
-add-t27 : tie.Need-add-t27
-add-t27 c = search needs
-
-add-t28 : tie.Need-add-t28
-add-t28 c = search needs
+add-t16 : tie.Need-add-t16
+add-t16 c = search needs
 
 same-length : tie.Need-same-length
 same-length c = search needs
@@ -59,13 +59,15 @@ same-length-5 c = search needs
 returns-2 : tie.Need-returns-2
 returns-2 c =
     let a = c .before .before .before .before .before .before .before .before .before .before .before .before .before .before .before .before .before .args in
-    slot-taken (a .part .now) (a .number) (a .boundary) (a .p) (cells (a .bases .now) (a .exponents .now) (a .nexts .now) (a .enters .now) (a .numbers .now)) (c .before .before .before .before .before .before .before .before .before .before .before .before .before .before .before .before .before .pre) (c .before .before .before .before .before .before .before .before .before .before .if1 .left) _ _ _ (omega arith) (omega arith) (omega arith) _ (c .before .before .before .before .before .before .lay-type .ensures)
+    let m = c .before .before .before .before .before .before .lay-type .last .1 .1 .1 in
+    slot-taken (a .part .now) (a .number) (a .boundary) (a .p) (cells (a .bases .now) (a .exponents .now) (a .nexts .now) (a .enters .now) (a .numbers .now)) (c .before .before .before .before .before .before .before .before .before .before .before .before .before .before .before .before .before .pre) (c .before .before .before .before .before .before .before .before .before .before .if1 .left) (m .0) (m .1 .0) (m .1 .1 .0) (omega arith) (omega arith) (omega arith) (c .before .before .before .before .before .before .lay-type .result) (c .before .before .before .before .before .before .lay-type .ensures)
 
 pub lay-slot-spec : {M : Type 1} → statement M
 lay-slot-spec =
     tie.close
     (tie.spec
     returns
+    add-behind
     lay-type-requires
     cast-enters
     mul-enters
@@ -73,8 +75,7 @@ lay-slot-spec =
     cast-numbers
     mul-numbers
     slice-write-numbers
-    add-t27
-    add-t28
+    add-t16
     same-length
     same-length-2
     same-length-3

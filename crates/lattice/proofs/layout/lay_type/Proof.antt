@@ -1,7 +1,5 @@
 -- `lattice::layout::lay_type` meets its contract: from the last simple type to the first, what is laid is spelt up to the boundary.
 use native.Mathlib.Omega.{arith}
-use Prim.Native.Nat.{ℕ}
-use mathlib.Core.Path.{_≡_}
 use Rattle.lattice.proofs.TypeLaws.{Typing, typing-start, typing-next, typing-end, type-inside, type-listed}
 use Rattle.lattice.specs.Cells.{nodes}
 use Rattle.lattice.proofs.layout.lay_type.Statement.{statement}

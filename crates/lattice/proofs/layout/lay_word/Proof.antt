@@ -1,11 +1,12 @@
 -- `lattice::layout::lay_word` meets its contract: the number of simple types gives the next boundary, and the slots of the entries the range.
 use borrow.Author.Needs.{needs}
 use native.Mathlib.Omega.{arith}
-use Prim.Native.Nat.{ℕ, _+_}
-use mathlib.Core.Path.{ap}
+use Prim.Native.Nat.{_+_}
+use mathlib.Core.Path.{_≡_}
+use Rattle.lattice.specs.Cells.{cells, entriesOfWord}
+use Rattle.line.specs.LineFaults.{simplesIn}
 use Rattle.lattice.proofs.WordLaws.{word-placed, word-lined}
 use Rattle.lattice.specs.Lists.{lists}
-use Rattle.lattice.specs.Cells.{entriesOfWord}
 use Rattle.lattice.proofs.layout.lay_word.Statement.{statement}
 use Rattle.lattice.proofs.layout.lay_word.Tie as tie
 use Rattle.lattice.proofs.layout.lay_word.Reads as reads
@@ -28,8 +29,10 @@ add-froms c = omega (arith, c .before .tally-word .ensures .sum, c .before .befo
 lay-entries-requires : tie.Need-lay-entries-requires
 lay-entries-requires c κs =
     let a = c .before .before .before .before .before .before .before .before .before .before .before .before .before .before .before .before .before .args in
-    let next = ap (λ (m : ℕ). a .p .node + 1 + m) (c .before .before .before .before .before .before .tally-word .ensures .sum) in
-    record { lexicon = c .before .before .before .before .before .before .before .before .before .before .before .before .before .before .before .before .before .pre .lexicon; placed = word-placed (a .p) (lists (a .bases .now) (a .exponents .now) (a .nexts .now) (a .froms .now) (a .tos .now) (a .enters .now) (a .numbers .now)) (c .before .before .before .before .before .before .before .before .before .before .before .before .before .before .before .before .before .pre .standing) (c .before .before .before .before .before .before .before .before .before .before .before .before .before .before .before .before .before .pre .numbers-room) (entriesOfWord (a .book .now) (a .offsets .now) (a .count) (a .word .now)) _ next (omega (arith, next, c .before .before .before .before .before .before .before .before .before .before .before .before .before .before .before .before .before .pre .fits)); fits = omega (arith, next) }
+    let es = entriesOfWord (a .book .now) (a .offsets .now) (a .count) (a .word .now) in
+    let t = c .before .before .before .before .before .before .tally-word in
+    let next : a .p .node + 1 + t .result .simples ≡ a .p .node + 1 + simplesIn es = omega (arith, t .ensures .sum) in
+    record { lexicon = c .before .before .before .before .before .before .before .before .before .before .before .before .before .before .before .before .before .pre .lexicon; placed = word-placed (a .p) (lists (a .bases .now) (a .exponents .now) (a .nexts .now) (a .froms .now) (a .tos .now) (a .enters .now) (a .numbers .now)) (c .before .before .before .before .before .before .before .before .before .before .before .before .before .before .before .before .before .pre .standing) (c .before .before .before .before .before .before .before .before .before .before .before .before .before .before .before .before .before .pre .numbers-room) es (a .p .node + 1 + t .result .simples) next (omega (arith, next, c .before .before .before .before .before .before .before .before .before .before .before .before .before .before .before .before .before .pre .fits)); fits = omega (arith, next) }
 
 cast-froms : tie.Need-cast-froms
 cast-froms c = omega (arith, c .before .before .before .before .before .before .before .before .before .before .before .before .before .before .before .before .before .tally-word .ensures .sum, c .before .before .before .before .before .before .before .before .before .before .before .before .before .before .before .before .before .before .before .before .before .before .before .before .before .before .before .before .pre .fits, c .before .before .before .before .before .before .before .before .before .before .before .before .before .before .before .before .before .before .before .before .before .before .before .before .before .before .before .before .pre .standing .few, c .before .before .before .before .before .before .before .before .before .before .before .before .before .before .before .before .before .before .before .before .before .before .before .before .before .before .before .before .pre .standing .room .froms, c .before .before .before .before .before .before .before .before .before .before .before .before .before .before .before .before .before .before .before .before .before .before .before .before .before .before .before .before .pre .standing .room .tos, c .before .before .before .before .before .before .before .before .before .before .lay-entries .ensures .placed .few, c .before .before .before .before .before .before .before .before .before .before .lay-entries .ensures .placed .inside)
@@ -73,8 +76,11 @@ same-length-7 c = search needs
 returns : tie.Need-returns
 returns c =
     let a = c .before .before .before .before .before .before .before .before .before .before .before .before .before .before .before .before .before .before .before .before .before .before .before .before .before .before .before .before .args in
-    let next = ap (λ (m : ℕ). a .p .node + 1 + m) (c .before .before .before .before .before .before .before .before .before .before .before .before .before .before .before .before .before .tally-word .ensures .sum) in
-    word-lined (a .p) (lists (a .bases .now) (a .exponents .now) (a .nexts .now) (a .froms .now) (a .tos .now) (a .enters .now) (a .numbers .now)) (c .before .before .before .before .before .before .before .before .before .before .before .before .before .before .before .before .before .before .before .before .before .before .before .before .before .before .before .before .pre .standing) (c .before .before .before .before .before .before .before .before .before .before .before .before .before .before .before .before .before .before .before .before .before .before .before .before .before .before .before .before .pre .numbers-room) (entriesOfWord (a .book .now) (a .offsets .now) (a .count) (a .word .now)) _ next (omega (arith, next, c .before .before .before .before .before .before .before .before .before .before .before .before .before .before .before .before .before .before .before .before .before .before .before .before .before .before .before .before .pre .fits)) _ _ (c .before .before .before .before .before .before .before .before .before .before .lay-entries .ensures)
+    let es = entriesOfWord (a .book .now) (a .offsets .now) (a .count) (a .word .now) in
+    let t = c .before .before .before .before .before .before .before .before .before .before .before .before .before .before .before .before .before .tally-word in
+    let next : a .p .node + 1 + t .result .simples ≡ a .p .node + 1 + simplesIn es = omega (arith, t .ensures .sum) in
+    let m = c .before .before .before .before .before .before .before .before .before .before .lay-entries .last .1 .1 .1 .1 .1 .1 in
+    word-lined (a .p) (lists (a .bases .now) (a .exponents .now) (a .nexts .now) (a .froms .now) (a .tos .now) (a .enters .now) (a .numbers .now)) (c .before .before .before .before .before .before .before .before .before .before .before .before .before .before .before .before .before .before .before .before .before .before .before .before .before .before .before .before .pre .standing) (c .before .before .before .before .before .before .before .before .before .before .before .before .before .before .before .before .before .before .before .before .before .before .before .before .before .before .before .before .pre .numbers-room) es (a .p .node + 1 + t .result .simples) next (omega (arith, next, c .before .before .before .before .before .before .before .before .before .before .before .before .before .before .before .before .before .before .before .before .before .before .before .before .before .before .before .before .pre .fits)) (c .before .before .before .before .before .before .before .before .before .before .lay-entries .result) (cells (m .0) (m .1 .0) (m .1 .1 .0) (m .1 .1 .1 .0) (m .1 .1 .1 .1 .0)) (c .before .before .before .before .before .before .before .before .before .before .lay-entries .ensures)
 
 pub lay-word-spec : {M : Type 1} → statement M
 lay-word-spec =

@@ -1,7 +1,7 @@
 -- `lattice::layout::lay_words` meets its contract: the words passed are laid, and those left are the rest.
 use native.Mathlib.Omega.{arith}
 use Prim.Native.Nat.{_-_}
-use Rattle.lattice.proofs.LineLaws.{Lining, lining-start, lining-wordable, lining-next, lining-end}
+use Rattle.lattice.proofs.LineLaws.{Lining, lining-start, lining-fits, lining-next, lining-end}
 use Rattle.lattice.specs.Lists.{lists}
 use Rattle.lattice.proofs.layout.lay_words.Statement.{statement}
 use Rattle.lattice.proofs.layout.lay_words.Tie as tie
@@ -53,7 +53,7 @@ lay-word-requires : tie.Need-lay-word-requires Inv-loop μ-loop
 lay-word-requires c κs =
     let a = c .before .before .before .before .before .before .before .before .before .before .before .before .before .before .before .before .before .before .before .before .before .before .before .before .args in
     let l = c .before .before .before .before .before .before .before .before .before .before .before .loop in
-    lining-wordable (a .book .now) (a .offsets .now) (a .count) (a .line .now) (a .starts .now) (a .ends .now) (a .words) (a .p) (lists (a .bases .now) (a .exponents .now) (a .nexts .now) (a .froms .now) (a .tos .now) (a .enters .now) (a .numbers .now)) (c .before .before .before .before .before .before .before .before .before .before .before .before .before .before .before .before .before .before .before .before .before .before .before .before .pre) (l .place) (lists (l .bases) (l .exponents) (l .nexts) (l .froms) (l .tos) (l .enters) (l .numbers)) (l .k) (l .inv) (c .before .before .before .before .before .before .before .before .before .before .loop-test .taken)
+    lining-fits (a .book .now) (a .offsets .now) (a .count) (a .line .now) (a .starts .now) (a .ends .now) (a .words) (a .p) (lists (a .bases .now) (a .exponents .now) (a .nexts .now) (a .froms .now) (a .tos .now) (a .enters .now) (a .numbers .now)) (c .before .before .before .before .before .before .before .before .before .before .before .before .before .before .before .before .before .before .before .before .before .before .before .before .pre) (l .place) (lists (l .bases) (l .exponents) (l .nexts) (l .froms) (l .tos) (l .enters) (l .numbers)) (l .k) (l .inv) (c .before .before .before .before .before .before .before .before .before .before .loop-test .taken)
 
 add-k : tie.Need-add-k Inv-loop μ-loop
 add-k c = omega (arith, c .before .before .before .before .before .before .before .before .before .before .before .before .before .before .before .before .before .before .before .before .before .before .before .before .before .loop-test .taken, c .before .before .before .before .before .before .before .before .before .before .before .before .before .before .before .before .before .before .before .before .before .before .before .before .before .before .before .before .before .before .before .before .before .before .before .before .before .before .before .pre .split .few)
@@ -65,9 +65,10 @@ loop-again : tie.Need-loop-again Inv-loop μ-loop
 loop-again c =
     let a = c .before .before .before .before .before .before .before .before .before .before .before .before .before .before .before .before .before .before .before .before .before .before .before .before .before .before .before .before .before .before .before .before .before .before .before .before .before .before .before .args in
     let l = c .before .before .before .before .before .before .before .before .before .before .before .before .before .before .before .before .before .before .before .before .before .before .before .before .before .before .loop in
+    let m = c .before .before .before .before .before .before .before .before .before .before .before .before .before .before .lay-word .last .1 .1 .1 .1 .1 in
     record {
       inside = omega (arith, c .before .before .before .before .before .before .before .before .before .before .before .before .before .before .before .before .before .before .before .before .before .before .before .before .before .loop-test .taken);
-      lined = lining-next (a .book .now) (a .offsets .now) (a .count) (a .line .now) (a .starts .now) (a .ends .now) (a .words) (a .p) (lists (a .bases .now) (a .exponents .now) (a .nexts .now) (a .froms .now) (a .tos .now) (a .enters .now) (a .numbers .now)) (c .before .before .before .before .before .before .before .before .before .before .before .before .before .before .before .before .before .before .before .before .before .before .before .before .before .before .before .before .before .before .before .before .before .before .before .before .before .before .before .pre) (l .place) (lists (l .bases) (l .exponents) (l .nexts) (l .froms) (l .tos) (l .enters) (l .numbers)) (l .k) (l .inv) (c .before .before .before .before .before .before .before .before .before .before .before .before .before .before .before .before .before .before .before .before .before .before .before .before .before .loop-test .taken) _ _ (c .before .before .before .before .before .before .before .before .before .before .before .before .before .before .lay-word .ensures);
+      lined = lining-next (a .book .now) (a .offsets .now) (a .count) (a .line .now) (a .starts .now) (a .ends .now) (a .words) (a .p) (lists (a .bases .now) (a .exponents .now) (a .nexts .now) (a .froms .now) (a .tos .now) (a .enters .now) (a .numbers .now)) (c .before .before .before .before .before .before .before .before .before .before .before .before .before .before .before .before .before .before .before .before .before .before .before .before .before .before .before .before .before .before .before .before .before .before .before .before .before .before .before .pre) (l .place) (lists (l .bases) (l .exponents) (l .nexts) (l .froms) (l .tos) (l .enters) (l .numbers)) (l .k) (l .inv) (c .before .before .before .before .before .before .before .before .before .before .before .before .before .before .before .before .before .before .before .before .before .before .before .before .before .loop-test .taken) (c .before .before .before .before .before .before .before .before .before .before .before .before .before .before .lay-word .result) (lists (m .0) (m .1 .0) (m .1 .1 .0) (m .1 .1 .1 .0) (m .1 .1 .1 .1 .0) (m .1 .1 .1 .1 .1 .0) (m .1 .1 .1 .1 .1 .1 .0)) (c .before .before .before .before .before .before .before .before .before .before .before .before .before .before .lay-word .ensures);
       bases-length = omega (arith, l .inv .bases-length);
       exponents-length = omega (arith, l .inv .exponents-length);
       nexts-length = omega (arith, l .inv .nexts-length);
