@@ -17,7 +17,7 @@ use Rattle.book.specs.declared.BookCheck.{BookCheck}
 use Rattle.book.specs.declared.BookCheck.the-variants.{Accepted, Refused}
 use Rattle.book.proofs.Names.{bodies-length}
 
-zeros : (n p : ℕ) → getD {A = ℕ} (replicate n 0) p 0 ≡ 0
+pub zeros : (n p : ℕ) → getD {A = ℕ} (replicate n 0) p 0 ≡ 0
 zeros zero p = refl
 zeros (suc n) zero = refl
 zeros (suc n) (suc p) = zeros n p

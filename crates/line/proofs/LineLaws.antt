@@ -21,7 +21,7 @@ use Rattle.line.specs.declared.Words.{Words as Split}
 use Rattle.line.specs.declared.Words.the-variants.{Found, Refused}
 use Rattle.line.specs.declared.Tally.{Tally}
 
-kept-length : (line : Bytes) (starts ends : List ℕ) (n : ℕ) → length (wordsKept line starts ends n) ≡ n
+pub kept-length : (line : Bytes) (starts ends : List ℕ) (n : ℕ) → length (wordsKept line starts ends n) ≡ n
 unfolding wordsKept
 kept-length line starts ends zero = refl
 kept-length line starts ends (suc n) = let e = kept-length line starts ends n in length-append (wordsKept line starts ends n) _ ∙ omega arith

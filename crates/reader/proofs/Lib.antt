@@ -5,3 +5,4 @@ pub mod Selection
 pub mod Gathering
 pub mod WritingLaws
 pub mod ReadingLaws
+pub mod OpeningLaws

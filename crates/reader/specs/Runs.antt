@@ -39,6 +39,10 @@ pub record Open (bytes : Bytes) (offsets : List ℕ) (count : ℕ) (rows : List 
   pub decides : Decides (below (length (B .names)) (B .pairs)) (InRows rows)
   pub chosen : B .target ≡ target
 
+-- Some book is open.
+abbrev pub IsOpen : Bytes → List ℕ → ℕ → List ℕ → ℕ → Type 0
+IsOpen bytes offsets count rows target = (B : Book) × Open bytes offsets count rows target B
+
 -- The graph is that of these words, n of them, and the target.
 pub record Drawn (g : Graph) (numbers : List ℕ) (t : Basic) (n : ℕ) (words : Words) : Type 0 where
   pub laid : (end : ℕ) → end + 1 ≡ g .count → Laid g numbers t 0 words end

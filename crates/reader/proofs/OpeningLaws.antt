@@ -1,0 +1,108 @@
+-- From a scanned book and a checked line to a graph that can be read, and from what the graph gives to the outcome.
+use Prim.Native.Nat.{ℕ, _+_, _-_, _≤_, _<_}
+use native.Mathlib.Omega.{arith}
+use mathlib.Core.Path.{_≡_, refl, sym, ap, subst, _∙_}
+use mathlib.Core.Logic.{_↔_, Iff·trans, Iff·symm}
+use mathlib.Core.List.{List, [], _∷_, map}
+use lib.ListN.{getD, length, length-map, replicate}
+use Rattle.pregroup.specs.Types.{Basic}
+use Rattle.pregroup.specs.Tests.{Test, Decides}
+use Rattle.pregroup.specs.Held.{InRows}
+use Rattle.order.specs.Closed.{Closed, Listed, below}
+use Rattle.order.specs.Rows.{Hold}
+use Rattle.order.proofs.Decision.{below-decides}
+use Rattle.book.specs.Format.{Bytes, Book, Parsed, accepted, refused, parse}
+use Rattle.book.specs.Kept.{Store, Opened}
+use Rattle.book.proofs.Checking.{zeros, opened-types, opened-order}
+use Rattle.book.proofs.Accepted.{accepted-declares}
+use Rattle.linking.specs.Reading.{Words, firstReading}
+use Rattle.line.specs.Words.{wordsOf}
+use Rattle.line.specs.LineFaults.{LineCheck, passed, stopped, lineCheck, entriesOf, entriesOfLine}
+use Rattle.line.specs.LookUp.{LineSays}
+use Rattle.line.specs.declared.Words.the-variants.{Found}
+use Rattle.line.proofs.LineLaws.{kept-length}
+use Rattle.line.proofs.Passed.{line-passing, line-brief}
+use Rattle.lattice.specs.Cells.{maxNodes, Lexicon}
+use Rattle.lattice.specs.Lists.{Lists, graphOf, Checked, LaidOut}
+use Rattle.reader.specs.declared.LineAnswer.{LineAnswer}
+use Rattle.reader.specs.declared.LineAnswer.the-variants.{Refused}
+use Rattle.reader.specs.Outcome.{Outcome, given, readAgainst, readParsed, outcome}
+use Rattle.reader.specs.Demands.{Promised}
+use Rattle.reader.specs.Runs.{Gives, Open, IsOpen, Drawn, Drawable}
+use Rattle.reader.proofs.Promises.{outcome-promised}
+
+-- Whatever gives the outcome keeps the promises.
+pub gives-promised : (book line : Bytes) (before : List ℕ) {answer : LineAnswer} {after : List ℕ} → Gives (outcome book line before) answer after
+    → Promised book line before answer after
+gives-promised book line before {answer} {after} g =
+    subst (λ (a : LineAnswer). Promised book line before a after) (sym (g .returned))
+    (subst (λ (l : List ℕ). Promised book line before (outcome book line before .answer) l) (sym (g .left)) (outcome-promised book line before))
+
+-- A book that is refused.
+pub gives-book-refused : (book line : Bytes) (before : List ℕ) {number value : ℕ} → parse book ≡ refused number value → Gives (outcome book line before) (Refused number value) before
+unfolding readParsed
+gives-book-refused book line before e = record { returned = rw e; left = rw e }
+
+module _ (book line : Bytes) (before : List ℕ) {B : Book} (parsed : parse book ≡ accepted B) where
+  -- A line that is refused.
+  pub gives-line-refused : {number value : ℕ} → lineCheck B line ≡ stopped number value → Gives (outcome book line before) (Refused number value) before
+  unfolding readParsed readAgainst
+  gives-line-refused l = record { returned = rw (parsed, l); left = rw (parsed, l) }
+
+  outcome-is : {words : Words} → lineCheck B line ≡ passed words → outcome book line before ≡ given (firstReading (below (length (B .names)) (B .pairs)) (B .target) words) before
+  unfolding readParsed readAgainst
+  outcome-is l = rw (parsed, l)
+
+  -- A line that is read.
+  pub gives-outcome : {words : Words} {target : Basic} {answer : LineAnswer} {after : List ℕ} → lineCheck B line ≡ passed words → B .target ≡ target
+      → Gives (given (firstReading (below (length (B .names)) (B .pairs)) target words) before) answer after → Gives (outcome book line before) answer after
+  gives-outcome {words} {answer = answer} {after} l e g =
+      subst (λ (o : Outcome). Gives o answer after) (sym (outcome-is l))
+      (subst (λ (s : Basic). Gives (given (firstReading (below (length (B .names)) (B .pairs)) s words) before) answer after) (sym e) g)
+
+-- What is kept of an accepted book, with its closed order.
+pub is-open : (bytes : Bytes) (s : Store) (types count target : ℕ) (B : Book) (rows : List ℕ) → Opened bytes s types count target B → Hold rows (Closed types (InRows (s .direct)))
+    → Open bytes (s .entries) count rows target B
+is-open bytes s types count target B rows o hold =
+    let number = opened-types bytes s types count target B o in
+    let order : Hold rows (Closed (length (B .names)) (Listed (B .pairs))) = rw number (opened-order bytes s types count target B o rows hold) in
+    let declared = accepted-declares bytes B (o .parsed) .pairs in
+    record {
+      parsed = o .parsed;
+      entries = o .entries;
+      lexicon = record {
+        entries = record { few = o .few-entries; whole = o .entries-whole; layouts = λ i h. o .formed i h .layout };
+        listed = λ i h. o .formed i h .listed;
+      };
+      decides = λ a b. Iff·trans (below-decides (length (B .names)) (B .pairs) declared a b) (Iff·symm (order a b));
+      chosen = o .chosen;
+    }
+
+module _ {bytes : Bytes} {offsets : List ℕ} {count : ℕ} {rows : List ℕ} {target : ℕ} {line : Bytes} {starts ends : List ℕ} {n nodes : ℕ} {l : Lists}
+    (checked : Checked bytes offsets count line starts ends n) (out : LaidOut bytes offsets count line target l nodes) where
+  -- The graph is that of the line's words.
+  pub line-drawn : {B : Book} → Open bytes offsets count rows target B → Drawn (graphOf nodes l) (l .cells .numbers) target n (entriesOfLine B line)
+  line-drawn {B} o =
+      let says = checked B (o .entries) in
+      let p = line-passing B line (entriesOfLine B line) (says .1) in
+      record {
+        laid = λ end last. out .laid B (o .entries) end last;
+        known-words = p .known-words;
+        brief-words = line-brief B line (entriesOfLine B line) (accepted-declares bytes B (o .parsed) .short) p;
+        ascending = p .ascending;
+        count = length-map (wordsOf line) (entriesOf B) ∙ ap length (says .0 .words) ∙ kept-length line starts ends n;
+      }
+
+  pub line-drawable : {B : Book} → Open bytes offsets count rows target B → length (l .cells .enters) ≤ length (l .cells .numbers)
+      → Drawable (InRows rows) (graphOf nodes l) (l .cells .numbers) target n
+  line-drawable {B} o room = record {
+    upward = out .upward;
+    some-nodes = out .some-nodes;
+    few = omega (arith, out .few);
+    few-words = checked B (o .entries) .0 .few;
+    numbers-room = room;
+    test = below (length (B .names)) (B .pairs);
+    decides = o .decides;
+    words = entriesOfLine B line;
+    drawn = line-drawn o;
+  }
