@@ -1,0 +1,59 @@
+-- `write_word_rows` is safe and ends: the index stays at most the number of words. Assumes nothing.
+use Prim.Native.Nat.{_≤_, _-_}
+use lib.ListN.{length}
+use native.Mathlib.Omega.{arith}
+use Rattle.reading.proofs.listing.write_word_rows.Statement.{statement}
+use Rattle.reading.proofs.listing.write_word_rows.Tie as tie
+
+abbrev Inv-loop : tie.InvT-loop
+Inv-loop book entries chosen i₀ i = i ≤ length chosen
+
+abbrev μ-loop : tie.MeasureT-loop
+μ-loop book entries chosen i₀ i = length chosen - i
+
+loop-holds : tie.Need-loop-holds Inv-loop μ-loop
+loop-holds c = omega arith
+
+add-write-word-row : tie.Need-add-write-word-row Inv-loop μ-loop
+add-write-word-row c = omega arith
+
+mul-number-of : tie.Need-mul-number-of Inv-loop μ-loop
+mul-number-of c = omega arith
+
+shared-slice-read-number-of : tie.Need-shared-slice-read-number-of Inv-loop μ-loop
+shared-slice-read-number-of c = omega arith
+
+number-of-requires : tie.Need-number-of-requires Inv-loop μ-loop
+number-of-requires c κs = omega arith
+
+write-word-row-requires : tie.Need-write-word-row-requires Inv-loop μ-loop
+write-word-row-requires c κs = omega arith
+
+add-i : tie.Need-add-i Inv-loop μ-loop
+add-i c = omega arith
+
+loop-less : tie.Need-loop-less Inv-loop μ-loop
+loop-less c = omega arith
+
+loop-again : tie.Need-loop-again Inv-loop μ-loop
+loop-again c = omega arith
+
+returns : tie.Need-returns Inv-loop μ-loop
+returns c = omega arith
+
+pub write-word-rows-spec : {M : Type 1} → statement M
+write-word-rows-spec =
+    tie.close
+    (tie.spec
+    Inv-loop
+    μ-loop
+    loop-holds
+    add-write-word-row
+    mul-number-of
+    shared-slice-read-number-of
+    number-of-requires
+    write-word-row-requires
+    add-i
+    loop-less
+    loop-again
+    returns)
