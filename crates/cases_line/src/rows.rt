@@ -1,0 +1,163 @@
+// Lines read against a book, with a row for each. A list of cases is written as text: for each case its name, a colon, its line, and a
+// semicolon; no name and no line holds one of the two.
+use crate::build::Space;
+use reader::LineAnswer;
+
+// How many values there are to lend.
+pub const VALUES: usize = 512;
+
+// What stands in each value before a line is read.
+const MARK: u16 = 9999;
+
+// How many values the row of a buffer shows.
+const SHOWN: usize = 10;
+
+// What a row says: the answer, whether the line is read, or the answer between the number of values lent and the first values of the buffer.
+pub enum Show {
+    Answer,
+    Whether,
+    Buffer,
+}
+
+// Writes a space and a number.
+fn number(value: u64) {
+    io::write_all(1, b" ");
+    io::print_decimal(1, value);
+}
+
+// Writes a space and a 16-bit number.
+fn short(value: u16) {
+    number(value as u64);
+}
+
+// Writes the first values of a list.
+fn values(list: &[u16], count: usize) {
+    let mut i = 0;
+    while i < count {
+        if i >= list.len() {
+            return;
+        }
+        short(list[i]);
+        i += 1;
+    }
+}
+
+// Writes the values of an answer, or no, a number and a value.
+fn answer(result: LineAnswer, list: &[u16]) {
+    match result {
+        LineAnswer::Read { values: count } => values(list, count),
+        LineAnswer::Refused {
+            number: cause,
+            value,
+        } => {
+            io::write_all(1, b" no");
+            number(cause as u64);
+            number(value as u64);
+        }
+    }
+}
+
+// Writes yes or no.
+fn whether(result: LineAnswer) {
+    match result {
+        LineAnswer::Read { .. } => {
+            io::write_all(1, b" yes");
+        }
+        LineAnswer::Refused { .. } => {
+            io::write_all(1, b" no");
+        }
+    }
+}
+
+// Writes what a row says of a result and the buffer behind it.
+fn shown(result: LineAnswer, list: &[u16], lent: usize, show: Show) {
+    match show {
+        Show::Answer => answer(result, list),
+        Show::Whether => whether(result),
+        Show::Buffer => {
+            io::write_all(1, b" lent");
+            number(lent as u64);
+            answer(result, list);
+            io::write_all(1, b" buffer");
+            values(list, SHOWN);
+        }
+    }
+}
+
+// Writes the row of a line, with so many values lent.
+fn row(book: &[u8], label: &[u8], line: &[u8], lent: usize, show: Show) {
+    if lent <= VALUES {
+        let mut buffer = [MARK; VALUES];
+        io::write_all(1, label);
+        let result = reader::read_line(book, line, &mut buffer[..lent]);
+        shown(result, &buffer, lent, show);
+        io::write_all(1, b"\n");
+    }
+}
+
+// Writes the row of the case that stands at `from` in a list, with its colon at `colon` and its semicolon at `end`.
+fn listed(
+    book: &[u8],
+    cases: &[u8],
+    from: usize,
+    colon: usize,
+    end: usize,
+    lent: usize,
+    show: Show,
+) {
+    if from > colon {
+        return;
+    }
+    if colon >= end {
+        return;
+    }
+    if end > cases.len() {
+        return;
+    }
+    let line = colon + 1;
+    row(book, &cases[from..colon], &cases[line..end], lent, show);
+}
+
+// Writes the rows of the cases of a list.
+fn rows(book: &[u8], cases: &[u8], lent: usize, show: Show) {
+    let mut from = 0;
+    let mut colon = 0;
+    let mut i = 0;
+    while i < cases.len() {
+        if cases[i] == b':' {
+            colon = i;
+        }
+        if cases[i] == b';' {
+            listed(book, cases, from, colon, i, lent, show);
+            from = i + 1;
+        }
+        i += 1;
+    }
+}
+
+// The rows of a list against the book that the first bytes of a slice are.
+fn rows_of_part(bytes: &[u8], length: usize, cases: &[u8], lent: usize, show: Show) {
+    if length <= bytes.len() {
+        rows(&bytes[..length], cases, lent, show);
+    }
+}
+
+// The rows of a list against the book that the first bytes of the buffer are.
+pub fn against(buf: &Space, length: usize, cases: &[u8], lent: usize, show: Show) {
+    rows_of_part(buf, length, cases, lent, show);
+}
+
+// The rows of a list with the answers, and with more values lent than any answer takes.
+pub fn answers(buf: &Space, length: usize, cases: &[u8]) {
+    against(buf, length, cases, VALUES, Show::Answer);
+}
+
+// The rows of a list with the buffer, for each number of values lent, from 0 to the last.
+pub fn lending(buf: &Space, length: usize, cases: &[u8], last: usize) {
+    let mut lent = 0;
+    while lent < last {
+        against(buf, length, cases, lent, Show::Buffer);
+        lent += 1;
+    }
+    against(buf, length, cases, last, Show::Buffer);
+}
