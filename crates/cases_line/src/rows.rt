@@ -25,8 +25,8 @@ fn number(value: u64) {
     io::print_decimal(1, value);
 }
 
-// Writes a space and a value of a buffer.
-fn entry(value: u16) {
+// Writes a space and a 16-bit number.
+fn short(value: u16) {
     number(value as u64);
 }
 
@@ -37,7 +37,7 @@ fn values(list: &[u16], count: usize) {
         if i >= list.len() {
             return;
         }
-        entry(list[i]);
+        short(list[i]);
         i += 1;
     }
 }
@@ -60,13 +60,10 @@ fn answer(result: LineAnswer, list: &[u16]) {
 // Writes yes or no.
 fn whether(result: LineAnswer) {
     match result {
-        LineAnswer::Read { values: count } => {
+        LineAnswer::Read { .. } => {
             io::write_all(1, b" yes");
         }
-        LineAnswer::Refused {
-            number: cause,
-            value,
-        } => {
+        LineAnswer::Refused { .. } => {
             io::write_all(1, b" no");
         }
     }

@@ -16,14 +16,14 @@ loop-holds c = omega arith
 returns : tie.Need-returns Inv-loop μ-loop
 returns c = omega arith
 
-mul-entry : tie.Need-mul-entry Inv-loop μ-loop
-mul-entry c = omega arith
+mul-short : tie.Need-mul-short Inv-loop μ-loop
+mul-short c = omega arith
 
-shared-slice-read-entry : tie.Need-shared-slice-read-entry Inv-loop μ-loop
-shared-slice-read-entry c = omega arith
+shared-slice-read-short : tie.Need-shared-slice-read-short Inv-loop μ-loop
+shared-slice-read-short c = omega arith
 
-entry-requires : tie.Need-entry-requires Inv-loop μ-loop
-entry-requires c κs = omega arith
+short-requires : tie.Need-short-requires Inv-loop μ-loop
+short-requires c κs = omega arith
 
 add-i : tie.Need-add-i Inv-loop μ-loop
 add-i c = omega arith
@@ -45,9 +45,9 @@ values-spec =
     μ-loop
     loop-holds
     returns
-    mul-entry
-    shared-slice-read-entry
-    entry-requires
+    mul-short
+    shared-slice-read-short
+    short-requires
     add-i
     loop-less
     loop-again
