@@ -1,4 +1,4 @@
--- How the code holds sets of nodes: each set is a row of nine words of 64 bits, and rows stand one behind another in a flat list.
+-- How the code holds sets of nodes or places: each set is a row of nine words of 64 bits, and rows stand one behind another in a flat list.
 use Prim.Native.Nat.{ℕ, _+_, _*_, _/_, _%_, _≤_, _<_}
 use mathlib.Core.Path.{_≡_}
 use mathlib.Core.Logic.{_↔_}
@@ -6,7 +6,7 @@ use mathlib.Core.List.{List}
 use lib.ListN.{getD, length}
 use Rattle.bits.specs.Bits.{Has}
 
--- How many words a row has, and how many nodes it has room for: `ROW_WORDS` and `ROW_BITS` of the code.
+-- How many words a row has, and how many members it has room for: `ROW_WORDS` and `ROW_BITS` of the code.
 abbrev pub rowWords : ℕ
 rowWords = 9
 

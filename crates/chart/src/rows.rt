@@ -1,4 +1,4 @@
-// Rows of nodes: sets of numbers below 576 in nine words of 64 bits. A row under construction is a `Row`; finished ones stand one behind
+// Rows of nodes or places: sets of numbers below 576 in nine words of 64 bits. A row under construction is a `Row`; finished ones stand one behind
 // another in a flat slice, row u from word 9 u on.
 ghost use mathlib.Core.Path.{_≡_};
 ghost use mathlib.Core.Logic.{_↔_, _⊎_};
@@ -6,7 +6,7 @@ ghost use mathlib.Core.Bool.{true};
 ghost use Prim.Native.Nat.{_<_, _≤_};
 ghost use Rattle.chart.specs.Rows.{InRow, HasRow, RowSays, NextMember, Stored, rowBits};
 
-// How many words a row has, and how many nodes it has room for.
+// How many words a row has, and how many members it has room for.
 pub const ROW_WORDS: usize = 9;
 
 pub const ROW_BITS: usize = 576;

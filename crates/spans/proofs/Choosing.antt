@@ -12,10 +12,10 @@ use Rattle.pregroup.specs.Vanish.{Vanish}
 use Rattle.linking.specs.Linking.{simpleAt, stretch}
 use Rattle.linking.proofs.Linked.{Linked, nothing, linked, linked-stretch}
 use Rattle.linking.proofs.Greedy.{Candidate, Stay, VanishBehind, ReducesFrom, Nearest, candidate-of-link}
-use Rattle.spans.specs.Rows.{rowBits, InRow}
+use Rattle.chart.specs.Rows.{rowBits, InRow}
 use Rattle.spans.specs.Spans.{heldAt, stringOf, ContractsAt, Right}
 use Rattle.spans.specs.Links.{MayLink, NearestLink, ReducingRow}
-use Rattle.spans.proofs.RowLaws.{less-or-not}
+use Rattle.chart.proofs.RowLaws.{less-or-not}
 use Rattle.spans.proofs.Stretches.{length-string, string-at}
 
 -- A stretch by positions is a stretch by indices.

@@ -8,7 +8,7 @@ use lib.ListN.{getD, length, take, set}
 use lib.Seq.{getD-set-same, getD-set-other, take-suc}
 use Rattle.spans.specs.Spans.{heldAt, stringOf}
 use Rattle.spans.specs.Copy.{Copied, pickedString}
-use Rattle.spans.proofs.RowLaws.{less-or-not}
+use Rattle.chart.proofs.RowLaws.{less-or-not}
 
 -- A list that begins as f says goes on so where f k is put at k.
 module _ (l : List ℕ) (k : ℕ) (f : ℕ → ℕ) (so-far : (i : ℕ) → i < k → getD l i 0 ≡ f i) (room : k < length l) where

@@ -16,7 +16,7 @@ use Rattle.linking.proofs.Positions.{linking-iff-parted}
 use Rattle.linking.proofs.Reduction.{linking-iff-reduces}
 use Rattle.linking.proofs.Greedy.{ReducesFrom, GreedyFrom, stays, links, greedy-agree, parted-of-greedy, reduces-of-parted}
 use Rattle.linking.proofs.FirstLinking.{first-linking-greedy}
-use Rattle.spans.specs.Rows.{HasRow, RowSays}
+use Rattle.chart.specs.Rows.{HasRow, RowSays}
 use Rattle.spans.specs.Spans.{stringOf, Right, MemberPart, Gathered}
 use Rattle.spans.specs.Links.{Remains, Kept, LinkedFrom, ReducingThere, FirstLinked}
 use Rattle.spans.proofs.Stretches.{length-string}

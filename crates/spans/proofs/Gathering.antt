@@ -4,9 +4,9 @@ use native.Mathlib.Omega.{arith}
 use mathlib.Core.Path.{_≡_, sym, _∙_}
 use mathlib.Core.Logic.{_↔_, _⊎_, inl, inr, ⊎-elim}
 use mathlib.Core.List.{List}
-use Rattle.spans.specs.Rows.{InRow, RowSays}
+use Rattle.chart.specs.Rows.{InRow, RowSays}
 use Rattle.spans.specs.Spans.{Gathered, itself, within}
-use Rattle.spans.proofs.RowLaws.{less-or-not}
+use Rattle.chart.proofs.RowLaws.{less-or-not}
 
 -- The parts below i.
 pub record Below (i : ℕ) (Part : ℕ → ℕ → Type 0) (m v : ℕ) : Type 0 where

@@ -8,7 +8,7 @@ use lib.ListN.{length}
 use Rattle.pregroup.specs.Types.{Basic}
 use Rattle.pregroup.specs.Order.{Relation}
 use Rattle.linking.proofs.Greedy.{Stay, VanishBehind, ReducesFrom}
-use Rattle.spans.specs.Rows.{InRow}
+use Rattle.chart.specs.Rows.{InRow}
 use Rattle.spans.specs.Spans.{maxString, stringOf, StringThere}
 use Rattle.spans.specs.Links.{Stays, NearestLink, EndsThere, LinkingThere, ReducingThere}
 use Rattle.spans.proofs.Table.{right-of-string}

@@ -12,7 +12,7 @@ use Rattle.pregroup.specs.Vanish.{Vanish, empty}
 use Rattle.linking.specs.Linking.{simpleAt, stretch}
 use Rattle.linking.proofs.Stretches.{stretch-empty}
 use Rattle.linking.proofs.Greedy.{Stay, ReducesFrom}
-use Rattle.spans.specs.Rows.{InRow, RowSays}
+use Rattle.chart.specs.Rows.{InRow, RowSays}
 use Rattle.spans.specs.Spans.{stringOf, Right, MemberPart, Gathered, itself, within}
 use Rattle.spans.specs.Links.{Remains, Stays, ReducingRow}
 use Rattle.spans.proofs.Stretches.{length-string}

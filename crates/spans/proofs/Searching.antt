@@ -5,9 +5,9 @@ use mathlib.Core.Path.{_≡_}
 use mathlib.Core.Logic.{_⊎_, ⊎-elim}
 use mathlib.Core.List.{List}
 use Rattle.pregroup.specs.Order.{Relation}
-use Rattle.spans.specs.Rows.{rowBits, InRow, NextMember}
+use Rattle.chart.specs.Rows.{rowBits, InRow, NextMember}
 use Rattle.spans.specs.Links.{Closes, MayLink, NearestLink}
-use Rattle.spans.proofs.RowLaws.{less-or-not}
+use Rattle.chart.proofs.RowLaws.{less-or-not}
 
 module _ (Le : Relation) (bases exponents rows ends : List ℕ) (e i : ℕ) where
   -- The walk has come to j, and i may be linked to nothing before the index before j.

@@ -10,9 +10,9 @@ use lib.Seq.{slice, slice-empty, take-take}
 use Rattle.pregroup.specs.Types.{PregroupType, plain}
 use Rattle.pregroup.specs.Order.{Relation}
 use Rattle.pregroup.specs.Vanish.{Contracts, Vanish, empty}
-use Rattle.spans.specs.Rows.{RowSays, Stored}
+use Rattle.chart.specs.Rows.{RowSays, Stored}
 use Rattle.spans.specs.Spans.{stringOf, ContractsAt, Span, Right, MemberPart, Gathered, itself, within}
-use Rattle.spans.proofs.RowLaws.{less-or-not}
+use Rattle.chart.proofs.RowLaws.{less-or-not}
 use Rattle.spans.proofs.Stretches.{length-string, take-string, string-at, LastLink, closes, last-link, last-closed}
 
 -- The table speaks of the front of the string only.

@@ -3,7 +3,7 @@ use Prim.Native.Nat.{ℕ, _+_, _-_, _≤_, _<_}
 use native.Mathlib.Omega.{arith}
 use mathlib.Core.Logic.{_⊎_}
 use mathlib.Core.List.{List}
-use Rattle.spans.specs.Rows.{rowBits, InRow, RowSays, NextMember}
+use Rattle.chart.specs.Rows.{rowBits, InRow, RowSays, NextMember}
 use Rattle.spans.specs.Spans.{Joined, MemberPart, Gathered}
 use Rattle.spans.proofs.Gathering.{GatheredTo, gather-starts, gather-one, gather-skip, gather-ends, part-says}
 

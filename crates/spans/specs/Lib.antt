@@ -1,5 +1,4 @@
--- Rows of indices, the table of what vanishes, the first linking, and the string of picked nodes.
-pub mod Rows
+-- The table of what vanishes, the first linking, and the string of picked nodes.
 pub mod Spans
 pub mod Links
 pub mod Copy

@@ -9,7 +9,7 @@ use lib.ListN.{getD, length, take, drop, set}
 use Rattle.pregroup.specs.Types.{Basic, PregroupType}
 use Rattle.pregroup.specs.Order.{Relation}
 use Rattle.linking.proofs.Greedy.{Greedy, GreedyFrom, ReducesFrom}
-use Rattle.spans.specs.Rows.{rowBits, InRow, HasRow, RowSays}
+use Rattle.chart.specs.Rows.{rowBits, InRow, HasRow, RowSays}
 use Rattle.spans.specs.Spans.{heldAt, stringOf, ContractsAt, StringThere, Right}
 
 -- The simple type at u may be the unlinked one: it is plain and stands at or below the target.

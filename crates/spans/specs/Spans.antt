@@ -8,7 +8,7 @@ use Rattle.pregroup.specs.Types.{Simple, PregroupType}
 use Rattle.pregroup.specs.Order.{Relation}
 use Rattle.pregroup.specs.Vanish.{Contracts, Vanish}
 use Rattle.pregroup.specs.Held.{held}
-use Rattle.spans.specs.Rows.{InRow, RowSays}
+use Rattle.chart.specs.Rows.{InRow, RowSays}
 
 -- How many simple types a string has at most, 24 words of at most 12: `MAX_STRING` of the code.
 abbrev pub maxString : ℕ

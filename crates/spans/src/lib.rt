@@ -1,22 +1,22 @@
 // Which stretches of one chosen string vanish. The string is lent as its bytes; for each k the table holds, as a row of bits, the indices from
 // which the stretch up to k vanishes. It grows by one simple type at a time.
 pub mod links;
-pub mod rows;
 pub mod string;
 
-use rows::Row;
+use chart::rows;
+use chart::rows::Row;
 ghost use Prim.Native.Nat.{suc, _+_, _<_};
 ghost use mathlib.Core.Path.{_≡_};
 ghost use mathlib.Core.Logic.{_⊎_};
 ghost use Rattle.pregroup.specs.Held.{InRows};
-ghost use Rattle.spans.specs.Rows.{InRow, HasRow, RowSays};
+ghost use Rattle.chart.specs.Rows.{InRow, HasRow, RowSays};
 ghost use Rattle.spans.specs.Spans.{stringOf, ContractsAt, Right, StringThere, Bounded, Joined, MemberPart, Gathered};
 
 // How many simple types a string has at most: 24 words of at most 12.
 pub const MAX_STRING: usize = 288;
 
 // How many words the table of the longest string takes: 289 rows.
-pub const TABLE_WORDS: usize = 1445;
+pub const TABLE_WORDS: usize = 2601;
 
 // The row with that of i, where the simple type at i could contract with the one at k.
 fn join_row(

@@ -1,7 +1,7 @@
 // The first linking of a string that reduces to the target, given the table of what vanishes: each position stays unlinked if it can, and
 // else takes the nearest partner that leaves the rest linkable. Partners count from 1.
-use crate::rows;
-use crate::rows::Row;
+use chart::rows;
+use chart::rows::Row;
 ghost use Prim.Native.Nat.{_+_, _<_};
 ghost use mathlib.Core.Path.{_≡_};
 ghost use mathlib.Core.Logic.{_↔_, _⊎_};
@@ -9,7 +9,7 @@ ghost use mathlib.Core.Bool.{true};
 ghost use lib.ListN.{length, set};
 ghost use Rattle.pregroup.specs.Held.{InRows};
 ghost use Rattle.pregroup.specs.Vanish.{Reduces};
-ghost use Rattle.spans.specs.Rows.{InRow, HasRow, RowSays};
+ghost use Rattle.chart.specs.Rows.{InRow, HasRow, RowSays};
 ghost use Rattle.spans.specs.Spans.{maxString, stringOf, StringThere, Bounded, Joined, MemberPart, Gathered};
 ghost use Rattle.spans.specs.Links.{Remains, Stays, Closes, NearestLink, EndsThere, withLink, LinkingThere, LinkedWithin, LinkedFrom, ReducingThere, FirstLinked};
 

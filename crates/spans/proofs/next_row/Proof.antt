@@ -3,7 +3,7 @@ use Prim.Native.Nat.{suc, _-_}
 use native.Mathlib.Omega.{arith}
 use mathlib.Core.Path.{_≡_}
 use Rattle.pregroup.specs.Held.{InRows}
-use Rattle.spans.specs.Rows.{rowBits}
+use Rattle.chart.specs.Rows.{rowBits}
 use Rattle.spans.specs.Spans.{ContractsAt}
 use Rattle.spans.proofs.Gathering.{alone-says}
 use Rattle.spans.proofs.Walking.{Walking, walking-starts, walking-turns, walking-ends}

@@ -4,7 +4,7 @@ use Prim.Native.Nat.{ℕ}
 use native.Mathlib.Omega.{arith}
 use mathlib.Core.Path.{_≡_, sym, _∙_}
 use lib.ListN.{length, length-map}
-use Rattle.spans.specs.Rows.{rowWords}
+use Rattle.chart.specs.Rows.{rowWords}
 use Rattle.spans.proofs.FirstLinked.{reducing-there, first-linked}
 use Rattle.spans.proofs.links.first_linking.Statement.{statement}
 use Rattle.spans.proofs.links.first_linking.Tie as tie

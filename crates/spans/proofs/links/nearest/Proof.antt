@@ -4,7 +4,7 @@ use native.Mathlib.Omega.{arith}
 use mathlib.Core.Path.{sym, _∙_}
 use mathlib.Core.Bool.{true≢false}
 use Rattle.pregroup.specs.Held.{InRows}
-use Rattle.spans.specs.Rows.{rowBits}
+use Rattle.chart.specs.Rows.{rowBits}
 use Rattle.spans.proofs.Searching.{Searched, search-starts, search-turns, search-finds, search-ends}
 use Rattle.spans.proofs.links.nearest.Statement.{statement}
 use Rattle.spans.proofs.links.nearest.Tie as tie

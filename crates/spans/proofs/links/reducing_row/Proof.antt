@@ -2,7 +2,7 @@
 use Prim.Native.Nat.{_-_}
 use native.Mathlib.Omega.{arith}
 use Rattle.pregroup.specs.Held.{InRows}
-use Rattle.spans.specs.Rows.{rowBits}
+use Rattle.chart.specs.Rows.{rowBits}
 use Rattle.spans.specs.Links.{Remains}
 use Rattle.spans.proofs.Walking.{Walking, walking-starts, walking-turns, walking-ends}
 use Rattle.spans.proofs.links.reducing_row.Statement.{statement}
