@@ -11,7 +11,7 @@ use Rattle.pregroup.specs.Order.{Relation}
 use Rattle.pregroup.specs.Vanish.{Contracts}
 use Rattle.chart.specs.Rows.{rowBits, InRow, HasRow, RowSays, Stored}
 use Rattle.chart.specs.Graph.{Graph, labelOf, Labelled, EntersBy, by, Upward, VanishTo}
-use Rattle.chart.specs.Chart.{FilledFrom, Fillable, Gathered, itself, within, SlotPart, SlotsThere, LinkPart, NodeThere, LinksThere}
+use Rattle.chart.specs.Chart.{FilledFrom, Fillable, Gathered, Only, itself, within, SlotPart, SlotsThere, LinkPart, NodeThere, LinksThere}
 use Rattle.chart.proofs.RowLaws.{less-or-not, same-or-not}
 use Rattle.chart.proofs.Recurrence.{Van, same, pass, join, van-iff-vanish}
 
@@ -71,7 +71,7 @@ module _ (Le : Relation) (g : Graph) (rows : List ℕ) (up : Upward g) (room : (
 
     -- A boundary's row.
     module _ (b : getD (g .nexts) u 0 ≡ 0) where
-      van-of-slots : (v : ℕ) → Gathered u (SlotPart (g .enters) rows (getD (g .froms) u 0) (getD (g .tos) u 0)) v → Van Le g u v
+      van-of-slots : (v : ℕ) → Gathered (Only u) (SlotPart (g .enters) rows (getD (g .froms) u 0) (getD (g .tos) u 0)) v → Van Le g u v
       van-of-slots v (itself e) = rw e same
       van-of-slots v (within s p) =
           let w = getD (g .enters) s 0 in
@@ -79,7 +79,7 @@ module _ (Le : Relation) (g : Graph) (rows : List ℕ) (up : Upward g) (room : (
           let on = up .enters-up u s w small e in
           pass (by s e) (row-van w (on .0) (on .1) v .0 (p .behind))
 
-      slots-of-van : {v : ℕ} → Van Le g u v → Gathered u (SlotPart (g .enters) rows (getD (g .froms) u 0) (getD (g .tos) u 0)) v
+      slots-of-van : {v : ℕ} → Van Le g u v → Gathered (Only u) (SlotPart (g .enters) rows (getD (g .froms) u 0) (getD (g .tos) u 0)) v
       slots-of-van same = itself refl
       slots-of-van {v} (pass {w} (by s e) t) =
           let on = up .enters-up u s w small e in
@@ -88,7 +88,7 @@ module _ (Le : Relation) (g : Graph) (rows : List ℕ) (up : Upward g) (room : (
       slots-of-van (join l s m c t) = absurd (omega (arith, l .simple))
 
       boundary-says :
-          (row : List ℕ) → RowSays row 0 (Gathered u (SlotPart (g .enters) rows (getD (g .froms) u 0) (getD (g .tos) u 0)))
+          (row : List ℕ) → RowSays row 0 (Gathered (Only u) (SlotPart (g .enters) rows (getD (g .froms) u 0) (getD (g .tos) u 0)))
           → RowSays row 0 (VanishTo Le g u)
       boundary-says row says v =
           (λ m. van-iff-vanish .0 (van-of-slots v (says v .0 m)), λ t. says v .1 (slots-of-van (van-iff-vanish .1 t)))
@@ -98,7 +98,7 @@ module _ (Le : Relation) (g : Graph) (rows : List ℕ) (up : Upward g) (room : (
       next-up : (u < getD (g .nexts) u 0) × (getD (g .nexts) u 0 < g .count)
       next-up = up .nexts-up u small s
 
-      van-of-links : (v : ℕ) → Gathered u (LinkPart Le (g .bases) (g .exponents) (g .nexts) rows u) v → Van Le g u v
+      van-of-links : (v : ℕ) → Gathered (Only u) (LinkPart Le (g .bases) (g .exponents) (g .nexts) rows u) v → Van Le g u v
       van-of-links v (itself e) = rw e same
       van-of-links v (within y p) =
           let inner = row-van (getD (g .nexts) u 0) (next-up .0) (next-up .1) y .0 (p .reached) in
@@ -108,7 +108,7 @@ module _ (Le : Relation) (g : Graph) (rows : List ℕ) (up : Upward g) (room : (
           let m : Labelled g y (labelOf g y) k = record { simple = p .joined .simple; label = refl; next = refl } in
           join l inner m (p .joined .contracts) (row-van k (omega (arith, next-up .0, van-after up (next-up .1) inner)) (on .1) v .0 (p .joined .behind))
 
-      links-of-van : {v : ℕ} → Van Le g u v → Gathered u (LinkPart Le (g .bases) (g .exponents) (g .nexts) rows u) v
+      links-of-van : {v : ℕ} → Van Le g u v → Gathered (Only u) (LinkPart Le (g .bases) (g .exponents) (g .nexts) rows u) v
       links-of-van same = itself refl
       links-of-van (pass (by t e) r) = absurd (omega (arith, e .boundary))
       links-of-van {v} (join {n} {y} {k} {x} {z} l i m c o) =
@@ -125,7 +125,7 @@ module _ (Le : Relation) (g : Graph) (rows : List ℕ) (up : Upward g) (room : (
           })
 
       simple-says :
-          (row : List ℕ) → RowSays row 0 (Gathered u (LinkPart Le (g .bases) (g .exponents) (g .nexts) rows u))
+          (row : List ℕ) → RowSays row 0 (Gathered (Only u) (LinkPart Le (g .bases) (g .exponents) (g .nexts) rows u))
           → RowSays row 0 (VanishTo Le g u)
       simple-says row says v =
           (λ m. van-iff-vanish .0 (van-of-links v (says v .0 m)), λ t. says v .1 (links-of-van (van-iff-vanish .1 t)))
@@ -172,12 +172,12 @@ module _ (Le : Relation) (g : Graph) (start rows : List ℕ) (u : ℕ) (pre : Fi
 
     pub boundary-turn :
         getD (g .nexts) (u - 1) 0 ≡ 0
-        → RowSays row 0 (Gathered (u - 1) (SlotPart (g .enters) rows (getD (g .froms) (u - 1) 0) (getD (g .tos) (u - 1) 0)))
+        → RowSays row 0 (Gathered (Only (u - 1)) (SlotPart (g .enters) rows (getD (g .froms) (u - 1) 0) (getD (g .tos) (u - 1) 0)))
         → (u - 1 ≤ g .count) × (length rows′ ≡ length start) × FilledFrom Le g rows′ (u - 1)
     boundary-turn b says = turned (boundary-says Le g rows (pre .upward) turn-room (u - 1) (omega arith) turn-filled b row says)
 
     pub simple-turn :
         (getD (g .nexts) (u - 1) 0 ≡ 0 → ⊥)
-        → RowSays row 0 (Gathered (u - 1) (LinkPart Le (g .bases) (g .exponents) (g .nexts) rows (u - 1)))
+        → RowSays row 0 (Gathered (Only (u - 1)) (LinkPart Le (g .bases) (g .exponents) (g .nexts) rows (u - 1)))
         → (u - 1 ≤ g .count) × (length rows′ ≡ length start) × FilledFrom Le g rows′ (u - 1)
     simple-turn s says = turned (simple-says Le g rows (pre .upward) turn-room (u - 1) (omega arith) turn-filled (omega arith) row says)

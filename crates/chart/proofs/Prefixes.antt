@@ -14,7 +14,7 @@ use Rattle.pregroup.proofs.Machine.{vanish-append}
 use Rattle.pregroup.proofs.VanishLaws.{Decomposed, at, vanish-last}
 use Rattle.chart.specs.Graph.{Graph}
 use Rattle.chart.specs.Completion.{Finishes, Reaches, Completion, settled, closes}
-use Rattle.chart.specs.Chart.{Gathered, itself, within}
+use Rattle.chart.specs.Chart.{Gathered, Only, itself, within}
 use Rattle.chart.specs.Prefixes.{simpleAt, Stretch, LinkedStretch, Leaving, whole, linked, FinishedAt}
 use Rattle.chart.proofs.RowLaws.{same-or-not}
 use Rattle.chart.proofs.Completion.{finishes-iff-completion}
@@ -60,7 +60,7 @@ module _ (P : PregroupType) where
 module _ {Le : Relation} (P : PregroupType) (j : ℕ) (there : j < length P) where
   linked-at :
       (i : ℕ) → i ≤ j → {L R : PregroupType} {c : Simple} → CutAt P i j L c R → Vanish Le L → Contracts Le c (simpleAt P j) → Vanish Le R
-      → Gathered (j + 1) (LinkedStretch Le P j) i
+      → Gathered (Only (j + 1)) (LinkedStretch Le P j) i
   linked-at i h t v k w =
       let back : t .place + 1 - 1 ≡ t .place = omega arith in
       within (t .place + 1) (record {
@@ -70,16 +70,16 @@ module _ {Le : Relation} (P : PregroupType) (j : ℕ) (there : j < length P) whe
         outside = record { ordered = omega (arith, t .from-on); vanishes = rw (back, t .left) v };
       })
 
-  linked-of : (i : ℕ) → i ≤ j → {X : PregroupType} → Decomposed Le (simpleAt P j) X → slice i j P ≡ X → Gathered (j + 1) (LinkedStretch Le P j) i
+  linked-of : (i : ℕ) → i ≤ j → {X : PregroupType} → Decomposed Le (simpleAt P j) X → slice i j P ≡ X → Gathered (Only (j + 1)) (LinkedStretch Le P j) i
   linked-of i h (at {L} {R} {c} v k w) e = linked-at i h (cut-at P i j L c R h (omega arith) e) v k w
 
-  stretch-longer : (i : ℕ) → (i ≡ j + 1) ⊎ (i ≡ j + 1 → ⊥) → Stretch Le P i (j + 1) → Gathered (j + 1) (LinkedStretch Le P j) i
+  stretch-longer : (i : ℕ) → (i ≡ j + 1) ⊎ (i ≡ j + 1 → ⊥) → Stretch Le P i (j + 1) → Gathered (Only (j + 1)) (LinkedStretch Le P j) i
   stretch-longer i (inl e) s = itself e
   stretch-longer i (inr n) s =
       let h : i ≤ j = omega (arith, s .ordered) in
       linked-of i h (vanish-last (slice i j P) (rw (slice-last P i j h there) at (s .vanishes))) refl
 
-  longer-stretch : (i : ℕ) → Gathered (j + 1) (LinkedStretch Le P j) i → Stretch Le P i (j + 1)
+  longer-stretch : (i : ℕ) → Gathered (Only (j + 1)) (LinkedStretch Le P j) i → Stretch Le P i (j + 1)
   longer-stretch i (itself e) = record { ordered = omega arith; vanishes = rw (e, slice-empty (j + 1) P) empty }
   longer-stretch i (within m l) =
       let up : m - 1 + 1 ≡ m = omega (arith, l .positive) in
@@ -93,7 +93,7 @@ module _ {Le : Relation} (P : PregroupType) (j : ℕ) (there : j < length P) whe
       }
 
   -- A stretch that ends with place j is empty, or its last simple type is linked.
-  pub stretch-step : (i : ℕ) → Stretch Le P i (j + 1) ↔ Gathered (j + 1) (LinkedStretch Le P j) i
+  pub stretch-step : (i : ℕ) → Stretch Le P i (j + 1) ↔ Gathered (Only (j + 1)) (LinkedStretch Le P j) i
   stretch-step i = (stretch-longer i (same-or-not i (j + 1)), longer-stretch i)
 
 -- How the prefix of j simple types is finished.

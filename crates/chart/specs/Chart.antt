@@ -19,10 +19,14 @@ pub record Fillable (g : Graph) (rows : List ℕ) : Type 0 where
   pub upward : Upward g
   pub room : (u : ℕ) → u < g .count → HasRow rows u
 
--- v is u, or in one of the parts.
-pub data Gathered (u : ℕ) (Part : ℕ → ℕ → Type 0) (v : ℕ) : Type 0 where
-  itself : v ≡ u → Gathered u Part v
-  within : (m : ℕ) → Part m v → Gathered u Part v
+-- v starts, or is in one of the parts.
+pub data Gathered (Start : ℕ → Type 0) (Part : ℕ → ℕ → Type 0) (v : ℕ) : Type 0 where
+  itself : Start v → Gathered Start Part v
+  within : (m : ℕ) → Part m v → Gathered Start Part v
+
+-- A start of one number.
+abbrev pub Only : ℕ → ℕ → Type 0
+Only u v = v ≡ u
 
 -- The part of a slot: what the node that it enters has.
 pub record SlotPart (enters rows : List ℕ) (from to s v : ℕ) : Type 0 where

@@ -9,13 +9,13 @@ ghost use lib.ListN.{getD};
 ghost use Rattle.pregroup.specs.Held.{InRows};
 ghost use Rattle.chart.specs.Rows.{InRow, HasRow, RowSays, rowBits};
 ghost use Rattle.chart.specs.Graph.{graph};
-ghost use Rattle.chart.specs.Chart.{FilledFrom, Fillable, Gathered, SlotPart, SlotsThere, Joined, LinkPart, NodeThere, LinksThere};
+ghost use Rattle.chart.specs.Chart.{FilledFrom, Fillable, Gathered, Only, SlotPart, SlotsThere, Joined, LinkPart, NodeThere, LinksThere};
 
 // The row of boundary u: itself, and what the rows of the nodes have that its slots enter.
 fn boundary_row(enters: &[u16], rows: &[u64], u: usize, from: usize, to: usize) -> Row
     requires { ⌜ u < rowBits ⌝ }
     requires { ⌜ SlotsThere (now enters) (now rows) from to ⌝ }
-    ensures { λ r. ⌜ RowSays (r .words) 0 (Gathered u (SlotPart (now (enters .entry)) (now (rows .entry)) from to)) ⌝ }
+    ensures { λ r. ⌜ RowSays (r .words) 0 (Gathered (Only u) (SlotPart (now (enters .entry)) (now (rows .entry)) from to)) ⌝ }
 {
     let mut row = rows::put(rows::empty(), u);
     let mut s = from;
@@ -64,7 +64,7 @@ fn simple_row(
     requires { ⌜ u < rowBits ⌝ }
     requires { ⌜ LinksThere (now bases) (now exponents) (now nexts) (now rows) u ⌝ }
     ensures { λ r. ⌜ RowSays (r .words) 0
-        (Gathered u (LinkPart (InRows (now (order .entry))) (now (bases .entry)) (now (exponents .entry)) (now (nexts .entry)) (now (rows .entry)) u)) ⌝ }
+        (Gathered (Only u) (LinkPart (InRows (now (order .entry))) (now (bases .entry)) (now (exponents .entry)) (now (nexts .entry)) (now (rows .entry)) u)) ⌝ }
 {
     let behind = nexts[u] as usize;
     let mut row = rows::put(rows::empty(), u);

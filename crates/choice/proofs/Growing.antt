@@ -7,13 +7,13 @@ use mathlib.Core.List.{List}
 use lib.ListN.{getD, length}
 use Rattle.pregroup.specs.Order.{Relation}
 use Rattle.chart.specs.Rows.{RowSays, Stored}
-use Rattle.chart.specs.Chart.{Gathered, itself, within}
+use Rattle.chart.specs.Chart.{Gathered, Only, itself, within}
 use Rattle.choice.specs.Sets.{Among, Meets, meets, LinksTo, BackPart, OutPart, OutsThere, SomePart, ReachesLink, reaches, Grew, Growable}
 
 module _ (Le : Relation) (bases exponents nexts rows picked : List ℕ) (count j : ℕ) (backs outs comps : List ℕ)
     (pre : Growable bases exponents nexts rows picked count j backs outs comps) where
   -- A stretch that ends behind place j begins at a place up to j + 1.
-  places-after : (m : ℕ) → Gathered (j + 1) (BackPart Le bases exponents picked backs j) m → m ≤ j + 1
+  places-after : (m : ℕ) → Gathered (Only (j + 1)) (BackPart Le bases exponents picked backs j) m → m ≤ j + 1
   places-after m (itself e) = omega arith
   places-after m (within k p) =
       let near = pre .up-to j (omega arith) k (p .inside) in
@@ -21,7 +21,7 @@ module _ (Le : Relation) (bases exponents nexts rows picked : List ℕ) (count j
       omega arith
 
   pub outs-there :
-      (backs′ outs′ row : List ℕ) → Stored backs backs′ row (j + 1) → RowSays row 0 (Gathered (j + 1) (BackPart Le bases exponents picked backs j))
+      (backs′ outs′ row : List ℕ) → Stored backs backs′ row (j + 1) → RowSays row 0 (Gathered (Only (j + 1)) (BackPart Le bases exponents picked backs j))
       → length outs′ ≡ length outs → OutsThere backs′ outs′ (j + 1)
   outs-there backs′ outs′ row stored says same m h =
       omega (arith, pre .outs-room m (places-after m (says m .0 (stored .stored m .0 h))))
@@ -49,7 +49,7 @@ module _ (Le : Relation) (bases exponents nexts rows picked : List ℕ) (count j
   pub grew :
       (backs′ outs′ comps′ out-row back-row comp-row : List ℕ)
       → RowSays out-row 0 (Among count (ReachesLink Le bases exponents nexts rows comps count j (getD picked j 0))) → Stored outs outs′ out-row (j + 1)
-      → RowSays back-row 0 (Gathered (j + 1) (BackPart Le bases exponents picked backs j)) → Stored backs backs′ back-row (j + 1)
+      → RowSays back-row 0 (Gathered (Only (j + 1)) (BackPart Le bases exponents picked backs j)) → Stored backs backs′ back-row (j + 1)
       → RowSays comp-row 0 (SomePart (OutPart backs′ outs′ (j + 1))) → Stored comps comps′ comp-row (j + 1)
       → Grew Le bases exponents nexts rows picked count j backs outs comps backs′ outs′ comps′
   grew backs′ outs′ comps′ out-row back-row comp-row o os b bs k ks = record {

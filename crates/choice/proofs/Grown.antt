@@ -10,7 +10,7 @@ use Rattle.pregroup.specs.Types.{Simple, PregroupType, plain}
 use Rattle.pregroup.specs.Order.{Relation}
 use Rattle.chart.specs.Rows.{RowSays}
 use Rattle.chart.specs.Graph.{Graph, labelOf, Labelled, Upward}
-use Rattle.chart.specs.Chart.{FilledFrom, Gathered, itself, within}
+use Rattle.chart.specs.Chart.{FilledFrom, Gathered, Only, itself, within}
 use Rattle.chart.specs.Completion.{Finishes, Reaches, reaches as comes-to}
 use Rattle.chart.specs.Prefixes.{simpleAt, Stretch, LinkedStretch, Leaving, whole, linked}
 use Rattle.chart.proofs.RowLaws.{same-or-not}
@@ -97,11 +97,11 @@ module _ (Le : Relation) (g : Graph) (rows picked : List ℕ) (P : PregroupType)
         };
       }
 
-  gathered-back : (i : ℕ) → Gathered (n + 1) (BackPart Le (g .bases) (g .exponents) picked backs n) i → Gathered (n + 1) (LinkedStretch Le (P ++ (x ∷ [])) n) i
+  gathered-back : (i : ℕ) → Gathered (Only (n + 1)) (BackPart Le (g .bases) (g .exponents) picked backs n) i → Gathered (Only (n + 1)) (LinkedStretch Le (P ++ (x ∷ [])) n) i
   gathered-back i (itself e) = itself e
   gathered-back i (within m p) = within m (stretch-back m i p)
 
-  back-gathered : (i : ℕ) → Gathered (n + 1) (LinkedStretch Le (P ++ (x ∷ [])) n) i → Gathered (n + 1) (BackPart Le (g .bases) (g .exponents) picked backs n) i
+  back-gathered : (i : ℕ) → Gathered (Only (n + 1)) (LinkedStretch Le (P ++ (x ∷ [])) n) i → Gathered (Only (n + 1)) (BackPart Le (g .bases) (g .exponents) picked backs n) i
   back-gathered i (itself e) = itself e
   back-gathered i (within m l) = within m (back-stretch m i l)
 

@@ -8,7 +8,7 @@ use Rattle.pregroup.specs.Order.{Relation}
 use Rattle.pregroup.specs.Vanish.{Contracts}
 use Rattle.pregroup.specs.Held.{held}
 use Rattle.chart.specs.Rows.{rowBits, InRow, HasRow, RowSays}
-use Rattle.chart.specs.Chart.{Gathered}
+use Rattle.chart.specs.Chart.{Gathered, Only}
 
 -- The simple type of a node.
 abbrev pub heldAt : List ℕ → List ℕ → ℕ → Simple
@@ -90,7 +90,7 @@ pub record Grew (Le : Relation) (bases exponents nexts rows picked : List ℕ) (
   pub outs-new : RowSays outs′ (j + 1) (Among count (ReachesLink Le bases exponents nexts rows comps count j (getD picked j 0)))
   pub outs-kept : (m : ℕ) → (m ≡ j + 1 → ⊥) → RowSays outs′ m (InRow outs m)
   pub outs-length : length outs′ ≡ length outs
-  pub backs-new : RowSays backs′ (j + 1) (Gathered (j + 1) (BackPart Le bases exponents picked backs j))
+  pub backs-new : RowSays backs′ (j + 1) (Gathered (Only (j + 1)) (BackPart Le bases exponents picked backs j))
   pub backs-kept : (i : ℕ) → (i ≡ j + 1 → ⊥) → RowSays backs′ i (InRow backs i)
   pub backs-length : length backs′ ≡ length backs
   pub comps-new : RowSays comps′ (j + 1) (SomePart (OutPart backs′ outs′ (j + 1)))

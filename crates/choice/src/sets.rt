@@ -8,7 +8,7 @@ ghost use Prim.Native.Nat.{_+_, _<_, _≤_};
 ghost use lib.ListN.{length};
 ghost use Rattle.pregroup.specs.Held.{InRows};
 ghost use Rattle.chart.specs.Rows.{InRow, HasRow, RowSays, rowBits};
-ghost use Rattle.chart.specs.Chart.{Gathered};
+ghost use Rattle.chart.specs.Chart.{Gathered, Only};
 ghost use Rattle.choice.specs.Sets.{Among, Meets, RowsThere, LinksTo, NodeHeld, NodesHeld, BackLink, BackPart, PlacesHeld, PlacesUpTo, OutPart, OutsThere, SomePart};
 
 // The row with v put in where the flag says so.
@@ -163,7 +163,7 @@ pub(crate) fn back_row(
 ) -> Row
     requires { ⌜ PlacesHeld (now bases) (now exponents) (now picked) (now backs) j ⌝ }
     requires { ⌜ PlacesUpTo (now backs) j ⌝ }
-    ensures { λ r. ⌜ RowSays (r .words) 0 (Gathered (j + 1)
+    ensures { λ r. ⌜ RowSays (r .words) 0 (Gathered (Only (j + 1))
         (BackPart (InRows (now (order .entry))) (now (bases .entry)) (now (exponents .entry)) (now (picked .entry)) (now (backs .entry)) j)) ⌝ }
 {
     let mut row = rows::put(rows::empty(), j + 1);

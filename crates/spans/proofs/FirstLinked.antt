@@ -17,7 +17,8 @@ use Rattle.linking.proofs.Reduction.{linking-iff-reduces}
 use Rattle.linking.proofs.Greedy.{ReducesFrom, GreedyFrom, stays, links, greedy-agree, parted-of-greedy, reduces-of-parted}
 use Rattle.linking.proofs.FirstLinking.{first-linking-greedy}
 use Rattle.chart.specs.Rows.{HasRow, RowSays}
-use Rattle.spans.specs.Spans.{stringOf, Right, MemberPart, Gathered}
+use Rattle.chart.specs.Chart.{Gathered}
+use Rattle.spans.specs.Spans.{stringOf, Right, MemberPart}
 use Rattle.spans.specs.Links.{Remains, Kept, LinkedFrom, ReducingThere, FirstLinked}
 use Rattle.spans.proofs.Stretches.{length-string}
 use Rattle.spans.proofs.Reducing.{reducing-says}

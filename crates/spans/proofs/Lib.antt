@@ -1,5 +1,4 @@
 -- The laws of the string's stretches and of the table; then those of the linking, up to what is written, and of the copied string.
-pub mod Gathering
 pub mod Walking
 pub mod Stretches
 pub mod Table

@@ -13,7 +13,8 @@ use Rattle.linking.specs.Linking.{simpleAt, stretch}
 use Rattle.linking.proofs.Stretches.{stretch-empty}
 use Rattle.linking.proofs.Greedy.{Stay, ReducesFrom}
 use Rattle.chart.specs.Rows.{InRow, RowSays}
-use Rattle.spans.specs.Spans.{stringOf, Right, MemberPart, Gathered, itself, within}
+use Rattle.chart.specs.Chart.{Gathered, itself, within}
+use Rattle.spans.specs.Spans.{stringOf, Right, MemberPart}
 use Rattle.spans.specs.Links.{Remains, Stays, ReducingRow}
 use Rattle.spans.proofs.Stretches.{length-string}
 use Rattle.spans.proofs.Choosing.{simple-at-index, span-iff}

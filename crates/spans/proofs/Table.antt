@@ -11,7 +11,8 @@ use Rattle.pregroup.specs.Types.{PregroupType, plain}
 use Rattle.pregroup.specs.Order.{Relation}
 use Rattle.pregroup.specs.Vanish.{Contracts, Vanish, empty}
 use Rattle.chart.specs.Rows.{RowSays, Stored}
-use Rattle.spans.specs.Spans.{stringOf, ContractsAt, Span, Right, MemberPart, Gathered, itself, within}
+use Rattle.chart.specs.Chart.{Gathered, itself, within}
+use Rattle.spans.specs.Spans.{stringOf, ContractsAt, Span, Right, MemberPart}
 use Rattle.chart.proofs.RowLaws.{less-or-not}
 use Rattle.spans.proofs.Stretches.{length-string, take-string, string-at, LastLink, closes, last-link, last-closed}
 

@@ -4,8 +4,9 @@ use native.Mathlib.Omega.{arith}
 use mathlib.Core.Logic.{_⊎_}
 use mathlib.Core.List.{List}
 use Rattle.chart.specs.Rows.{rowBits, InRow, RowSays, NextMember}
-use Rattle.spans.specs.Spans.{Joined, MemberPart, Gathered}
-use Rattle.spans.proofs.Gathering.{GatheredTo, gather-starts, gather-one, gather-skip, gather-ends, part-says}
+use Rattle.chart.specs.Chart.{Gathered}
+use Rattle.spans.specs.Spans.{Joined, MemberPart}
+use Rattle.chart.proofs.Gathering.{GatheredTo, gather-starts, gather-one, gather-skip, gather-ends, part-says}
 
 -- The walk has come to j, and the row has the start and the parts of the members before j.
 pub record Walking (Start Fits : ℕ → Type 0) (rows : List ℕ) (k : ℕ) (row : List ℕ) (j : ℕ) : Type 0 where

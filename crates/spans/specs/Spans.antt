@@ -56,8 +56,3 @@ pub record MemberPart (Fits : ℕ → Type 0) (rows : List ℕ) (k j v : ℕ) : 
   pub from-on : 1 ≤ j
   pub reached : InRow rows k j
   pub joined : Joined Fits rows (j - 1) v
-
--- v starts, or is in one of the parts.
-pub data Gathered (Start : ℕ → Type 0) (Part : ℕ → ℕ → Type 0) (v : ℕ) : Type 0 where
-  itself : Start v → Gathered Start Part v
-  within : (m : ℕ) → Part m v → Gathered Start Part v

@@ -10,7 +10,8 @@ ghost use mathlib.Core.Path.{_≡_};
 ghost use mathlib.Core.Logic.{_⊎_};
 ghost use Rattle.pregroup.specs.Held.{InRows};
 ghost use Rattle.chart.specs.Rows.{InRow, HasRow, RowSays};
-ghost use Rattle.spans.specs.Spans.{stringOf, ContractsAt, Right, StringThere, Bounded, Joined, MemberPart, Gathered};
+ghost use Rattle.chart.specs.Chart.{Gathered};
+ghost use Rattle.spans.specs.Spans.{stringOf, ContractsAt, Right, StringThere, Bounded, Joined, MemberPart};
 
 // How many simple types a string has at most: 24 words of at most 12.
 pub const MAX_STRING: usize = 288;

@@ -10,7 +10,8 @@ ghost use lib.ListN.{length, set};
 ghost use Rattle.pregroup.specs.Held.{InRows};
 ghost use Rattle.pregroup.specs.Vanish.{Reduces};
 ghost use Rattle.chart.specs.Rows.{InRow, HasRow, RowSays};
-ghost use Rattle.spans.specs.Spans.{maxString, stringOf, StringThere, Bounded, Joined, MemberPart, Gathered};
+ghost use Rattle.chart.specs.Chart.{Gathered};
+ghost use Rattle.spans.specs.Spans.{maxString, stringOf, StringThere, Bounded, Joined, MemberPart};
 ghost use Rattle.spans.specs.Links.{Remains, Stays, Closes, NearestLink, EndsThere, withLink, LinkingThere, LinkedWithin, LinkedFrom, ReducingThere, FirstLinked};
 
 // Whether the simple type at u may be the one that is left: plain, and at or below the target.

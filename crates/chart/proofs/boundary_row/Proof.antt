@@ -1,13 +1,14 @@
 -- `chart::boundary_row` meets its contract: each turn joins the part of one slot.
 use native.Mathlib.Omega.{arith}
 use Prim.Native.Nat.{ℕ, _-_, _≤_}
-use Rattle.chart.specs.Chart.{SlotPart}
-use Rattle.chart.proofs.Gathering.{GatheredTo, gather-starts, gather-one, gather-ends, part-says}
+use mathlib.Core.Path.{refl}
+use Rattle.chart.specs.Chart.{Only, SlotPart}
+use Rattle.chart.proofs.Gathering.{GatheredTo, gather-starts, gather-one, gather-ends, part-says, alone-says}
 use Rattle.chart.proofs.boundary_row.Statement.{statement}
 use Rattle.chart.proofs.boundary_row.Tie as tie
 
 abbrev Inv-loop : tie.InvT-loop
-Inv-loop enters rows u from to row₀ s₀ row s = (from ≤ s) × GatheredTo (row .words) u (SlotPart enters rows from to) s
+Inv-loop enters rows u from to row₀ s₀ row s = (from ≤ s) × GatheredTo (row .words) (Only u) (SlotPart enters rows from to) s
 
 abbrev μ-loop : tie.MeasureT-loop
 μ-loop enters rows u from to row₀ s₀ row s = to - s
@@ -26,7 +27,7 @@ loop-holds : tie.Need-loop-holds Inv-loop μ-loop
 loop-holds c =
     let s = c .before .before .before .before in (
       omega arith,
-      gather-starts (s .args .u) (slot-part s) _ _ (s .args .from) (c .before .empty .ensures) (c .put .ensures) (λ m v h p. omega (arith, p .from-on)),
+      gather-starts (Only (s .args .u)) (slot-part s) _ (s .args .from) (alone-says _ _ refl (c .before .empty .ensures) (c .put .ensures)) (λ m v h p. omega (arith, p .from-on)),
     )
 
 mul-unite : tie.Need-mul-unite Inv-loop μ-loop
@@ -52,7 +53,7 @@ loop-again c =
     let s = c .before .before .before .before .before .before .before .before in
     let l = c .before .before .before .loop in (
       omega arith,
-      gather-one (s .args .u) (slot-part s) (l .row .words) (c .unite .result .words) (l .s) (l .inv .1)
+      gather-one (Only (s .args .u)) (slot-part s) (l .row .words) (c .unite .result .words) (l .s) (l .inv .1)
           (part-says (c .unite .result .words) (c .unite .ensures)
           (λ v. (λ b. record { from-on = l .inv .0; before = c .before .before .loop-test .taken; behind = b }, λ p. p .behind))),
     )
@@ -61,7 +62,7 @@ returns : tie.Need-returns Inv-loop μ-loop
 returns c =
     let s = c .before .before .before .before .before .before in
     let l = c .before .loop in
-    gather-ends (s .args .u) (slot-part s) (l .row .words) (l .s) (λ m v p. omega (arith, p .before)) (l .inv .1)
+    gather-ends (Only (s .args .u)) (slot-part s) (l .row .words) (l .s) (λ m v p. omega (arith, p .before)) (l .inv .1)
 
 pub boundary-row-spec : {M : Type 1} → statement M
 boundary-row-spec =

@@ -5,15 +5,15 @@ use mathlib.Core.Path.{_≡_, refl}
 use lib.ListN.{getD}
 use Rattle.pregroup.specs.Held.{InRows}
 use Rattle.chart.specs.Rows.{rowBits, InRow}
-use Rattle.chart.specs.Chart.{Joined, LinkPart}
-use Rattle.chart.proofs.Gathering.{GatheredTo, gather-starts, gather-one, gather-skip, gather-ends, part-says}
+use Rattle.chart.specs.Chart.{Only, Joined, LinkPart}
+use Rattle.chart.proofs.Gathering.{GatheredTo, gather-starts, gather-one, gather-skip, gather-ends, part-says, alone-says}
 use Rattle.chart.proofs.simple_row.Statement.{statement}
 use Rattle.chart.proofs.simple_row.Tie as tie
 
 abbrev Inv-loop : tie.InvT-loop
 Inv-loop order bases exponents nexts rows u behind row₀ y₀ row y =
     (y ≤ rowBits) × (behind ≡ getD nexts u 0) × (y < rowBits → InRow rows behind y)
-    × GatheredTo (row .words) u (LinkPart (InRows order) bases exponents nexts rows u) y
+    × GatheredTo (row .words) (Only u) (LinkPart (InRows order) bases exponents nexts rows u) y
 
 abbrev μ-loop : tie.MeasureT-loop
 μ-loop order bases exponents nexts rows u behind row₀ y₀ row y = rowBits - y
@@ -47,7 +47,7 @@ loop-holds c =
       first .within,
       refl,
       first .member,
-      gather-starts (s .args .u) (link-part s) _ _ (c .next-member .result) (c .before .before .empty .ensures) (c .before .put .ensures)
+      gather-starts (Only (s .args .u)) (link-part s) _ (c .next-member .result) (alone-says _ _ refl (c .before .before .empty .ensures) (c .before .put .ensures))
           (λ m v h p. first .least m (omega arith) h (p .reached)),
     )
 
@@ -71,13 +71,13 @@ loop-again c =
     let s = c .before .before .before .before .before .before .before .before .before .before .before .before .before in
     let l = c .before .before .before .loop in
     let next = c .next-member2 .ensures in
-    let one = gather-one (s .args .u) (link-part s) (l .row .words) (c .before .join-row .result .words) (l .y) (l .inv .3)
+    let one = gather-one (Only (s .args .u)) (link-part s) (l .row .words) (c .before .join-row .result .words) (l .y) (l .inv .3)
     (part-says {B = Joined (InRows (s .args .order .now)) (s .args .bases .now) (s .args .exponents .now) (s .args .nexts .now) (s .args .rows .now) (s .args .u) (l .y)} (c .before .join-row .result .words) (c .before .join-row .ensures)
     (λ v. (λ j. record { reached = l .inv .2 (c .before .before .loop-test .taken); joined = j }, λ p. p .joined))) in (
       next .within,
       refl,
       next .member,
-      gather-skip (s .args .u) (link-part s) (c .before .join-row .result .words) (l .y + 1) (c .next-member2 .result) one (next .from-on)
+      gather-skip (Only (s .args .u)) (link-part s) (c .before .join-row .result .words) (l .y + 1) (c .next-member2 .result) one (next .from-on)
           (λ m v on h p. next .least m on h (p .reached)),
     )
 
@@ -85,7 +85,7 @@ returns : tie.Need-returns Inv-loop μ-loop
 returns c =
     let s = c .before .before .before .before .before .before .before .before .before .before .before in
     let l = c .before .loop in
-    gather-ends (s .args .u) (link-part s) (l .row .words) (l .y) (λ m v p. omega (arith, p .reached .small)) (l .inv .3)
+    gather-ends (Only (s .args .u)) (link-part s) (l .row .words) (l .y) (λ m v p. omega (arith, p .reached .small)) (l .inv .3)
 
 pub simple-row-spec : {M : Type 1} → statement M
 simple-row-spec =

@@ -2,7 +2,7 @@
 use borrow.Author.Needs.{needs}
 use mathlib.Core.Path.{refl}
 use mathlib.Core.Logic.{Iff·trans}
-use Rattle.spans.proofs.Gathering.{alone-says}
+use Rattle.chart.proofs.Gathering.{alone-says}
 use Rattle.spans.proofs.begin.Statement.{statement}
 use Rattle.spans.proofs.begin.Tie as tie
 

@@ -2,7 +2,7 @@
 use borrow.Author.Needs.{needs}
 use mathlib.Core.Path.{sym, _∙_}
 use mathlib.Core.Bool.{true≢false}
-use Rattle.spans.proofs.Gathering.{part-says, none-says}
+use Rattle.chart.proofs.Gathering.{part-says, none-says}
 use Rattle.spans.proofs.join_row.Statement.{statement}
 use Rattle.spans.proofs.join_row.Tie as tie
 

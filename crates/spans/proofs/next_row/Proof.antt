@@ -5,7 +5,7 @@ use mathlib.Core.Path.{_≡_}
 use Rattle.pregroup.specs.Held.{InRows}
 use Rattle.chart.specs.Rows.{rowBits}
 use Rattle.spans.specs.Spans.{ContractsAt}
-use Rattle.spans.proofs.Gathering.{alone-says}
+use Rattle.chart.proofs.Gathering.{alone-says}
 use Rattle.spans.proofs.Walking.{Walking, walking-starts, walking-turns, walking-ends}
 use Rattle.spans.proofs.next_row.Statement.{statement}
 use Rattle.spans.proofs.next_row.Tie as tie

@@ -1,9 +1,11 @@
 -- `choice::sets::back_row` meets its contract: each turn joins the part of one member.
 use native.Mathlib.Omega.{arith}
 use Prim.Native.Nat.{ℕ, _+_, _-_, _≤_, _<_}
+use mathlib.Core.Path.{refl}
 use Rattle.pregroup.specs.Held.{InRows}
+use Rattle.chart.specs.Chart.{Only}
 use Rattle.chart.specs.Rows.{rowBits, InRow}
-use Rattle.chart.proofs.Gathering.{GatheredTo, gather-starts, gather-one, gather-skip, gather-ends, part-says}
+use Rattle.chart.proofs.Gathering.{GatheredTo, gather-starts, gather-one, gather-skip, gather-ends, part-says, alone-says}
 use Rattle.choice.specs.Sets.{BackLink, BackPart}
 use Rattle.choice.proofs.sets.back_row.Statement.{statement}
 use Rattle.choice.proofs.sets.back_row.Tie as tie
@@ -11,7 +13,7 @@ use Rattle.choice.proofs.sets.back_row.Tie as tie
 abbrev Inv-loop : tie.InvT-loop
 Inv-loop order bases exponents picked backs j row₀ m₀ row m =
     (m ≤ rowBits) × (0 < m) × (m < rowBits → InRow backs j m)
-    × GatheredTo (row .words) (j + 1) (BackPart (InRows order) bases exponents picked backs j) m
+    × GatheredTo (row .words) (Only (j + 1)) (BackPart (InRows order) bases exponents picked backs j) m
 
 abbrev μ-loop : tie.MeasureT-loop
 μ-loop order bases exponents picked backs j row₀ m₀ row m = rowBits - m
@@ -39,7 +41,7 @@ loop-holds c =
       first .within,
       omega (arith, first .from-on),
       first .member,
-      gather-starts (s .args .j + 1) (back-part s) _ _ (c .next-member .result) (c .before .before .empty .ensures) (c .before .put .ensures)
+      gather-starts (Only (s .args .j + 1)) (back-part s) _ (c .next-member .result) (alone-says _ _ refl (c .before .before .empty .ensures) (c .before .put .ensures))
           (λ m v h p. first .least m (omega (arith, p .positive)) h (p .inside)),
     )
 
@@ -64,7 +66,7 @@ loop-again c =
     let l = c .before .before .before .loop in
     let joined = c .before .back-join in
     let next = c .next-member2 .ensures in
-    let one = gather-one (s .args .j + 1) (back-part s) (l .row .words) (joined .result .words) (l .m) (l .inv .3)
+    let one = gather-one (Only (s .args .j + 1)) (back-part s) (l .row .words) (joined .result .words) (l .m) (l .inv .3)
     (part-says
     {B = BackLink (InRows (s .args .order .now)) (s .args .bases .now) (s .args .exponents .now) (s .args .picked .now) (s .args .backs .now) (s .args .j) (l .m)}
     (joined .result .words) (joined .ensures)
@@ -72,7 +74,7 @@ loop-again c =
       next .within,
       omega (arith, next .from-on),
       next .member,
-      gather-skip (s .args .j + 1) (back-part s) (joined .result .words) (l .m + 1) (c .next-member2 .result) one (next .from-on)
+      gather-skip (Only (s .args .j + 1)) (back-part s) (joined .result .words) (l .m + 1) (c .next-member2 .result) one (next .from-on)
           (λ m v on h p. next .least m on h (p .inside)),
     )
 
@@ -80,7 +82,7 @@ returns : tie.Need-returns Inv-loop μ-loop
 returns c =
     let s = c .before .before .before .before .before .before .before .before .before .before in
     let l = c .before .loop in
-    gather-ends (s .args .j + 1) (back-part s) (l .row .words) (l .m) (λ m v p. omega (arith, p .inside .small)) (l .inv .3)
+    gather-ends (Only (s .args .j + 1)) (back-part s) (l .row .words) (l .m) (λ m v p. omega (arith, p .inside .small)) (l .inv .3)
 
 pub back-row-spec : {M : Type 1} → statement M
 back-row-spec =
