@@ -1,0 +1,33 @@
+-- `reader_c::vurzhelik_check_book` meets its contract: what the book check answers is handed on as numbers.
+use borrow.Author.Needs.{needs}
+use mathlib.Core.Path.{sym, _∙_}
+use Rattle.reader_c.proofs.Numbers.{refused-checks, accepted-checks}
+use Rattle.reader_c.proofs.vurzhelik_check_book.Statement.{statement}
+use Rattle.reader_c.proofs.vurzhelik_check_book.Tie as tie
+use Rattle.reader_c.proofs.vurzhelik_check_book.Reads as reads
+use Rattle.reader_c.proofs.vurzhelik_check_book.Lts as lts
+use Rattle.book.proofs.check_book.Reads as check-book-reads
+
+check-book-requires : tie.Need-check-book-requires
+check-book-requires c κs = search needs
+
+enum-known-number : tie.Need-enum-known-number
+enum-known-number c = search needs
+
+enum-known-of-types : tie.Need-enum-known-of-types
+enum-known-of-types c = search needs
+
+returns : tie.Need-returns
+returns c =
+    let check = c .before .before .before .check-book .ensures in
+    refused-checks _ _ _ _ (sym (c .before .number .given .1) ∙ check)
+
+returns-2 : tie.Need-returns-2
+returns-2 c =
+    let check = c .before .before .before .check-book .ensures in
+    accepted-checks _ _ _ (sym (c .before .of-types .given .1) ∙ check)
+
+pub vurzhelik-check-book-spec : {M : Type 1} → statement M
+vurzhelik-check-book-spec =
+    tie.close
+    (tie.spec check-book-requires enum-known-number enum-known-of-types returns returns-2)

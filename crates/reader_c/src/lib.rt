@@ -1,0 +1,73 @@
+// The reader for callers in C and other languages: each function is one entry's, with numbers in the place of its enum. A slice is
+// passed as a pointer and a length. What the numbers mean is defined in specs/Calls.
+use book::BookCheck;
+use book::check_book;
+use reader::LineAnswer;
+use reader::read_line;
+ghost use Rattle.book.specs.Check.{bookCheck};
+ghost use Rattle.reader.specs.Outcome.{outcome};
+ghost use Rattle.reader.specs.Demands.{Promised};
+ghost use Rattle.reader.specs.Runs.{Gives};
+ghost use Rattle.reader_c.specs.Calls.{answerOf, counts, Checks};
+
+// Checks a book alone: any bytes, of any length. 0: `types`, `entries` and `pairs` hold the book's three numbers, and `value` holds 0.
+// Else it is refused: the number of the refusal is returned, `value` holds the value returned with it, and the three are as they were.
+#[no_mangle]
+pub extern "C" fn vurzhelik_check_book(
+    book: &[u8],
+    value: &mut u64,
+    types: &mut u64,
+    entries: &mut u64,
+    pairs: &mut u64,
+) -> u32
+    ensures { λ r. ⌜ Checks (bookCheck (now (book .entry))) (counts (now (types .entry)) (now (entries .entry)) (now (pairs .entry))) r (now (value .exit)) (counts (now (types .exit)) (now (entries .exit)) (now (pairs .exit))) ⌝ }
+{
+    match check_book(book) {
+        BookCheck::Refused {
+            number,
+            value: with,
+        } => {
+            *value = with as u64;
+            number
+        }
+        BookCheck::Accepted {
+            types: of_types,
+            entries: of_entries,
+            pairs: of_pairs,
+        } => {
+            *value = 0;
+            *types = of_types as u64;
+            *entries = of_entries as u64;
+            *pairs = of_pairs;
+            0
+        }
+    }
+}
+
+// Reads a line against a book: any bytes, of any length, and any lent buffer. 0: the buffer holds the answer, and `value` holds how many
+// of its values are the answer's. Else it is refused: the number of the refusal is returned, `value` holds the value returned with it,
+// and the buffer is as it was. Book and line are not written to.
+#[no_mangle]
+pub extern "C" fn vurzhelik_read_line(
+    book: &[u8],
+    line: &[u8],
+    answer: &mut [u16],
+    value: &mut u64,
+) -> u32
+    ensures { λ r. ⌜ Gives (outcome (now (book .entry)) (now (line .entry)) (now (answer .entry))) (answerOf r (now (value .exit))) (now (answer .exit)) ⌝ }
+    ensures { λ r. ⌜ Promised (now (book .entry)) (now (line .entry)) (now (answer .entry)) (answerOf r (now (value .exit))) (now (answer .exit)) ⌝ }
+{
+    match read_line(book, line, answer) {
+        LineAnswer::Refused {
+            number,
+            value: with,
+        } => {
+            *value = with as u64;
+            number
+        }
+        LineAnswer::Read { values } => {
+            *value = values as u64;
+            0
+        }
+    }
+}
