@@ -5,8 +5,15 @@ use order::MAX_TYPES;
 use rules::MAX_ENTRIES;
 
 pub mod layout;
+pub mod record_reader;
 pub mod records;
 pub mod rules;
+
+// A reader of a book's records: the book and the offset of the next record (document 01, "The earliest bad record decides").
+pub struct RecordReader<'a> {
+    pub book: &'a [u8],
+    pub at: usize,
+}
 
 // How far a book has been read: the offset of the next record, how many basic types and entries there were, and the target, or
 // `NO_TARGET` where there was none.

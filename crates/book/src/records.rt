@@ -5,8 +5,8 @@ use crate::Taken;
 use crate::layout::body_at;
 use crate::layout::two_bytes;
 use crate::layout::wide;
+use crate::record_reader::fault_at;
 use crate::rules::MAX_ENTRIES;
-use crate::rules::record_fault;
 use order::MAX_TYPES;
 ghost use mathlib.Core.Path.{_≡_};
 ghost use Prim.Native.Nat.{ℕ, _+_, _≤_, _<_};
@@ -35,7 +35,7 @@ fn take_record(
     let types = p.types;
     let count = p.entries;
     let target = p.target;
-    let fault = record_fault(book, at, names, types, count, target < NO_TARGET);
+    let fault = fault_at(book, at, names, types, count, target < NO_TARGET);
     if fault != 0 {
         return Taken::Bad(fault);
     }

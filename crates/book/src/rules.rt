@@ -140,7 +140,7 @@ fn target_fault(body: &[u8], types: usize, seen: bool) -> u32
 }
 
 // The rules for the record at an offset of the book: the smallest number that it is refused with, or 0.
-pub fn record_fault(
+pub(crate) fn record_fault(
     book: &[u8],
     at: usize,
     names: &[u16],

@@ -18,10 +18,10 @@ use Rattle.bits.proofs.with.Reads as with-reads
 use Rattle.book.proofs.layout.body_at.Reads as body-at-reads
 use Rattle.book.proofs.layout.two_bytes.Reads as two-bytes-reads
 use Rattle.book.proofs.layout.wide.Reads as wide-reads
-use Rattle.book.proofs.rules.record_fault.Reads as record-fault-reads
+use Rattle.book.proofs.record_reader.fault_at.Reads as fault-at-reads
 
-record-fault-requires : tie.Need-record-fault-requires
-record-fault-requires c κs = search needs
+fault-at-requires : tie.Need-fault-at-requires
+fault-at-requires c κs = search needs
 
 same-length : tie.Need-same-length
 same-length c = search needs
@@ -31,7 +31,7 @@ returns c =
     let a = c .before .before .before .before .before .before .before .args in
     record {
       some-number = c .if1 .taken;
-      faulty = fault-kept (a .book .now) (store (a .names .now) (a .entries .now) (a .direct .now)) (a .p) (c .before .before .before .before .before .before .before .pre) _ (c .before .record-fault .ensures);
+      faulty = fault-kept (a .book .now) (store (a .names .now) (a .entries .now) (a .direct .now)) (a .p) (c .before .before .before .before .before .before .before .pre) _ (c .before .fault-at .ensures);
     }
 
 body-at-requires : tie.Need-body-at-requires
@@ -40,7 +40,7 @@ body-at-requires c κs =
     let s = store (a .names .now) (a .entries .now) (a .direct .now) in
     let bytes = a .book .now in
     let sound = c .before .before .before .before .before .before .before .pre in
-    let found = sym (c .if1 .left) ∙ c .before .record-fault .ensures in
+    let found = sym (c .if1 .left) ∙ c .before .fault-at .ensures in
     whole bytes s (a .p) sound found
 
 add-next : tie.Need-add-next
@@ -58,7 +58,7 @@ two-bytes-requires c κs =
     let s = store (a .names .now) (a .entries .now) (a .direct .now) in
     let bytes = a .book .now in
     let sound = c .before .before .before .before .before .before .before .before .pre in
-    let found = sym (c .before .if1 .left) ∙ c .before .before .record-fault .ensures in
+    let found = sym (c .before .if1 .left) ∙ c .before .before .fault-at .ensures in
     omega (arith, whole bytes s (a .p) sound found)
 
 cast-names : tie.Need-cast-names
@@ -73,7 +73,7 @@ slice-write-names c =
     let s = store (a .names .now) (a .entries .now) (a .direct .now) in
     let bytes = a .book .now in
     let sound = c .before .before .before .before .before .before .before .before .before .before .pre in
-    let found = sym (c .before .before .before .if1 .left) ∙ c .before .before .before .before .record-fault .ensures in
+    let found = sym (c .before .before .before .if1 .left) ∙ c .before .before .before .before .fault-at .ensures in
     let kind = kind-1 _ (sym (c .before .two-bytes .ensures) ∙ c .match .keys1) in
     omega (arith, name-place bytes s (a .p) sound found kind, sound .roomy .names-room)
 
@@ -86,7 +86,7 @@ shared-slice-read-wide c =
     let s = store (a .names .now) (a .entries .now) (a .direct .now) in
     let bytes = a .book .now in
     let sound = c .before .before .before .before .before .before .before .before .before .before .before .pre in
-    let found = sym (c .before .before .before .before .if1 .left) ∙ c .before .before .before .before .before .record-fault .ensures in
+    let found = sym (c .before .before .before .before .if1 .left) ∙ c .before .before .before .before .before .fault-at .ensures in
     let kind = kind-2 _ (sym (c .before .before .two-bytes .ensures) ∙ c .before .match .keys2) in
     let place = pair-place bytes s (a .p) sound found kind in
     let body = c .before .before .before .body-at .ensures in
@@ -104,7 +104,7 @@ slice-read-with c =
     let s = store (a .names .now) (a .entries .now) (a .direct .now) in
     let bytes = a .book .now in
     let sound = c .before .before .before .before .before .before .before .before .before .before .before .before .before .pre in
-    let found = sym (c .before .before .before .before .before .before .if1 .left) ∙ c .before .before .before .before .before .before .before .record-fault .ensures in
+    let found = sym (c .before .before .before .before .before .before .if1 .left) ∙ c .before .before .before .before .before .before .before .fault-at .ensures in
     let kind = kind-2 _ (sym (c .before .before .before .before .two-bytes .ensures) ∙ c .before .before .before .match .keys2) in
     let place = pair-place bytes s (a .p) sound found kind in
     let body = c .before .before .before .before .before .body-at .ensures in
@@ -116,7 +116,7 @@ shared-slice-read-with c =
     let s = store (a .names .now) (a .entries .now) (a .direct .now) in
     let bytes = a .book .now in
     let sound = c .before .before .before .before .before .before .before .before .before .before .before .before .before .before .pre in
-    let found = sym (c .before .before .before .before .before .before .before .if1 .left) ∙ c .before .before .before .before .before .before .before .before .record-fault .ensures in
+    let found = sym (c .before .before .before .before .before .before .before .if1 .left) ∙ c .before .before .before .before .before .before .before .before .fault-at .ensures in
     let kind = kind-2 _ (sym (c .before .before .before .before .before .two-bytes .ensures) ∙ c .before .before .before .before .match .keys2) in
     let place = pair-place bytes s (a .p) sound found kind in
     let body = c .before .before .before .before .before .before .body-at .ensures in
@@ -128,7 +128,7 @@ with-requires c κs =
     let s = store (a .names .now) (a .entries .now) (a .direct .now) in
     let bytes = a .book .now in
     let sound = c .before .before .before .before .before .before .before .before .before .before .before .before .before .before .pre in
-    let found = sym (c .before .before .before .before .before .before .before .if1 .left) ∙ c .before .before .before .before .before .before .before .before .record-fault .ensures in
+    let found = sym (c .before .before .before .before .before .before .before .if1 .left) ∙ c .before .before .before .before .before .before .before .before .fault-at .ensures in
     let kind = kind-2 _ (sym (c .before .before .before .before .before .two-bytes .ensures) ∙ c .before .before .before .before .match .keys2) in
     let place = pair-place bytes s (a .p) sound found kind in
     let body = c .before .before .before .before .before .before .body-at .ensures in
@@ -143,7 +143,7 @@ slice-write-direct c =
     let s = store (a .names .now) (a .entries .now) (a .direct .now) in
     let bytes = a .book .now in
     let sound = c .before .before .before .before .before .before .before .before .before .before .before .before .before .before .before .pre in
-    let found = sym (c .before .before .before .before .before .before .before .before .if1 .left) ∙ c .before .before .before .before .before .before .before .before .before .record-fault .ensures in
+    let found = sym (c .before .before .before .before .before .before .before .before .if1 .left) ∙ c .before .before .before .before .before .before .before .before .before .fault-at .ensures in
     let kind = kind-2 _ (sym (c .before .before .before .before .before .before .two-bytes .ensures) ∙ c .before .before .before .before .before .match .keys2) in
     let place = pair-place bytes s (a .p) sound found kind in
     let body = c .before .before .before .before .before .before .before .body-at .ensures in
@@ -161,7 +161,7 @@ slice-write-entries c =
     let s = store (a .names .now) (a .entries .now) (a .direct .now) in
     let bytes = a .book .now in
     let sound = c .before .before .before .before .before .before .before .before .before .before .pre in
-    let found = sym (c .before .before .before .if1 .left) ∙ c .before .before .before .before .record-fault .ensures in
+    let found = sym (c .before .before .before .if1 .left) ∙ c .before .before .before .before .fault-at .ensures in
     let kind = kind-3 _ (sym (c .before .two-bytes .ensures) ∙ c .match .keys3) in
     omega (arith, entry-place bytes s (a .p) sound found kind, sound .roomy .entries-room)
 
@@ -174,7 +174,7 @@ shared-slice-read-t40 c =
     let s = store (a .names .now) (a .entries .now) (a .direct .now) in
     let bytes = a .book .now in
     let sound = c .before .before .before .before .before .before .before .before .before .before .before .pre in
-    let found = sym (c .before .before .before .before .if1 .left) ∙ c .before .before .before .before .before .record-fault .ensures in
+    let found = sym (c .before .before .before .before .if1 .left) ∙ c .before .before .before .before .before .fault-at .ensures in
     let none = c .before .match .rest in
     let kind = kind-left bytes s (a .p) sound found _ (c .before .before .two-bytes .ensures) (none .0 .0 .1) (none .0 .1) (none .1) in
     omega (arith, target-place bytes s (a .p) sound found kind .0, ap length (c .before .before .before .body-at .ensures))
@@ -188,7 +188,7 @@ returns-2 c =
     let s = store (a .names .now) (a .entries .now) (a .direct .now) in
     let bytes = a .book .now in
     let sound = c .before .before .before .before .before .before .before .before .before .before .pre in
-    let found = sym (c .before .before .before .if1 .left) ∙ c .before .before .before .before .record-fault .ensures in
+    let found = sym (c .before .before .before .if1 .left) ∙ c .before .before .before .before .fault-at .ensures in
     let kind = kind-1 _ (sym (c .before .two-bytes .ensures) ∙ c .match .keys1) in
     let n = whole-length bytes (a .p .at) (whole bytes s (a .p) sound found) in
     let on = ap (λ (m : ℕ). a .p .at + 4 + m) (ap length (c .before .before .body-at .ensures) ∙ n) in
@@ -206,7 +206,7 @@ returns-3 c =
     let s = store (a .names .now) (a .entries .now) (a .direct .now) in
     let bytes = a .book .now in
     let sound = c .before .before .before .before .before .before .before .before .before .before .before .before .before .before .before .pre in
-    let found = sym (c .before .before .before .before .before .before .before .before .if1 .left) ∙ c .before .before .before .before .before .before .before .before .before .record-fault .ensures in
+    let found = sym (c .before .before .before .before .before .before .before .before .if1 .left) ∙ c .before .before .before .before .before .before .before .before .before .fault-at .ensures in
     let kind = kind-2 _ (sym (c .before .before .before .before .before .before .two-bytes .ensures) ∙ c .before .before .before .before .before .match .keys2) in
     let n = whole-length bytes (a .p .at) (whole bytes s (a .p) sound found) in
     let on = ap (λ (m : ℕ). a .p .at + 4 + m) (ap length (c .before .before .before .before .before .before .before .body-at .ensures) ∙ n) in
@@ -225,7 +225,7 @@ returns-4 c =
     let s = store (a .names .now) (a .entries .now) (a .direct .now) in
     let bytes = a .book .now in
     let sound = c .before .before .before .before .before .before .before .before .before .before .pre in
-    let found = sym (c .before .before .before .if1 .left) ∙ c .before .before .before .before .record-fault .ensures in
+    let found = sym (c .before .before .before .if1 .left) ∙ c .before .before .before .before .fault-at .ensures in
     let kind = kind-3 _ (sym (c .before .two-bytes .ensures) ∙ c .match .keys3) in
     let n = whole-length bytes (a .p .at) (whole bytes s (a .p) sound found) in
     let on = ap (λ (m : ℕ). a .p .at + 4 + m) (ap length (c .before .before .body-at .ensures) ∙ n) in
@@ -240,7 +240,7 @@ returns-5 c =
     let s = store (a .names .now) (a .entries .now) (a .direct .now) in
     let bytes = a .book .now in
     let sound = c .before .before .before .before .before .before .before .before .before .before .before .pre in
-    let found = sym (c .before .before .before .before .if1 .left) ∙ c .before .before .before .before .before .record-fault .ensures in
+    let found = sym (c .before .before .before .before .if1 .left) ∙ c .before .before .before .before .before .fault-at .ensures in
     let none = c .before .match .rest in
     let kind = kind-left bytes s (a .p) sound found _ (c .before .before .two-bytes .ensures) (none .0 .0 .1) (none .0 .1) (none .1) in
     let n = whole-length bytes (a .p .at) (whole bytes s (a .p) sound found) in
@@ -251,7 +251,7 @@ pub take-record-spec : {M : Type 1} → statement M
 take-record-spec =
     tie.close
     (tie.spec
-    record-fault-requires
+    fault-at-requires
     same-length
     returns
     body-at-requires
