@@ -1,11 +1,11 @@
 -- A type of declared basic types meets its adjoints: X followed by its right adjoint vanishes, its left adjoint followed by X vanishes,
 -- and its right adjoint followed by X appears out of nothing by expansions. Each for every exponent together.
 use mathlib.Core.Path.{refl, sym}
-use mathlib.Core.List.{List, [], _∷_, _++_, append-nil, append-assoc}
-use lib.IntN.{ℤ, sucℤ, predℤ, suc-pred}
-use Rattle.pregroup.specs.Types.{Basic, Simple, PregroupType, _⁽_⁾, simpleLeft, simpleRight, adjointBy, leftAdjoint, rightAdjoint}
+use mathlib.Core.List.{_∷_, _++_, append-nil, append-assoc}
+use lib.IntN.{predℤ, suc-pred}
+use Rattle.pregroup.specs.Types.{Basic, Simple, PregroupType, simpleLeft, simpleRight, adjointBy, leftAdjoint, rightAdjoint}
 use Rattle.pregroup.specs.Order.{Relation, IsOrder, AllDeclared, none, more}
-use Rattle.pregroup.specs.Steps.{Expansion, appear, Step, expansion, ChainOf, done, next, Chain}
+use Rattle.pregroup.specs.Steps.{appear, expansion, done, next, Chain}
 use Rattle.pregroup.specs.Vanish.{Contracts, Vanish, empty, link}
 use Rattle.pregroup.proofs.Preorder.{fits-refl}
 use Rattle.pregroup.proofs.VanishLaws.{vanish-insert}

@@ -1,11 +1,11 @@
 -- How chains are made: joined, widened by what stands on either side, and made of contractions where something vanishes.
 use mathlib.Core.Path.{refl, sym, subst}
 use mathlib.Core.Logic.{_↔_}
-use mathlib.Core.List.{List, [], _∷_, _++_, append-nil, append-assoc}
-use lib.IntN.{ℤ, sucℤ}
-use Rattle.pregroup.specs.Types.{Basic, Simple, PregroupType, _⁽_⁾}
+use mathlib.Core.List.{[], _∷_, _++_, append-nil, append-assoc}
+use lib.IntN.{ℤ}
+use Rattle.pregroup.specs.Types.{Simple, PregroupType, _⁽_⁾}
 use Rattle.pregroup.specs.Order.{Relation}
-use Rattle.pregroup.specs.Steps.{Rewriting, Contraction, vanish, Step, contraction, ChainOf, done, next, Chain, Contractions}
+use Rattle.pregroup.specs.Steps.{Rewriting, Contraction, vanish, contraction, ChainOf, done, next, Chain, Contractions}
 use Rattle.pregroup.specs.Vanish.{Contracts, Vanish, empty, link}
 use Rattle.pregroup.proofs.VanishLaws.{vanish-insert}
 

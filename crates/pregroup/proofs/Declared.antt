@@ -1,9 +1,9 @@
 -- A chain stays among the declared basic types: the steps use basic types that the order relates, and it relates declared ones only.
 use mathlib.Core.Bool.{Bool, true, false}
-use mathlib.Core.List.{List, [], _∷_, _++_}
+use mathlib.Core.List.{[], _∷_, _++_}
 use lib.IntN.{ℤ}
 use Rattle.pregroup.specs.Types.{Basic, Simple, PregroupType, even}
-use Rattle.pregroup.specs.Order.{Relation, IsOrder, AllDeclared, none, more, Turned, Fits}
+use Rattle.pregroup.specs.Order.{Relation, IsOrder, AllDeclared, more, Turned, Fits}
 use Rattle.pregroup.specs.Steps.{becomes, vanish, appear, Step, order-step, contraction, expansion, done, next, Chain}
 
 -- What stands between S and T is exchanged: U for W, where W is declared if U is.

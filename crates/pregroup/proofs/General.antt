@@ -3,10 +3,10 @@
 -- expansions, and X with the adjoint is contracted away.
 use mathlib.Core.Path.{refl}
 use mathlib.Core.Logic.{_↔_}
-use mathlib.Core.List.{List, [], _∷_, _++_, append-assoc}
+use mathlib.Core.List.{[], _++_, append-assoc}
 use Rattle.pregroup.specs.Types.{Basic, PregroupType, rightAdjoint}
 use Rattle.pregroup.specs.Order.{Relation, IsOrder, AllDeclared}
-use Rattle.pregroup.specs.Steps.{becomes, vanish, appear, Step, order-step, contraction, expansion, ChainOf, done, next, Chain}
+use Rattle.pregroup.specs.Steps.{becomes, vanish, appear, Step, order-step, contraction, expansion, done, next, Chain}
 use Rattle.pregroup.specs.Vanish.{Vanish}
 use Rattle.pregroup.proofs.VanishLaws.{vanish-insert, vanish-lower, vanish-unexpand}
 use Rattle.pregroup.proofs.Chains.{chain-append, chain-of-contractions, contract-away, vanish-pair}

@@ -2,7 +2,7 @@
 -- two could contract, or is put on the stack. A string vanishes exactly when some run over it starts and ends with an empty stack. Runs are
 -- joined and cut at any place without a word about lists, so the laws of what vanishes are proved on them.
 use mathlib.Core.Logic.{_↔_}
-use mathlib.Core.List.{List, [], _∷_, _++_, append-assoc}
+use mathlib.Core.List.{[], _∷_, _++_, append-assoc}
 use Rattle.pregroup.specs.Types.{Simple, PregroupType}
 use Rattle.pregroup.specs.Order.{Relation}
 use Rattle.pregroup.specs.Vanish.{Contracts, Vanish, empty, link}

@@ -1,6 +1,6 @@
 -- The order on simple types, which an order step follows, and how it meets contractions and expansions. Odd exponents turn the order
 -- round, and the parity turns with each exponent: every law below is one or two uses of transitivity.
-use mathlib.Core.Path.{_≡_, refl, sym, ap, _∙_}
+use mathlib.Core.Path.{_≡_, sym, ap, _∙_}
 use mathlib.Core.Bool.{Bool, true, false, not}
 use lib.IntN.{ℤ, sucℤ}
 use Rattle.pregroup.specs.Types.{Basic, Simple, even}

@@ -4,9 +4,9 @@
 -- The general theorem makes the first of a chain, the right decomposition finds q, and contracting L and R away leaves it.
 use mathlib.Core.Path.{_≡_, refl, sym, subst}
 use mathlib.Core.Logic.{_↔_}
-use mathlib.Core.List.{List, [], _∷_, _++_, append-nil, append-assoc}
+use mathlib.Core.List.{[], _∷_, _++_, append-nil, append-assoc}
 use lib.IntN.{ℤ, pos}
-use Rattle.pregroup.specs.Types.{Basic, Simple, PregroupType, _⁽_⁾, plain, adjointBy, even}
+use Rattle.pregroup.specs.Types.{Basic, PregroupType, _⁽_⁾, plain, adjointBy, even}
 use Rattle.pregroup.specs.Order.{Relation, Fits, IsOrder, none, more}
 use Rattle.pregroup.specs.Steps.{becomes, order-step, done, next, Chain, Contractions}
 use Rattle.pregroup.specs.Vanish.{Vanish, empty, link, Reduces, leaves}

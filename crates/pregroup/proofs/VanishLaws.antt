@@ -2,7 +2,7 @@
 -- order steps); what an expansion made can be left out (expansion elimination, the heart of the switching lemma); the right
 -- decomposition; and the cut at any place by the innermost link that crosses it. Each is shown on the machine's runs.
 use mathlib.Core.Logic.{_↔_}
-use mathlib.Core.List.{List, [], _∷_, _++_}
+use mathlib.Core.List.{[], _∷_, _++_}
 use Rattle.pregroup.specs.Types.{Basic, Simple, PregroupType}
 use Rattle.pregroup.specs.Order.{Relation, IsOrder}
 use Rattle.pregroup.specs.Vanish.{Contracts, Vanish}

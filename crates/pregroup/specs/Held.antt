@@ -3,9 +3,9 @@
 use Prim.Native.Nat.{ℕ}
 use mathlib.Core.List.{List}
 use lib.ListN.{getD}
-use lib.IntN.{ℤ, pos, _-ℤ_}
+use lib.IntN.{pos, _-ℤ_}
 use Rattle.bits.specs.Bits.{Has}
-use Rattle.pregroup.specs.Types.{Basic, Simple, _⁽_⁾}
+use Rattle.pregroup.specs.Types.{Simple, _⁽_⁾}
 use Rattle.pregroup.specs.Order.{Relation}
 
 -- What is added to an exponent to hold it: `EXPONENT_BIAS` of the code.

@@ -1,8 +1,7 @@
 -- Document 01, "Types and steps": the order on basic types, and when a step fits. The order is a parameter of the theory: the calculus
 -- asks only what `IsOrder` says, and a book supplies the closure of its pairs.
-use Prim.Native.Nat.{ℕ}
 use mathlib.Core.Bool.{Bool, true, false}
-use mathlib.Core.List.{List, [], _∷_}
+use mathlib.Core.List.{[], _∷_}
 use lib.IntN.{ℤ}
 use Rattle.pregroup.specs.Types.{Basic, Simple, PregroupType, even}
 

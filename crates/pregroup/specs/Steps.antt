@@ -1,8 +1,8 @@
 -- Document 01, "Types and steps": the three steps of source 003, section 2.1, at any place of a string and at any whole number z, and
 -- chains of them.
-use mathlib.Core.List.{List, [], _∷_, _++_}
+use mathlib.Core.List.{_∷_, _++_}
 use lib.IntN.{ℤ, sucℤ}
-use Rattle.pregroup.specs.Types.{Basic, Simple, PregroupType, _⁽_⁾}
+use Rattle.pregroup.specs.Types.{Basic, PregroupType, _⁽_⁾}
 use Rattle.pregroup.specs.Order.{Relation, Fits}
 
 -- A relation between types: what one step may do.

@@ -1,9 +1,8 @@
 -- The same notions as tests that antt computes, over a test of the order. `proofs/Decision.antt` proves them right.
-use Prim.Native.Nat.{ℕ}
 use mathlib.Core.Path.{_≡_}
 use mathlib.Core.Logic.{_↔_}
-use mathlib.Core.Bool.{Bool, true, false, cond, _&&_, _||_}
-use mathlib.Core.List.{List, [], _∷_}
+use mathlib.Core.Bool.{Bool, true, false, cond, _&&_}
+use mathlib.Core.List.{[], _∷_}
 use lib.Dec.{eqb}
 use lib.IntN.{ℤ, pos, negsuc, sucℤ}
 use Rattle.pregroup.specs.Types.{Basic, Simple, PregroupType, even}

@@ -1,7 +1,7 @@
 -- What vanishes: the strings that link up without crossings. Each link could contract, and everything beneath it is linked inside.
 use mathlib.Core.Path.{_≡_}
-use mathlib.Core.List.{List, [], _∷_, _++_}
-use lib.IntN.{ℤ, sucℤ}
+use mathlib.Core.List.{[], _∷_, _++_}
+use lib.IntN.{sucℤ}
 use Rattle.pregroup.specs.Types.{Basic, Simple, PregroupType, plain}
 use Rattle.pregroup.specs.Order.{Relation, Fits}
 

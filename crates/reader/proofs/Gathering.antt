@@ -1,23 +1,23 @@
 -- From the first choice in a line's graph to the values of its answer: which numbers are written for the entries, which string is linked,
 -- that it reduces to the target, and that the first reading is what the entries and any first linking of the string make.
-use Prim.Native.Nat.{ℕ, zero, suc, _+_, _-_, _*_, _≤_, _<_}
+use Prim.Native.Nat.{ℕ, zero, suc, _+_, _≤_, _<_}
 use native.Mathlib.Omega.{arith}
 use mathlib.Core.Path.{_≡_, refl, sym, ap, subst, _∙_}
 use mathlib.Core.Logic.{_↔_}
-use mathlib.Core.List.{List, [], _∷_, _++_, map, append-nil}
+use mathlib.Core.List.{List, [], _∷_, _++_, map}
 use mathlib.Core.Option.{Option, none, some}
 use lib.IntN.{pos}
 use lib.ListN.{getD, length, take, length-append, length-map}
 use lib.Seq.{take-take, take-at, length-take-le}
-use Rattle.pregroup.specs.Types.{Basic, Simple, PregroupType, _⁽_⁾}
+use Rattle.pregroup.specs.Types.{Basic, PregroupType, _⁽_⁾}
 use Rattle.pregroup.specs.Order.{Relation}
 use Rattle.pregroup.specs.Vanish.{Vanish, Reduces}
 use Rattle.pregroup.specs.Tests.{Test, Decides}
 use Rattle.pregroup.proofs.Switching.{reduces-iff-vanish}
 use Rattle.linking.specs.Linking.{firstLinking}
-use Rattle.linking.specs.Reading.{Words, Answer, firstBehind, firstReading}
+use Rattle.linking.specs.Reading.{Words, firstReading}
 use Rattle.line.proofs.Passed.{AllKnown}
-use Rattle.chart.specs.Graph.{Graph, labelOf, EntersBy, Upward, VanishTo, along}
+use Rattle.chart.specs.Graph.{Graph, labelOf, EntersBy, VanishTo, along}
 use Rattle.chart.specs.Completion.{Finishes, finishes, Boundary, Completes, completes}
 use Rattle.choice.specs.Grown.{chosen}
 use Rattle.choice.specs.First.{Chose}

@@ -1,34 +1,30 @@
 -- From a scanned book and a checked line to a graph that can be read, and from what the graph gives to the outcome.
-use Prim.Native.Nat.{ℕ, _+_, _-_, _≤_, _<_}
+use Prim.Native.Nat.{ℕ, _≤_}
 use native.Mathlib.Omega.{arith}
-use mathlib.Core.Path.{_≡_, refl, sym, ap, subst, _∙_}
-use mathlib.Core.Logic.{_↔_, Iff·trans, Iff·symm}
-use mathlib.Core.List.{List, [], _∷_, map}
-use lib.ListN.{getD, length, length-map, replicate}
+use mathlib.Core.Path.{_≡_, sym, ap, subst, _∙_}
+use mathlib.Core.Logic.{Iff·trans, Iff·symm}
+use mathlib.Core.List.{List}
+use lib.ListN.{length, length-map}
 use Rattle.pregroup.specs.Types.{Basic}
-use Rattle.pregroup.specs.Tests.{Test, Decides}
 use Rattle.pregroup.specs.Held.{InRows}
 use Rattle.order.specs.Closed.{Closed, Listed, below}
 use Rattle.order.specs.Rows.{Hold}
 use Rattle.order.proofs.Decision.{below-decides}
-use Rattle.book.specs.Format.{Bytes, Book, Parsed, accepted, refused, parse}
+use Rattle.book.specs.Format.{Bytes, Book, accepted, refused, parse}
 use Rattle.book.specs.Kept.{Store, Opened}
-use Rattle.book.proofs.Checking.{zeros, opened-types, opened-order}
+use Rattle.book.proofs.Checking.{opened-types, opened-order}
 use Rattle.book.proofs.Accepted.{accepted-declares}
 use Rattle.linking.specs.Reading.{Words, firstReading}
 use Rattle.line.specs.Words.{wordsOf}
-use Rattle.line.specs.LineFaults.{LineCheck, passed, stopped, lineCheck, entriesOf, entriesOfLine}
-use Rattle.line.specs.LookUp.{LineSays}
-use Rattle.line.specs.declared.Words.the-variants.{Found}
+use Rattle.line.specs.LineFaults.{passed, stopped, lineCheck, entriesOf, entriesOfLine}
 use Rattle.line.proofs.LineLaws.{kept-length}
 use Rattle.line.proofs.Passed.{line-passing, line-brief}
-use Rattle.lattice.specs.Cells.{maxNodes, Lexicon}
 use Rattle.lattice.specs.Lists.{Lists, graphOf, Checked, LaidOut}
 use Rattle.reader.specs.declared.LineAnswer.{LineAnswer}
 use Rattle.reader.specs.declared.LineAnswer.the-variants.{Refused}
 use Rattle.reader.specs.Outcome.{Outcome, given, readAgainst, readParsed, outcome}
 use Rattle.reader.specs.Demands.{Promised}
-use Rattle.reader.specs.Runs.{Gives, Open, IsOpen, Drawn, Drawable}
+use Rattle.reader.specs.Runs.{Gives, Open, Drawn, Drawable}
 use Rattle.reader.proofs.Promises.{outcome-promised}
 
 -- Whatever gives the outcome keeps the promises.

@@ -1,16 +1,15 @@
 -- The outcome keeps every promise of specs/Demands.antt.
-use Prim.Native.Nat.{ℕ, _+_, _≤_, _<_}
+use Prim.Native.Nat.{ℕ, _≤_, _<_}
 use native.Mathlib.Omega.{arith}
 use mathlib.Core.Path.{_≡_, refl, sym, ap, subst, _∙_}
 use mathlib.Core.Logic.{_↔_, _⊎_, inl, inr, Iff·trans}
 use mathlib.Core.Bool.{Bool, true, false, cond}
-use mathlib.Core.List.{List, [], _∷_, _++_}
+use mathlib.Core.List.{List, _∷_, _++_}
 use mathlib.Core.Option.{Option, none, some}
 use lib.Dec.{ltb}
 use lib.ListN.{length, drop, length-append}
-use borrow.Author.Tests.{lt-ltb, le-ltb, ltb-true, ltb-false}
-use Rattle.pregroup.specs.Types.{Basic}
-use Rattle.pregroup.specs.Tests.{Test, Decides}
+use borrow.Author.Tests.{ltb-true, ltb-false}
+use Rattle.pregroup.specs.Tests.{Decides}
 use Rattle.order.specs.Closed.{below, DeclaredPairs}
 use Rattle.order.proofs.Decision.{below-decides}
 use Rattle.order.proofs.ClosureLaws.{closed-is-order}

@@ -4,7 +4,7 @@ use Prim.Native.Nat.{ℕ, _+_, _≤_, _<_}
 use native.Mathlib.Omega.{arith}
 use native.Mathlib.Decide.{ℕ-discrete}
 use mathlib.Core.Path.{_≡_, refl, sym, ap, subst, _∙_}
-use mathlib.Core.Logic.{_↔_, _⊎_, inl, inr, ⊎-elim}
+use mathlib.Core.Logic.{_↔_}
 use mathlib.Core.Bool.{Bool, true, false, false≢true}
 use mathlib.Core.List.{List, [], _∷_, _++_, map, append-nil, append-assoc}
 use mathlib.Core.Option.{Option, none, some}
@@ -15,12 +15,12 @@ use Rattle.pregroup.specs.Order.{Relation}
 use Rattle.pregroup.specs.Vanish.{Vanish}
 use Rattle.pregroup.specs.Tests.{Test, Decides}
 use Rattle.pregroup.proofs.Switching.{reduces-iff-vanish}
-use Rattle.linking.specs.Linking.{IsLinking, firstLinking}
+use Rattle.linking.specs.Linking.{firstLinking}
 use Rattle.linking.specs.Reading.{NumberedEntry, Words, Answer, firstEntry, firstBehind}
 use Rattle.linking.proofs.Reduction.{linking-iff-reduces}
 use Rattle.linking.proofs.FirstLinking.{first-linking-none}
 use Rattle.line.proofs.Passed.{AllKnown, known}
-use Rattle.chart.specs.Graph.{Graph, EntersBy, Enters, by, Path, here, take as take-node, enter}
+use Rattle.chart.specs.Graph.{Graph, EntersBy, by, here, take as take-node, enter}
 use Rattle.chart.specs.Completion.{Finishes, finishes, Boundary, Entry, Choice, done, choose, Completes, completes, Scanned, ends, takes}
 use Rattle.chart.proofs.Completion.{finishes-iff-behind}
 use Rattle.chart.proofs.Choices.{SameEntry, same-entry, entry-same, path-of-choice, scanned-is-first}

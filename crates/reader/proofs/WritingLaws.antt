@@ -1,11 +1,11 @@
 -- What the writes of an answer come to together.
-use Prim.Native.Nat.{ℕ, zero, suc, _+_, _*_, _≤_, _<_}
+use Prim.Native.Nat.{ℕ, _+_, _≤_}
 use native.Mathlib.Omega.{arith}
-use mathlib.Core.Path.{_≡_, refl, sym, ap, subst, _∙_}
-use mathlib.Core.List.{List, [], _∷_, _++_, map}
-use lib.ListN.{getD, length, take, drop, set, length-map}
+use mathlib.Core.Path.{_≡_, sym, ap, _∙_}
+use mathlib.Core.List.{List, _∷_, _++_}
+use lib.ListN.{length, take, drop, set, length-map}
 use lib.Seq.{length-take-le}
-use Rattle.pregroup.specs.Types.{Basic, PregroupType}
+use Rattle.pregroup.specs.Types.{Basic}
 use Rattle.pregroup.specs.Order.{Relation}
 use Rattle.spans.specs.Spans.{heldAt}
 use Rattle.spans.specs.Copy.{pickedString}
@@ -13,7 +13,6 @@ use Rattle.spans.specs.Links.{FirstLinked}
 use Rattle.spans.proofs.CopyLaws.{picked-string-map}
 use Rattle.answer.specs.Entries.{entryNumbers}
 use Rattle.answer.proofs.ValueLaws.{entry-numbers-length, values-written}
-use Rattle.reader.specs.Outcome.{valuesOf}
 use Rattle.reader.specs.Runs.{WroteAnswer}
 
 pub picked-length : (bases exponents picked : List ℕ) (m : ℕ) → m ≤ length picked → length (pickedString bases exponents picked m) ≡ m

@@ -1,14 +1,14 @@
 -- The whole of document 01 in one definition: what is returned, and what the answer buffer holds, for any bytes as book, any bytes as line
 -- and any lent buffer. The book comes before the line; a refusal leaves the buffer as it was.
-use Prim.Native.Nat.{ℕ, _+_}
-use mathlib.Core.Bool.{Bool, true, false, cond}
-use mathlib.Core.List.{List, [], _∷_, _++_}
+use Prim.Native.Nat.{ℕ}
+use mathlib.Core.Bool.{cond}
+use mathlib.Core.List.{List, _∷_, _++_}
 use mathlib.Core.Option.{Option, none, some}
 use lib.Dec.{ltb}
 use lib.ListN.{length, drop}
 use Rattle.order.specs.Closed.{below}
 use Rattle.book.specs.Format.{Bytes, Book, Parsed, accepted, refused, parse}
-use Rattle.linking.specs.Reading.{Words, Answer, firstReading}
+use Rattle.linking.specs.Reading.{Answer, firstReading}
 use Rattle.line.specs.LineFaults.{LineCheck, passed, stopped, lineCheck}
 use Rattle.reader.specs.declared.LineAnswer.{LineAnswer}
 use Rattle.reader.specs.declared.LineAnswer.the-variants.{Read, Refused}

@@ -3,7 +3,7 @@
 use Prim.Native.Nat.{ℕ, suc, _+_, _-_, _≤_, _<_}
 use native.Mathlib.Omega.{arith}
 use mathlib.Core.Path.{_≡_, sym, ap, _∙_}
-use mathlib.Core.Logic.{_↔_, _⊎_, ⊎-elim, Iff·trans}
+use mathlib.Core.Logic.{_↔_, ⊎-elim, Iff·trans}
 use mathlib.Core.List.{List}
 use lib.ListN.{getD, length, take, drop}
 use lib.Seq.{slice, slice-empty, take-take}

@@ -1,6 +1,6 @@
 -- One chosen string of simple types, as the code holds it, and the table of its stretches that vanish: row k has the indices i such that the
 -- stretch from i up to, not including, k vanishes. Indices count from 0.
-use Prim.Native.Nat.{ℕ, zero, suc, _+_, _-_, _≤_}
+use Prim.Native.Nat.{ℕ, zero, suc, _-_, _≤_}
 use mathlib.Core.List.{List, [], _∷_, _++_}
 use lib.ListN.{getD, length}
 use lib.Seq.{slice}
