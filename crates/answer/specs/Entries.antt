@@ -3,13 +3,9 @@ use Prim.Native.Nat.{ℕ, _≤_, _<_}
 use mathlib.Core.List.{List, map}
 use lib.ListN.{getD, length, take}
 
--- How many words a line has at most.
-abbrev pub maxWords : ℕ
-maxWords = 24
-
--- How many partners an answer has at most: 24 words of at most 12 simple types.
-abbrev pub maxPartners : ℕ
-maxPartners = 288
+-- A value of the answer is a number of 16 bits.
+abbrev pub valueBound : ℕ
+valueBound = 65536
 
 -- The numbers of the first n slots' entries.
 unfoldable pub entryNumbers : List ℕ → List ℕ → ℕ → List ℕ
@@ -17,7 +13,7 @@ entryNumbers numbers slots n = map (λ s. getD numbers s 0) (take n slots)
 
 -- The first n slots are there and have a number each, and the buffer has a place for n and for each of them.
 pub record Enterable (numbers slots : List ℕ) (n : ℕ) (answer : List ℕ) : Type 0 where
-  pub few : n ≤ maxWords
+  pub fits : n < valueBound
   pub space : n < length answer
   pub there : n ≤ length slots
   pub numbered : (i : ℕ) → i < n → getD slots i 0 < length numbers

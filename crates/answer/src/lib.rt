@@ -4,7 +4,7 @@ ghost use Prim.Native.Nat.{_+_, _≤_, _<_};
 ghost use mathlib.Core.Path.{_≡_};
 ghost use mathlib.Core.List.{_∷_, _++_};
 ghost use lib.ListN.{length, drop, set};
-ghost use Rattle.answer.specs.Entries.{maxPartners, entryNumbers, Enterable};
+ghost use Rattle.answer.specs.Entries.{valueBound, entryNumbers, Enterable};
 
 // Writes the number of words and the number of each word's entry: value 0 is n, value 1 + i is the number of slot i of the choice.
 pub fn write_entries(numbers: &[u16], slots: &[u16], n: usize, answer: &mut [u16])
@@ -21,7 +21,7 @@ pub fn write_entries(numbers: &[u16], slots: &[u16], n: usize, answer: &mut [u16
 
 // Writes value number `at`.
 pub fn write_count(answer: &mut [u16], at: usize, m: usize)
-    requires { ⌜ (at < length (now answer)) × (m ≤ maxPartners) ⌝ }
+    requires { ⌜ (at < length (now answer)) × (m < valueBound) ⌝ }
     ensures { λ _. ⌜ now (answer .exit) ≡ set (now (answer .entry)) at m ⌝ }
 {
     answer[at] = m as u16;

@@ -4,7 +4,7 @@ use native.Mathlib.Omega.{arith}
 use mathlib.Core.Path.{_≡_, refl, sym, ap, subst, _∙_}
 use mathlib.Core.Logic.{_↔_}
 use mathlib.Core.Bool.{Bool, true, false, false≢true}
-use mathlib.Core.List.{List, [], _∷_, _++_, map}
+use mathlib.Core.List.{List, _∷_, _++_, map}
 use mathlib.Core.Option.{Option, none, some}
 use lib.ListN.{getD, length, take, drop, length-append}
 use lib.Seq.{length-take-le, getD-take}
@@ -13,7 +13,7 @@ use Rattle.pregroup.specs.Types.{Basic, PregroupType}
 use Rattle.pregroup.specs.Order.{Relation}
 use Rattle.pregroup.specs.Vanish.{Reduces}
 use Rattle.pregroup.specs.Tests.{Test, Decides}
-use Rattle.linking.specs.Linking.{IsLinking, firstLinking}
+use Rattle.linking.specs.Linking.{firstLinking}
 use Rattle.linking.specs.Reading.{Words, Answer, firstReading}
 use Rattle.linking.proofs.Reduction.{linking-iff-reduces}
 use Rattle.linking.proofs.FirstLinking.{first-linking-some, first-linking-none, first-linking-greedy}
@@ -23,19 +23,17 @@ use Rattle.line.proofs.Passed.{choice-brief}
 use Rattle.chart.specs.Graph.{Graph, EntersBy, Upward, VanishTo}
 use Rattle.chart.specs.Completion.{Boundary, Entry, ended, more, Choice, done, choose}
 use Rattle.choice.specs.Grown.{chosen}
-use Rattle.chart.specs.Rows.{HasRow, InRow}
+use Rattle.chart.specs.Rows.{rowWords, HasRow, InRow}
 use Rattle.chart.specs.Chart.{FilledFrom}
 use Rattle.choice.specs.First.{Chose, Choosable, Roomy}
 use Rattle.lattice.specs.Cells.{maxNodes}
 use Rattle.lattice.specs.Layout.{Laid, goal, word}
-use Rattle.spans.specs.Spans.{maxString}
 use Rattle.spans.specs.Copy.{pickedString}
 use Rattle.spans.proofs.CopyLaws.{picked-string-map}
 use Rattle.answer.specs.Entries.{entryNumbers}
 use Rattle.answer.proofs.ValueLaws.{entry-numbers-length}
-use Rattle.reader.specs.declared.LineAnswer.{LineAnswer}
 use Rattle.reader.specs.declared.LineAnswer.the-variants.{Read, Refused}
-use Rattle.reader.specs.Outcome.{Outcome, valuesOf, given}
+use Rattle.reader.specs.Outcome.{valuesOf, given}
 use Rattle.reader.specs.Runs.{Gives, GivesFirst, Drawn, Drawable, Charted, Linkable, Writable, WroteAnswer}
 use Rattle.reader.proofs.Gathering.{Gathered, unread-iff, gathered}
 use Rattle.reader.proofs.WritingLaws.{picked-length}
@@ -181,10 +179,10 @@ module _ {Le : Relation} {g : Graph} {numbers : List ℕ} {t : Basic} {n : ℕ} 
   pub can-choose : {rows : List ℕ} → Charted Le g rows → Choosable Le g rows (g .count - 1)
   can-choose chart = choosable (d .decides) g numbers t n (d .words) (d .upward) (d .drawn) (g .count - 1) last-is chart
 
-  pub has-rows : (rows : List ℕ) → length rows ≡ 4860 → (j : ℕ) → j < g .count → HasRow rows j
+  pub has-rows : (rows : List ℕ) → length rows ≡ maxNodes * rowWords → (j : ℕ) → j < g .count → HasRow rows j
   has-rows rows e j h = omega (arith, d .few)
 
-  pub has-room : {picked slots backs outs comps : List ℕ} → length picked ≡ maxNodes → length slots ≡ maxNodes → length backs ≡ 4860 → length outs ≡ 4860 → length comps ≡ 4860
+  pub has-room : {picked slots backs outs comps : List ℕ} → length picked ≡ maxNodes → length slots ≡ maxNodes → length backs ≡ maxNodes * rowWords → length outs ≡ maxNodes * rowWords → length comps ≡ maxNodes * rowWords
       → Roomy (g .count) picked slots backs outs comps
   has-room {backs = backs} {outs} {comps} p s b o c = record {
     places = omega (arith, d .few);

@@ -1,15 +1,14 @@
 // Reads a line that is laid out as a graph: fills its chart, finds the first choice, and writes its answer.
 use crate::LineAnswer;
 use crate::writing;
+use chart::rows::ROW_WORDS;
+use lattice::MAX_NODES;
 ghost use Rattle.pregroup.specs.Held.{InRows};
 ghost use Rattle.chart.specs.Graph.{graph};
 ghost use Rattle.reader.specs.Runs.{Drawable, GivesFirst, Charted};
 
-// How many nodes a line's graph has at most, with room to spare.
-pub const MAX_NODES: usize = 540;
-
-// How many words their rows take.
-const ROWS: usize = 4860;
+// How many words the rows of a graph's nodes take.
+const ROWS: usize = MAX_NODES * ROW_WORDS;
 
 // Answers a line that reads, by its first choice.
 fn read_choice(

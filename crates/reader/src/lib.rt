@@ -4,11 +4,12 @@ mod writing;
 
 use book::Scan;
 use book::records::scan_book;
-use graph::MAX_NODES;
 use graph::read_graph;
+use lattice::MAX_NODES;
 use lattice::layout::lay_out;
 use line::Words;
 use line::lookup::check_line;
+use line::split::MAX_WORDS;
 ghost use Prim.Native.Nat.{_≤_};
 ghost use lib.ListN.{length};
 ghost use Rattle.line.specs.LineFaults.{maxWords};
@@ -16,9 +17,6 @@ ghost use Rattle.lattice.specs.Lists.{Checked};
 ghost use Rattle.reader.specs.Outcome.{outcome};
 ghost use Rattle.reader.specs.Demands.{Promised};
 ghost use Rattle.reader.specs.Runs.{Gives, IsOpen};
-
-// How many words a line has at most.
-const MAX_WORDS: usize = 24;
 
 // What reading a line answers. `Read`: the buffer holds the answer, and `values` of its values are the answer's. `Refused`: the number
 // of the refusal and the value returned with it; the buffer is as it was.

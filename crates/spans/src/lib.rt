@@ -17,7 +17,7 @@ ghost use Rattle.spans.specs.Spans.{stringOf, ContractsAt, Right, String
 pub const MAX_STRING: usize = 288;
 
 // How many words the table of the longest string takes: 289 rows.
-pub const TABLE_WORDS: usize = 2601;
+pub const TABLE_WORDS: usize = (MAX_STRING + 1) * rows::ROW_WORDS;
 
 // The row with that of i, where the simple type at i could contract with the one at k.
 fn join_row(

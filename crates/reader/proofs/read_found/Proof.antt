@@ -1,5 +1,6 @@
 use borrow.Author.Needs.{needs}
 use native.Mathlib.Omega.{arith}
+use Rattle.lattice.specs.Cells.{maxNodes}
 use Rattle.book.proofs.Checking.{zeros}
 use Rattle.reader.proofs.OpeningLaws.{line-drawable, line-drawn, gives-outcome}
 use Rattle.reader.proofs.read_found.Statement.{statement}
@@ -40,7 +41,7 @@ lay-out-requires c κs =
       ends-room = s .pre .1 .1 .1;
       room = record { bases = omega arith; exponents = omega arith; nexts = omega arith; froms = omega arith; tos = omega arith; enters = omega arith };
       numbers-room = omega arith;
-      empty = record { nexts = zeros 540; tos = zeros 540 };
+      empty = record { nexts = zeros maxNodes; tos = zeros maxNodes };
     }
 
 slice-aggregate-read-graph : tie.Need-slice-aggregate-read-graph

@@ -2,6 +2,9 @@ use borrow.Author.Needs.{needs}
 use native.Mathlib.Omega.{arith}
 use mathlib.Core.Path.{refl}
 use lib.ListN.{replicate}
+use Prim.Native.Nat.{_*_}
+use Rattle.chart.specs.Rows.{rowWords}
+use Rattle.lattice.specs.Cells.{maxNodes}
 use Rattle.reader.proofs.ReadingLaws.{has-rows, chart-reads, chart-stops, answers-none}
 use Rattle.reader.proofs.graph.read_graph.Statement.{statement}
 use Rattle.reader.proofs.graph.read_graph.Tie as tie
@@ -17,7 +20,7 @@ slice-aggregate-fill c = search needs
 fill-requires : tie.Need-fill-requires
 fill-requires c κs =
     let s = c .before .before .before .before .before .before .before .before .before .before in
-    record { upward = s .pre .upward; room = has-rows (s .pre) (replicate 4860 0) refl }
+    record { upward = s .pre .upward; room = has-rows (s .pre) (replicate (maxNodes * rowWords) 0) refl }
 
 slice-aggregate-member : tie.Need-slice-aggregate-member
 slice-aggregate-member c = search needs
