@@ -7,19 +7,18 @@ ghost use mathlib.Core.Bool.{true};
 ghost use Prim.Native.Nat.{_+_, _<_, _≤_};
 ghost use lib.ListN.{length};
 ghost use Rattle.pregroup.specs.Held.{InRows};
-ghost use Rattle.chart.specs.Rows.{InRow, HasRow, RowSays, rowBits};
+ghost use Rattle.chart.specs.Rows.{InRow, HasRow, RowSays, rowBits, rowWords};
 ghost use Rattle.chart.specs.Chart.{Gathered, Only};
 ghost use Rattle.choice.specs.Sets.{Among, Meets, RowsThere, LinksTo, NodeHeld, NodesHeld, BackLink, BackPart, PlacesHeld, PlacesUpTo, OutPart, OutsThere, SomePart};
 
-// The row with v put in where the flag says so.
-fn put_where(row: Row, v: usize, flag: bool) -> Row
-    requires { ⌜ v < rowBits ⌝ }
-    ensures { λ r. ⌜ RowSays (r .words) 0 (λ k. InRow (row .words) 0 k ⊎ ((k ≡ v) × (flag ≡ true))) ⌝ }
+// Puts v into the row where the flag says so. The row is changed where it stands: a row that is handed on would be copied each time.
+fn put_where(words: &mut [u64], v: usize, flag: bool)
+    requires { ⌜ (v < rowBits) × (length (now words) ≡ rowWords) ⌝ }
+    ensures { λ _. ⌜ RowSays (now (words .exit)) 0 (λ k. InRow (now (words .entry)) 0 k ⊎ ((k ≡ v) × (flag ≡ true))) ⌝ }
 {
     if flag {
-        return rows::put(row, v);
+        words[v / 64] = bits::with(words[v / 64], (v % 64) as u8);
     }
-    row
 }
 
 // The nodes below `count` in whose row v is.
@@ -27,13 +26,13 @@ pub(crate) fn column(rows: &[u64], count: usize, v: usize) -> Row
     requires { ⌜ RowsThere (now rows) count ⌝ }
     ensures { λ r. ⌜ RowSays (r .words) 0 (Among count (λ y. InRow (now (rows .entry)) y v)) ⌝ }
 {
-    let mut row = rows::empty();
+    let mut words = [0u64; rows::ROW_WORDS];
     let mut y = 0;
     while y < count {
-        row = put_where(row, y, rows::member(rows, y, v));
+        put_where(&mut words, y, rows::member(rows, y, v));
         y += 1;
     }
-    row
+    Row { words }
 }
 
 // Whether row u and the set have a member in common.
@@ -58,13 +57,13 @@ pub(crate) fn reaching(rows: &[u64], count: usize, set: Row) -> Row
     requires { ⌜ RowsThere (now rows) count ⌝ }
     ensures { λ r. ⌜ RowSays (r .words) 0 (Among count (λ y. Meets (now (rows .entry)) y (set .words))) ⌝ }
 {
-    let mut row = rows::empty();
+    let mut words = [0u64; rows::ROW_WORDS];
     let mut y = 0;
     while y < count {
-        row = put_where(row, y, meets(rows, y, set));
+        put_where(&mut words, y, meets(rows, y, set));
         y += 1;
     }
-    row
+    Row { words }
 }
 
 // Whether u is simple, p may contract with it and the node behind it is in row j of `comps`.
@@ -109,17 +108,17 @@ pub(crate) fn link_targets(
     ensures { λ r. ⌜ RowSays (r .words) 0 (Among count
         (LinksTo (InRows (now (order .entry))) (now (bases .entry)) (now (exponents .entry)) (now (nexts .entry)) (now (comps .entry)) j p)) ⌝ }
 {
-    let mut row = rows::empty();
+    let mut words = [0u64; rows::ROW_WORDS];
     let mut u = 0;
     while u < count {
-        row = put_where(
-            row,
+        put_where(
+            &mut words,
             u,
             links_to(order, bases, exponents, nexts, comps, j, p, u),
         );
         u += 1;
     }
-    row
+    Row { words }
 }
 
 // The row with row m - 1 of `backs`, where the simple type at place m - 1 may contract with that at place j.

@@ -1,34 +1,36 @@
 -- `choice::sets::link_targets` meets its contract: each turn asks one node.
 use native.Mathlib.Omega.{arith}
 use Prim.Native.Nat.{_-_, _≤_}
-use mathlib.Core.Path.{_≡_}
+use mathlib.Core.Path.{_≡_, refl, _∙_}
+use lib.ListN.{length}
 use Rattle.pregroup.specs.Held.{InRows}
-use Rattle.chart.specs.Rows.{RowSays}
+use Rattle.chart.specs.Rows.{RowSays, rowWords}
+use Rattle.chart.proofs.RowLaws.{empty-says}
 use Rattle.choice.specs.Sets.{Among, LinksTo}
 use Rattle.choice.proofs.SetLaws.{among-starts, among-one}
 use Rattle.choice.proofs.sets.link_targets.Statement.{statement}
 use Rattle.choice.proofs.sets.link_targets.Tie as tie
 
 abbrev Inv-loop : tie.InvT-loop
-Inv-loop order bases exponents nexts comps j count p row₀ u₀ row u = (u ≤ count) × RowSays (row .words) 0 (Among u (LinksTo (InRows order) bases exponents nexts comps j p))
+Inv-loop order bases exponents nexts comps j count p words₀ u₀ words u = (u ≤ count) × (length words ≡ rowWords) × RowSays words 0 (Among u (LinksTo (InRows order) bases exponents nexts comps j p))
 
 abbrev μ-loop : tie.MeasureT-loop
-μ-loop order bases exponents nexts comps j count p row₀ u₀ row u = count - u
-
-empty-requires : tie.Need-empty-requires Inv-loop μ-loop
-empty-requires c κs = omega arith
+μ-loop order bases exponents nexts comps j count p words₀ u₀ words u = count - u
 
 loop-holds : tie.Need-loop-holds Inv-loop μ-loop
-loop-holds c = (omega arith, among-starts _ (c .empty .result .words) (c .empty .ensures))
+loop-holds c = (omega arith, refl, among-starts _ _ empty-says)
+
+slice-aggregate-put-where : tie.Need-slice-aggregate-put-where Inv-loop μ-loop
+slice-aggregate-put-where c = omega arith
 
 links-to-requires : tie.Need-links-to-requires Inv-loop μ-loop
 links-to-requires c κs =
     let s = c .before .before .before .before .before .before .before .before in
-    let l = c .before .loop in
-    ((s .pre .0 .held (s .args .p) (s .pre .1 .0), s .pre .0 .held (l .u) (c .loop-test .taken)), (omega (arith, s .pre .0 .next), s .pre .1 .1))
+    let l = c .before .before .loop in
+    ((s .pre .0 .held (s .args .p) (s .pre .1 .0), s .pre .0 .held (l .u) (c .before .loop-test .taken)), (omega (arith, s .pre .0 .next), s .pre .1 .1))
 
 put-where-requires : tie.Need-put-where-requires Inv-loop μ-loop
-put-where-requires c κs = omega arith
+put-where-requires c κs = (omega arith, c .before .before .before .loop .inv .1)
 
 add-u : tie.Need-add-u Inv-loop μ-loop
 add-u c = omega arith
@@ -38,18 +40,19 @@ loop-less c = omega arith
 
 loop-again : tie.Need-loop-again Inv-loop μ-loop
 loop-again c =
-    let s = c .before .before .before .before .before .before .before .before .before .before in
-    let l = c .before .before .before .loop in (
+    let s = c .before .before .before .before .before .before .before .before .before .before .before in
+    let l = c .before .before .before .before .before .loop in (
       omega arith,
-      among-one (LinksTo (InRows (s .args .order .now)) (s .args .bases .now) (s .args .exponents .now) (s .args .nexts .now) (s .args .comps .now) (s .args .j) (s .args .p)) (l .row .words) (c .put-where .result .words) (l .u) _ (l .inv .1) (c .put-where .ensures) (c .before .links-to .ensures),
+      c .before .put-where .kept .0 ∙ l .inv .1,
+      among-one (LinksTo (InRows (s .args .order .now)) (s .args .bases .now) (s .args .exponents .now) (s .args .nexts .now) (s .args .comps .now) (s .args .j) (s .args .p)) (l .words) _ (l .u) _ (l .inv .2) (c .before .put-where .ensures) (c .before .before .links-to .ensures),
     )
 
 returns : tie.Need-returns Inv-loop μ-loop
 returns c =
-    let s = c .before .before .before .before .before .before .before .before in
+    let s = c .before .before .before .before .before .before .before in
     let l = c .before .loop in
     let all : l .u ≡ s .args .count = omega arith in
-    let done : RowSays (l .row .words) 0 (Among (s .args .count) (LinksTo (InRows (s .args .order .now)) (s .args .bases .now) (s .args .exponents .now) (s .args .nexts .now) (s .args .comps .now) (s .args .j) (s .args .p))) = rw all at (l .inv .1) in
+    let done : RowSays (l .words) 0 (Among (s .args .count) (LinksTo (InRows (s .args .order .now)) (s .args .bases .now) (s .args .exponents .now) (s .args .nexts .now) (s .args .comps .now) (s .args .j) (s .args .p))) = rw all at (l .inv .2) in
     done
 
 pub link-targets-spec : {M : Type 1} → statement M
@@ -58,8 +61,8 @@ link-targets-spec =
     (tie.spec
     Inv-loop
     μ-loop
-    empty-requires
     loop-holds
+    slice-aggregate-put-where
     links-to-requires
     put-where-requires
     add-u
