@@ -5,6 +5,7 @@ pub mod Layouts
 pub mod Simples
 pub mod Faults
 pub mod Names
+pub mod Comparing
 pub mod WholeRecords
 pub mod NoFault
 pub mod Keeping

@@ -4,6 +4,7 @@ ghost use Rattle.book.specs.Check.{bookCheck};
 use order::MAX_TYPES;
 use rules::MAX_ENTRIES;
 
+pub mod compare;
 pub mod layout;
 pub mod record_reader;
 pub mod records;

@@ -1,5 +1,6 @@
 // The rules for one record: which of the numbers 2 to 9 it is refused with, the smallest, or 0. The functions go by the record's kind,
 // each over the record's body as a part of the book.
+use crate::compare::same;
 use crate::layout::body_at;
 use crate::layout::is_entry;
 use crate::layout::is_exponent;
@@ -62,7 +63,7 @@ fn name_used(book: &[u8], names: &[u16], types: usize, body: &[u8]) -> bool
 {
     let mut i = 0;
     while i < types {
-        if check::same(body, body_at(book, offset(names[i]))) {
+        if same(body, body_at(book, offset(names[i]))) {
             return true;
         }
         i += 1;

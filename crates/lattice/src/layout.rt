@@ -1,5 +1,6 @@
 // Lays a checked line out: each word a boundary, then the simple types of its entries, and behind the last word the target.
 use crate::Place;
+use book::compare::same;
 use book::layout::body_at;
 use book::layout::type_part;
 use book::layout::word_part;
@@ -112,7 +113,7 @@ fn lay_entry(
     ensures { λ r. ⌜ ((rest : List NumberedEntry) → Lays boundary p (cells (now (bases .entry)) (now (exponents .entry)) (now (nexts .entry)) (now (enters .entry)) (now (numbers .entry))) r (cells (now (bases .exit)) (now (exponents .exit)) (now (nexts .exit)) (now (enters .exit)) (now (numbers .exit))) (withEntry (now (book .entry)) at number (now (word .entry)) rest) rest) ⌝ }
 {
     let body = body_at(book, at);
-    if !check::same(word_part(body), word) {
+    if !same(word_part(body), word) {
         return p;
     }
     lay_slot(

@@ -2,6 +2,7 @@
 use crate::Tally;
 use crate::Words;
 use crate::split::split;
+use book::compare::same;
 use book::layout::body_at;
 use book::layout::type_part;
 use book::layout::word_part;
@@ -22,7 +23,7 @@ fn tally_entry(book: &[u8], at: usize, word: &[u8], tally: Tally) -> Tally
     ensures { λ r. ⌜ Counted (now (book .entry)) at (now (word .entry)) tally r ⌝ }
 {
     let body = body_at(book, at);
-    if check::same(word_part(body), word) {
+    if same(word_part(body), word) {
         Tally {
             entries: tally.entries + 1,
             simples: tally.simples + type_part(body).len() / 2,

@@ -15,7 +15,7 @@ use Rattle.book.proofs.rules.name_used.Reads as reads
 use Rattle.book.proofs.rules.name_used.Lts as lts
 use Rattle.book.proofs.layout.body_at.Reads as body-at-reads
 use Rattle.book.proofs.rules.offset.Reads as offset-reads
-use Rattle.check.proofs.same.Reads as same-reads
+use Rattle.book.proofs.compare.same.Reads as same-reads
 
 abbrev Inv-loop : tie.InvT-loop
 Inv-loop book names types body i₀ i = (i ≤ types) × (every (differs body) (bodiesAt book names types) ≡ every (differs body) (drop i (bodiesAt book names types)))

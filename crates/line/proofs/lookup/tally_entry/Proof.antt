@@ -14,7 +14,7 @@ use Rattle.line.proofs.lookup.tally_entry.Lts as lts
 use Rattle.book.proofs.layout.body_at.Reads as body-at-reads
 use Rattle.book.proofs.layout.type_part.Reads as type-part-reads
 use Rattle.book.proofs.layout.word_part.Reads as word-part-reads
-use Rattle.check.proofs.same.Reads as same-reads
+use Rattle.book.proofs.compare.same.Reads as same-reads
 
 body-at-requires : tie.Need-body-at-requires
 body-at-requires c κs = search needs

@@ -1,0 +1,98 @@
+-- Comparing bytes by little-endian numbers: a number is joined from two shorter ones, equal numbers have equal bytes, and lists of one
+-- length that agree at every place are equal.
+use Prim.Native.Nat.{ℕ, zero, suc, _+_, _*_, _^_, _≤_, _<_}
+use native.Mathlib.Nat.{add-zero, zero-add, suc-add, pow-zero, pow-succ', mul-assoc, mul-comm}
+use native.Mathlib.Omega.{arith}
+use native.Mathlib.Decide.{decLt}
+use mathlib.Core.Path.{_≡_, sym, ap, _∙_}
+use mathlib.Core.Bool.{Bool, true, false, false≢true}
+use lib.Arith.{digits-lt}
+use lib.Dec.{eqb}
+use lib.ListN.{length, getD}
+use lib.Pow.{pow-add}
+use lib.Seq.{ext-getD}
+use borrow.Author.Tests.{eqb-true, eq-eqb}
+use Rattle.book.specs.Format.{Bytes}
+use Rattle.book.specs.Compare.{littleEndian, ReadsNumber}
+
+pub one-byte : {bytes : Bytes} {at r : ℕ} → r ≡ getD {A = ℕ} bytes at 0 → r < 256 → ReadsNumber 1 bytes at r
+unfolding littleEndian
+one-byte {bytes} {at} {r} e h = record {
+  value = omega arith;
+  below = h;
+  byte = λ k f l. let same : k ≡ at = omega arith in rw same (omega arith);
+}
+
+number-joined : (n m : ℕ) (bytes : Bytes) (at : ℕ) →
+    littleEndian (n + m) bytes at ≡ littleEndian n bytes at + 256 ^ n * littleEndian m bytes (at + n)
+unfolding littleEndian
+number-joined zero m bytes at = rw (zero-add m, add-zero at, pow-zero 256) (omega arith)
+number-joined (suc n) m bytes at =
+    let e : suc at + n ≡ at + suc n = omega arith in
+    let t = number-joined n m bytes (suc at) in
+    rw (suc-add n m, t, pow-succ' 256 n, mul-assoc, e) (omega arith)
+
+-- A number of n bytes with the number of the m behind it is the number of all n + m.
+pub joined : (n m : ℕ) {bytes : Bytes} {at r s : ℕ} → ReadsNumber n bytes at r → ReadsNumber m bytes (at + n) s → ReadsNumber (n + m) bytes at (r + 256 ^ n * s)
+joined n m {bytes} {at} {r} {s} low high = record {
+  value = rw (number-joined n m bytes at, low .value, high .value);
+  below = rw (pow-add 256 n m, mul-comm (256 ^ n) (256 ^ m), mul-comm (256 ^ n) s) (omega (arith, digits-lt (high .below) (low .below)));
+  byte = λ k f h. go k f h (decLt k (at + n));
+}
+  where
+    go : (k : ℕ) → at ≤ k → k < at + (n + m) → Dec (k < at + n) → getD {A = ℕ} bytes k 0 < 256
+    go k f h (yes l) = low .byte k f l
+    go k f h (no l) = high .byte k (omega (arith, l)) (omega arith)
+
+-- The n numbers of a list from i on are bytes.
+abbrev Bytewise : ℕ → Bytes → ℕ → Type 0
+Bytewise n l i = (k : ℕ) → i ≤ k → k < i + n → getD {A = ℕ} l k 0 < 256
+
+-- Equal numbers have equal bytes: the first is the remainder by 256, and the others make up the quotient.
+equal-bytes : (n : ℕ) (a b : Bytes) (i : ℕ) → Bytewise n a i → Bytewise n b i →
+    littleEndian n a i ≡ littleEndian n b i → (k : ℕ) → i ≤ k → k < i + n → getD {A = ℕ} a k 0 ≡ getD {A = ℕ} b k 0
+unfolding littleEndian
+equal-bytes zero a b i f g e k h l = omega arith
+equal-bytes (suc n) a b i f g e k h l =
+    go (decLt i k)
+    (λ t. equal-bytes n a b (suc i) (λ j p q. f j (omega arith) (omega arith)) (λ j p q. g j (omega arith) (omega arith)) (omega (arith, here, there)) k t (omega arith))
+  where
+    here : getD {A = ℕ} a i 0 < 256
+    here = f i (omega arith) (omega arith)
+
+    there : getD {A = ℕ} b i 0 < 256
+    there = g i (omega arith) (omega arith)
+
+    go : Dec (i < k) → (i < k → getD {A = ℕ} a k 0 ≡ getD {A = ℕ} b k 0) → getD {A = ℕ} a k 0 ≡ getD {A = ℕ} b k 0
+    go (yes t) later = later t
+    go (no t) later = let same : k ≡ i = omega (arith, t) in rw same (omega (arith, here, there))
+
+-- Two lists agree at the places below i.
+abbrev pub Agree : Bytes → Bytes → ℕ → Type 0
+Agree a b i = (k : ℕ) → k < i → getD {A = ℕ} a k 0 ≡ getD {A = ℕ} b k 0
+
+-- What a comparison promises.
+abbrev pub Tells : Bytes → Bytes → Bool → Type 0
+Tells a b t = (t ≡ true → a ≡ b) × (a ≡ b → t ≡ true)
+
+pub tells-apart : (a b : Bytes) → (a ≡ b → ⊥) → Tells a b false
+tells-apart a b h = (λ e. absurd (false≢true e), λ e. absurd (h e))
+
+module _ {n i r s : ℕ} {a b : Bytes} (first : ReadsNumber n a i r) (second : ReadsNumber n b i s) where
+  pub equal-numbers : a ≡ b → r ≡ s
+  equal-numbers e = first .value ∙ ap (λ (l : Bytes). littleEndian n l i) e ∙ sym (second .value)
+
+  pub agree-more : (from : ℕ) → i ≤ from → Agree a b from → r ≡ s → Agree a b (i + n)
+  agree-more from h below e k l = go (decLt k from)
+    where
+      go : Dec (k < from) → getD {A = ℕ} a k 0 ≡ getD {A = ℕ} b k 0
+      go (yes t) = below k t
+      go (no t) =
+          equal-bytes n a b i (first .byte) (second .byte) (sym (first .value) ∙ e ∙ second .value) k (omega (arith, t)) l
+
+  -- The last numbers of two lists decide, where the places below agree.
+  pub last-tells : (from : ℕ) → i ≤ from → Agree a b from → length a ≡ length b → length a ≡ i + n → Tells a b (eqb r s)
+  last-tells from h below e f = (
+    λ t. ext-getD 0 a b e (λ k l. agree-more from h below (eqb-true r s t) k (omega arith)),
+    λ t. eq-eqb r s (equal-numbers t),
+  )

@@ -1,0 +1,16 @@
+-- Numbers read off bytes: what `compare` looks at in the place of single bytes.
+use Prim.Native.Nat.{ℕ, zero, suc, _+_, _*_, _^_, _≤_, _<_}
+use mathlib.Core.Path.{_≡_}
+use lib.ListN.{getD}
+use Rattle.book.specs.Format.{Bytes}
+
+-- The little-endian number of the n bytes from an offset on.
+unfoldable pub littleEndian : ℕ → Bytes → ℕ → ℕ
+littleEndian zero bytes at = 0
+littleEndian (suc n) bytes at = getD {A = ℕ} bytes at 0 + 256 * littleEndian n bytes (suc at)
+
+-- r is that number, and each of the n is a byte.
+pub record ReadsNumber (n : ℕ) (bytes : Bytes) (at r : ℕ) : Type 0 where
+  pub value : r ≡ littleEndian n bytes at
+  pub below : r < 256 ^ n
+  pub byte : (k : ℕ) → at ≤ k → k < at + n → getD {A = ℕ} bytes k 0 < 256

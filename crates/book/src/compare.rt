@@ -1,0 +1,65 @@
+// Bytes compared eight at a time, each eight of them as one number. Fewer than eight are compared one by one.
+use crate::layout::wide;
+ghost use mathlib.Core.Path.{_≡_};
+ghost use mathlib.Core.Bool.{true};
+ghost use Prim.Native.Nat.{_+_, _≤_, _<_};
+ghost use lib.ListN.{length};
+ghost use Rattle.book.specs.Compare.{ReadsNumber};
+
+// Whether a and b hold the same bytes.
+pub fn same(a: &[u8], b: &[u8]) -> bool
+    ensures { λ r. ⌜ (r ≡ true → now (a .entry) ≡ now (b .entry)) × (now (a .entry) ≡ now (b .entry) → r ≡ true) ⌝ }
+{
+    if a.len() != b.len() {
+        return false;
+    }
+    if a.len() < 8 {
+        return check::same(a, b);
+    }
+    same_long(a, b)
+}
+
+// The same for two lists of one length, at least eight: eight bytes at a time, and at the end the last eight.
+fn same_long(a: &[u8], b: &[u8]) -> bool
+    requires { ⌜ (length (now a) ≡ length (now b)) × (8 ≤ length (now a)) ⌝ }
+    ensures { λ r. ⌜ (r ≡ true → now (a .entry) ≡ now (b .entry)) × (now (a .entry) ≡ now (b .entry) → r ≡ true) ⌝ }
+{
+    let last = a.len() - 8;
+    let mut i = 0;
+    while i < last {
+        if eight_bytes(a, i) != eight_bytes(b, i) {
+            return false;
+        }
+        i += 8;
+    }
+    eight_bytes(a, last) == eight_bytes(b, last)
+}
+
+// Eight bytes as one little-endian number, joined from halves, these from halves again: the compiler makes one load of it.
+fn eight_bytes(bytes: &[u8], at: usize) -> usize
+    requires { ⌜ at + 7 < length (now bytes) ⌝ }
+    ensures { λ r. ⌜ ReadsNumber 8 (now (bytes .entry)) at r ⌝ }
+{
+    four_bytes(bytes, at) + 4294967296 * four_bytes(bytes, at + 4)
+}
+
+fn four_bytes(bytes: &[u8], at: usize) -> usize
+    requires { ⌜ at + 3 < length (now bytes) ⌝ }
+    ensures { λ r. ⌜ ReadsNumber 4 (now (bytes .entry)) at r ⌝ }
+{
+    two(bytes, at) + 65536 * two(bytes, at + 2)
+}
+
+fn two(bytes: &[u8], at: usize) -> usize
+    requires { ⌜ at + 1 < length (now bytes) ⌝ }
+    ensures { λ r. ⌜ ReadsNumber 2 (now (bytes .entry)) at r ⌝ }
+{
+    one(bytes, at) + 256 * one(bytes, at + 1)
+}
+
+fn one(bytes: &[u8], at: usize) -> usize
+    requires { ⌜ at < length (now bytes) ⌝ }
+    ensures { λ r. ⌜ ReadsNumber 1 (now (bytes .entry)) at r ⌝ }
+{
+    wide(bytes[at])
+}
