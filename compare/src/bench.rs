@@ -1,0 +1,225 @@
+//! Times the library and its twin side by side: each round runs both, one behind the other, and the smallest time of each over all rounds
+//! counts.
+use crate::readers::{Reader, LIBRARY, TWIN};
+use crate::samples::{self, Growth, Sample};
+use std::hint::black_box;
+use std::time::{Duration, Instant};
+
+/// How many values are lent for an answer.
+const VALUES: usize = 512;
+
+/// How often all samples of a table are gone through, so that a slow spell of the machine does not fall on one alone.
+const PASSES: usize = 5;
+
+/// In one pass of a sample: how long both warm up together, how long each runs in one round, and how long all rounds take, at least.
+const WARM_UP: Duration = Duration::from_millis(5);
+const ROUND: Duration = Duration::from_micros(500);
+const ROUNDS: Duration = Duration::from_millis(60);
+
+/// The times of a call in nanoseconds, one for each round.
+#[derive(Clone, Default)]
+struct Rounds {
+    library: Vec<f64>,
+    twin: Vec<f64>,
+}
+
+impl Rounds {
+    /// The smallest time of the library, and of the twin.
+    fn smallest(&self) -> (f64, f64) {
+        let least = |times: &[f64]| times.iter().copied().fold(f64::INFINITY, f64::min);
+        (least(&self.library), least(&self.twin))
+    }
+
+    /// The median of the ratios of library to twin in each round.
+    fn median_ratio(&self) -> f64 {
+        let mut ratios: Vec<f64> = self
+            .library
+            .iter()
+            .zip(&self.twin)
+            .map(|(library, twin)| library / twin)
+            .collect();
+        ratios.sort_by(f64::total_cmp);
+        ratios[ratios.len() / 2]
+    }
+}
+
+/// The time of so many calls.
+fn run(calls: usize, call: &mut impl FnMut()) -> Duration {
+    let start = Instant::now();
+    for _ in 0..calls {
+        call();
+    }
+    start.elapsed()
+}
+
+/// Runs both until caches and clock have settled.
+fn warm_up(library: &mut impl FnMut(), twin: &mut impl FnMut()) {
+    let start = Instant::now();
+    while start.elapsed() < WARM_UP {
+        library();
+        twin();
+    }
+}
+
+/// How many calls fill a round.
+fn calls_for_round(library: &mut impl FnMut(), twin: &mut impl FnMut()) -> usize {
+    let mut calls = 1;
+    loop {
+        let spent = run(calls, library).min(run(calls, twin));
+        if spent >= ROUND {
+            return calls;
+        }
+        calls *= 2;
+    }
+}
+
+/// Times both, in rounds that take turns in which goes first.
+fn pair(rounds: &mut Rounds, mut library: impl FnMut(), mut twin: impl FnMut()) {
+    warm_up(&mut library, &mut twin);
+    let calls = calls_for_round(&mut library, &mut twin);
+    let per_call = |spent: Duration| spent.as_nanos() as f64 / calls as f64;
+    let start = Instant::now();
+    while start.elapsed() < ROUNDS {
+        if rounds.library.len().is_multiple_of(2) {
+            rounds.library.push(per_call(run(calls, &mut library)));
+            rounds.twin.push(per_call(run(calls, &mut twin)));
+        } else {
+            rounds.twin.push(per_call(run(calls, &mut twin)));
+            rounds.library.push(per_call(run(calls, &mut library)));
+        }
+    }
+}
+
+/// Stops where the two do not answer a sample alike.
+fn compare_answers(sample: &Sample) {
+    let mut ours = [0; VALUES];
+    let mut theirs = [0; VALUES];
+    let result = (LIBRARY.read_line)(&sample.book, &sample.line, &mut ours);
+    let other = (TWIN.read_line)(&sample.book, &sample.line, &mut theirs);
+    assert_eq!(result, other, "{}", sample.name);
+    assert_eq!(ours, theirs, "{}", sample.name);
+}
+
+/// Times both on a sample.
+fn time_line(rounds: &mut Rounds, sample: &Sample) {
+    let mut ours = [0; VALUES];
+    let mut theirs = [0; VALUES];
+    let call = |reader: Reader, answer: &mut [u16]| {
+        let result = (reader.read_line)(black_box(&sample.book), black_box(&sample.line), answer);
+        let _ = black_box(result);
+    };
+    pair(
+        rounds,
+        || call(LIBRARY, &mut ours),
+        || call(TWIN, &mut theirs),
+    );
+}
+
+/// Times both on samples, in several passes.
+fn time_lines(samples: &[&Sample]) -> Vec<Rounds> {
+    for sample in samples {
+        compare_answers(sample);
+    }
+    let mut all = vec![Rounds::default(); samples.len()];
+    for _ in 0..PASSES {
+        for (sample, rounds) in samples.iter().zip(&mut all) {
+            time_line(rounds, sample);
+        }
+    }
+    all
+}
+
+/// Prints the head of a table.
+fn head(title: &str) {
+    println!("\n{title}");
+    println!(
+        "{:44} {:>12} {:>12} {:>7} {:>13}",
+        "sample", "library ns", "twin ns", "ratio", "median ratio"
+    );
+}
+
+/// Prints a row: the smallest times, their ratio and the median of the rounds' ratios.
+fn row(name: &str, rounds: &Rounds) {
+    let (library, twin) = rounds.smallest();
+    println!(
+        "{name:44} {library:>12.0} {twin:>12.0} {:>7.2} {:>13.2}",
+        library / twin,
+        rounds.median_ratio()
+    );
+}
+
+/// Times the check of named books and prints their table.
+fn books(title: &str, books: &[(&str, &[u8])]) {
+    head(title);
+    for &(name, book) in books {
+        assert_eq!(
+            (LIBRARY.check_book)(book),
+            (TWIN.check_book)(book),
+            "{name}"
+        );
+        let call = |reader: Reader| {
+            let _ = black_box((reader.check_book)(black_box(book)));
+        };
+        let mut rounds = Rounds::default();
+        for _ in 0..PASSES {
+            pair(&mut rounds, || call(LIBRARY), || call(TWIN));
+        }
+        row(name, &rounds);
+    }
+}
+
+/// Times all samples and prints their table.
+fn lines(title: &str, samples: &[Sample]) {
+    let all: Vec<&Sample> = samples.iter().collect();
+    let times = time_lines(&all);
+    head(title);
+    for (sample, rounds) in samples.iter().zip(&times) {
+        row(&sample.name, rounds);
+    }
+}
+
+/// Times one kind of line for several numbers of simple types and prints how its cost grows from each to the next.
+fn growth(growth: &Growth) {
+    let all: Vec<&Sample> = growth.steps.iter().map(|(_, sample)| sample).collect();
+    let times = time_lines(&all);
+    println!("\nGrowth: {}", growth.name);
+    println!(
+        "{:>6} {:>12} {:>8} {:>12} {:>8} {:>7}",
+        "N", "library ns", "factor", "twin ns", "factor", "ratio"
+    );
+    let factor = |now: f64, then: Option<f64>| match then {
+        Some(then) => format!("{:.2}", now / then),
+        None => "-".to_string(),
+    };
+    let mut before: Option<(f64, f64)> = None;
+    for ((size, _), rounds) in growth.steps.iter().zip(&times) {
+        let (ours, theirs) = rounds.smallest();
+        println!(
+            "{size:>6} {ours:>12.0} {:>8} {theirs:>12.0} {:>8} {:>7.2}",
+            factor(ours, before.map(|then| then.0)),
+            factor(theirs, before.map(|then| then.1)),
+            ours / theirs
+        );
+        before = Some((ours, theirs));
+    }
+}
+
+/// Times books and lines of all kinds and prints their tables.
+pub fn tables() {
+    let typical = samples::typical();
+    let hard = samples::hard();
+    let full = samples::full();
+    let checked: [(&str, &[u8]); 4] = [
+        ("typical, 1000 entries", &typical[0].book),
+        ("64 types in a cycle", &hard[1].book),
+        ("1024 empty entries, 1 byte", &full[0].book),
+        ("1024 words alike, 31 bytes", &full[full.len() - 1].book),
+    ];
+    books("Books checked alone", &checked);
+    lines("Typical lines", &typical);
+    lines("Hard lines", &hard);
+    lines("Full books", &full);
+    for kind in samples::growth() {
+        growth(&kind);
+    }
+}

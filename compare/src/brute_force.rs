@@ -1,0 +1,231 @@
+//! The reader once more, by trying everything: all choices in order, and for
+//! each all partner lists in order, tested against the definition.
+
+use crate::cases;
+use crate::independent::read_line;
+use crate::random::Random;
+
+type TypeString = Vec<(u8, i8)>;
+
+/// An accepted book, taken apart without any check.
+struct Book {
+    pairs: Vec<(u8, u8)>,
+    entries: Vec<(Vec<u8>, TypeString)>,
+    target: u8,
+}
+
+fn take_apart(bytes: &[u8]) -> Book {
+    let mut book = Book {
+        pairs: vec![],
+        entries: vec![],
+        target: 0,
+    };
+    let mut rest = bytes;
+    while !rest.is_empty() {
+        let (head, behind) = rest.split_at(4);
+        let (body, behind) = behind.split_at(head[0] as usize);
+        match head[2] {
+            2 => book.pairs.push((body[0], body[1])),
+            3 => {
+                let (word, simple_types) = body[1..].split_at(body[0] as usize);
+                let simple = |b: &[u8]| (b[0], b[1] as i8);
+                let simple_types = simple_types.chunks(2).map(simple).collect();
+                book.entries.push((word.to_vec(), simple_types));
+            }
+            4 => book.target = body[0],
+            _ => {}
+        }
+        rest = behind;
+    }
+    book
+}
+
+/// a ≤ b: b is found by walking up from a.
+fn at_or_below(book: &Book, a: u8, b: u8) -> bool {
+    let mut above = vec![a];
+    let mut walked = 0;
+    while walked < above.len() {
+        for (lower, upper) in &book.pairs {
+            if *lower == above[walked] && !above.contains(upper) {
+                above.push(*upper);
+            }
+        }
+        walked += 1;
+    }
+    above.contains(&b)
+}
+
+fn could_contract(book: &Book, (a, z): (u8, i8), (b, y): (u8, i8)) -> bool {
+    let even = z.rem_euclid(2) == 0;
+    y == z + 1 && ((even && at_or_below(book, a, b)) || (!even && at_or_below(book, b, a)))
+}
+
+/// Whether a partner list, with exactly one position its own partner, is a
+/// linking of the string.
+fn is_linking(book: &Book, string: &TypeString, partners: &[usize]) -> bool {
+    (0..string.len()).all(|i| {
+        let p = partners[i];
+        if p == i {
+            let under = (0..i).any(|earlier| partners[earlier] > i);
+            string[i].1 == 0 && at_or_below(book, string[i].0, book.target) && !under
+        } else {
+            let (first, last) = (i.min(p), i.max(p));
+            let inside = |k: usize| {
+                let q = partners[k];
+                first < q && q < last && q != k
+            };
+            could_contract(book, string[first], string[last]) && (first + 1..last).all(inside)
+        }
+    })
+}
+
+/// All lists in which partners have each other and one position has itself,
+/// the smallest at the first difference first.
+fn partner_lists(partners: &mut Vec<usize>, own: bool, found: &mut Vec<Vec<usize>>) {
+    const NONE: usize = usize::MAX;
+    let Some(i) = partners.iter().position(|p| *p == NONE) else {
+        if own {
+            found.push(partners.clone());
+        }
+        return;
+    };
+    for p in i..partners.len() {
+        if partners[p] == NONE && !(p == i && own) {
+            partners[i] = p;
+            partners[p] = i;
+            partner_lists(partners, own || p == i, found);
+            partners[p] = NONE;
+            partners[i] = NONE;
+        }
+    }
+}
+
+/// All lists of entry numbers for the words, the smallest at the first
+/// difference first.
+fn choices(book: &Book, words: &[&[u8]]) -> Vec<Vec<usize>> {
+    let mut lists = vec![vec![]];
+    for word in words {
+        let mut longer = vec![];
+        for list in &lists {
+            for number in 0..book.entries.len() {
+                if book.entries[number].0 == *word {
+                    longer.push([list.clone(), vec![number]].concat());
+                }
+            }
+        }
+        lists = longer;
+    }
+    lists
+}
+
+/// Whether the written values are some reading of the line.
+fn is_reading(book: &[u8], line: &[u8], values: &[u16]) -> bool {
+    let book = take_apart(book);
+    let words = words_of(line);
+    let n = words.len();
+    let (numbers, partners) = (&values[1..1 + n], &values[2 + n..]);
+    let entries: Vec<&(Vec<u8>, TypeString)> = numbers
+        .iter()
+        .map(|number| &book.entries[*number as usize])
+        .collect();
+    let string: TypeString = entries.iter().flat_map(|entry| entry.1.clone()).collect();
+    let partners: Vec<usize> = partners.iter().map(|p| *p as usize - 1).collect();
+    let own = (0..partners.len()).filter(|i| partners[*i] == *i).count();
+    values[0] as usize == n
+        && values[1 + n] as usize == string.len()
+        && entries
+            .iter()
+            .zip(&words)
+            .all(|(entry, word)| entry.0 == *word)
+        && partners.len() == string.len()
+        && (0..partners.len()).all(|i| partners[partners[i]] == i)
+        && own == 1
+        && is_linking(&book, &string, &partners)
+}
+
+fn words_of(line: &[u8]) -> Vec<&[u8]> {
+    line.split(|byte| *byte == 32)
+        .filter(|word| !word.is_empty())
+        .collect()
+}
+
+/// The answers of all readings in order, or nothing where there is too much to try.
+fn all_readings(book: &[u8], line: &[u8]) -> Option<Vec<Vec<u16>>> {
+    let book = take_apart(book);
+    let words = words_of(line);
+    let of_word = |word: &&[u8]| book.entries.iter().filter(|e| e.0 == *word).count();
+    if words.iter().map(of_word).product::<usize>() > 300 {
+        return None;
+    }
+    let mut readings = vec![];
+    for choice in choices(&book, &words) {
+        let string: TypeString = choice
+            .iter()
+            .flat_map(|number| book.entries[*number].1.clone())
+            .collect();
+        if string.len() > 9 {
+            return None;
+        }
+        let mut lists = vec![];
+        partner_lists(&mut vec![usize::MAX; string.len()], false, &mut lists);
+        lists.retain(|partners| is_linking(&book, &string, partners));
+        for partners in lists {
+            let mut answer = vec![choice.len()];
+            answer.extend(&choice);
+            answer.push(partners.len());
+            answer.extend(partners.iter().map(|p| p + 1));
+            readings.push(answer.iter().map(|value| *value as u16).collect());
+        }
+    }
+    Some(readings)
+}
+
+#[test]
+fn partner_lists_come_in_order() {
+    let mut lists = vec![];
+    partner_lists(&mut vec![usize::MAX; 5], false, &mut lists);
+    assert_eq!(lists.len(), 5 * 3);
+    assert!(lists.windows(2).all(|two| two[0] < two[1]));
+}
+
+#[test]
+fn whatever_is_read_is_a_reading() {
+    let mut read = 0;
+    for number in 0..20_000 {
+        let case = cases::any(&mut Random::for_case(8, number));
+        let mut answer = [0; cases::AMPLE];
+        if let Ok(values) = read_line(&case.book, &case.line, &mut answer) {
+            let values = &answer[..values as usize];
+            assert!(is_reading(&case.book, &case.line, values), "case {number}");
+            read += 1;
+        }
+    }
+    assert!(read > 5_000);
+}
+
+#[test]
+fn the_first_of_all_readings_is_read() {
+    let (mut tried, mut read, mut several) = (0, 0, 0);
+    let mut number = 0;
+    while tried < 6_000 {
+        number += 1;
+        let case = cases::ambiguous(&mut Random::for_case(7, number));
+        let Some(readings) = all_readings(&case.book, &case.line) else {
+            continue;
+        };
+        let mut answer = [0; cases::AMPLE];
+        let outcome = read_line(&case.book, &case.line, &mut answer);
+        match readings.first() {
+            Some(first) => {
+                assert_eq!(outcome, Ok(first.len() as u64), "case {number}");
+                assert_eq!(answer[..first.len()], first[..], "case {number}");
+            }
+            None => assert_eq!(outcome, Err((15, 0)), "case {number}"),
+        }
+        tried += 1;
+        read += usize::from(!readings.is_empty());
+        several += usize::from(readings.len() > 1);
+    }
+    println!("{tried} tried of {number} made, {read} read, {several} with several readings");
+    assert!(read > 1_500 && several > 500);
+}

@@ -1,0 +1,90 @@
+//! Test cases: a book, a line and the number of values lent, of several kinds.
+
+mod ambiguous;
+mod borders;
+mod damaged_books;
+mod damaged_lines;
+mod papers;
+
+use crate::independent;
+use crate::random::Random;
+pub use ambiguous::ambiguous;
+
+pub struct Case {
+    pub kind: &'static str,
+    pub book: Vec<u8>,
+    pub line: Vec<u8>,
+    pub lent: usize,
+}
+
+/// More values than any answer takes: 2 + 24 words + 24 times 12 simple types.
+pub const AMPLE: usize = 320;
+
+type Maker = fn(&mut Random) -> Case;
+
+/// The makers with their shares of 2,000 cases.
+const MAKERS: [(usize, Maker); 6] = [
+    (1_000, ambiguous),
+    (300, papers::papers),
+    (350, damaged_books::damaged_books),
+    (318, damaged_lines::damaged_lines),
+    (30, borders::small_borders),
+    (2, borders::big_borders),
+];
+
+/// A case of some kind.
+pub fn any(random: &mut Random) -> Case {
+    let mut place = random.below(2_000);
+    for (share, maker) in MAKERS {
+        if place < share {
+            return maker(random);
+        }
+        place -= share;
+    }
+    unreachable!("the shares make 2,000")
+}
+
+/// The case of a kind, with a number of values lent that is often just enough
+/// or just too small.
+fn lend(random: &mut Random, kind: &'static str, book: Vec<u8>, line: Vec<u8>) -> Case {
+    let lent = match random.below(10) {
+        0..=4 => AMPLE,
+        5 | 6 => needed(&book, &line),
+        7 | 8 => needed(&book, &line).saturating_sub(1),
+        _ => random.below(needed(&book, &line) + 3).saturating_sub(2),
+    };
+    Case {
+        kind,
+        book,
+        line,
+        lent,
+    }
+}
+
+/// How many values the answer takes; for a refused line a small number.
+fn needed(book: &[u8], line: &[u8]) -> usize {
+    let outcome = independent::read_line(book, line, &mut [0; AMPLE]);
+    outcome.unwrap_or(5) as usize
+}
+
+/// The words with one space between two, seldom more, and seldom spaces at
+/// the ends.
+fn joined(random: &mut Random, words: &[Vec<u8>]) -> Vec<u8> {
+    let mut line = spaces(random, 0);
+    for (place, word) in words.iter().enumerate() {
+        if place > 0 {
+            line.extend(spaces(random, 1));
+        }
+        line.extend(word);
+    }
+    line.extend(spaces(random, 0));
+    line
+}
+
+fn spaces(random: &mut Random, least: usize) -> Vec<u8> {
+    let more = match random.chance(1, 10) {
+        true => random.below(4),
+        false => 0,
+    };
+    vec![b' '; least + more]
+}

@@ -1,0 +1,534 @@
+//! The book check and the line reader of document 01, straight from its
+//! definitions: a second implementation, to be compared with the first.
+
+use crate::readers::{Counts, Refusal};
+
+const MOST_BOOK_BYTES: usize = 65_535;
+const MOST_BASIC_TYPES: usize = 64;
+const MOST_ENTRIES: usize = 1_024;
+const MOST_WORD_BYTES: usize = 31;
+const MOST_ENTRY_TYPES: usize = 12;
+const MOST_WORDS: usize = 24;
+const MOST_LINE_TYPES: usize = 512;
+
+/// Checks a book alone.
+pub fn check_book(book: &[u8]) -> Result<Counts, Refusal> {
+    let book = parse_book(book)?;
+    Ok(Counts {
+        types: book.names.len() as u64,
+        entries: book.entries.len() as u64,
+        pairs: book.order.pairs(),
+    })
+}
+
+/// Reads a line against a book: the number of values written, or a refusal
+/// with the answer untouched.
+pub fn read_line(book: &[u8], line: &[u8], answer: &mut [u16]) -> Result<u64, Refusal> {
+    let book = parse_book(book)?;
+    let words = words_of(line)?;
+    let places = look_up(&book, &words)?;
+    let choice = first_choice(&book, &places).ok_or((15, 0))?;
+    let string: Vec<SimpleType> = choice.iter().flat_map(|e| e.simple_types.clone()).collect();
+    let partners = first_linking(&book, &string).expect("the choice has a linking");
+    let values = answer_values(&choice, &partners);
+    if answer.len() < values.len() {
+        return Err((16, values.len() as u64));
+    }
+    answer[..values.len()].copy_from_slice(&values);
+    Ok(values.len() as u64)
+}
+
+/// n, the n entry numbers, m, the m partners counted from 1.
+fn answer_values(choice: &[&Entry], partners: &[usize]) -> Vec<u16> {
+    let mut values = vec![choice.len() as u16];
+    values.extend(choice.iter().map(|entry| entry.number as u16));
+    values.push(partners.len() as u16);
+    values.extend(partners.iter().map(|partner| *partner as u16 + 1));
+    values
+}
+
+// The book
+
+#[derive(Clone, Copy, PartialEq, Eq)]
+struct SimpleType {
+    basic: usize,
+    exponent: i8,
+}
+
+struct Entry<'a> {
+    number: usize,
+    word: &'a [u8],
+    simple_types: Vec<SimpleType>,
+}
+
+/// `at_or_below[a][b]` says a ≤ b.
+struct Order {
+    at_or_below: Vec<Vec<bool>>,
+}
+
+struct Book<'a> {
+    names: Vec<&'a [u8]>,
+    entries: Vec<Entry<'a>>,
+    order: Order,
+    target: usize,
+}
+
+/// What the records read so far hold.
+#[derive(Default)]
+struct Draft<'a> {
+    names: Vec<&'a [u8]>,
+    pairs: Vec<(usize, usize)>,
+    entries: Vec<Entry<'a>>,
+    target: Option<usize>,
+}
+
+fn parse_book(book: &[u8]) -> Result<Book<'_>, Refusal> {
+    if book.len() > MOST_BOOK_BYTES {
+        return Err((1, 0));
+    }
+    let mut draft = Draft::default();
+    let mut offset = 0;
+    while offset < book.len() {
+        let length = draft
+            .add_record(&book[offset..])
+            .map_err(|number| (number, offset as u64))?;
+        offset += length;
+    }
+    let target = draft.target.ok_or((10, book.len() as u64))?;
+    Ok(Book {
+        order: Order::closure(draft.names.len(), &draft.pairs),
+        names: draft.names,
+        entries: draft.entries,
+        target,
+    })
+}
+
+/// Each function tries its causes in the order of their numbers.
+impl<'a> Draft<'a> {
+    /// Adds the record at the front of `rest` and returns its length.
+    fn add_record(&mut self, rest: &'a [u8]) -> Result<usize, u32> {
+        let head = rest.get(..4).ok_or(2u32)?;
+        let body_length = u16::from_le_bytes([head[0], head[1]]) as usize;
+        let kind = u16::from_le_bytes([head[2], head[3]]);
+        let body = rest.get(4..4 + body_length).ok_or(2u32)?;
+        match kind {
+            1 => self.add_basic_type(body)?,
+            2 => self.add_pair(body)?,
+            3 => self.add_entry(body)?,
+            4 => self.add_target(body)?,
+            _ => return Err(3),
+        }
+        Ok(4 + body_length)
+    }
+
+    fn add_basic_type(&mut self, name: &'a [u8]) -> Result<(), u32> {
+        if !is_type_name(name) {
+            return Err(4);
+        }
+        if self.names.contains(&name) {
+            return Err(7);
+        }
+        if self.names.len() == MOST_BASIC_TYPES {
+            return Err(9);
+        }
+        self.names.push(name);
+        Ok(())
+    }
+
+    fn add_pair(&mut self, body: &[u8]) -> Result<(), u32> {
+        let [lower, upper] = *body else {
+            return Err(4);
+        };
+        let (lower, upper) = (lower as usize, upper as usize);
+        if !self.declared(lower) || !self.declared(upper) {
+            return Err(5);
+        }
+        self.pairs.push((lower, upper));
+        Ok(())
+    }
+
+    fn add_entry(&mut self, body: &'a [u8]) -> Result<(), u32> {
+        let (word, simple_types) = entry_layout(body).ok_or(4u32)?;
+        if simple_types.iter().any(|s| !self.declared(s.basic)) {
+            return Err(5);
+        }
+        if simple_types.iter().any(|s| !(-8..=8).contains(&s.exponent)) {
+            return Err(6);
+        }
+        if self.entries.len() == MOST_ENTRIES {
+            return Err(9);
+        }
+        let number = self.entries.len();
+        self.entries.push(Entry {
+            number,
+            word,
+            simple_types,
+        });
+        Ok(())
+    }
+
+    fn add_target(&mut self, body: &[u8]) -> Result<(), u32> {
+        let [target] = *body else {
+            return Err(4);
+        };
+        if !self.declared(target as usize) {
+            return Err(5);
+        }
+        if self.target.is_some() {
+            return Err(8);
+        }
+        self.target = Some(target as usize);
+        Ok(())
+    }
+
+    fn declared(&self, basic: usize) -> bool {
+        basic < self.names.len()
+    }
+}
+
+fn is_type_name(name: &[u8]) -> bool {
+    let letter = |byte: &u8| byte.is_ascii_lowercase();
+    let letter_or_digit = |byte: &u8| byte.is_ascii_lowercase() || byte.is_ascii_digit();
+    (1..=15).contains(&name.len()) && letter(&name[0]) && name.iter().all(letter_or_digit)
+}
+
+/// An entry's word and simple types, if the body has an entry's layout.
+fn entry_layout(body: &[u8]) -> Option<(&[u8], Vec<SimpleType>)> {
+    let length = *body.first()? as usize;
+    if !(1..=MOST_WORD_BYTES).contains(&length) {
+        return None;
+    }
+    let word = body.get(1..1 + length)?;
+    let rest = &body[1 + length..];
+    let word_bytes = word.iter().all(|byte| (33..=126).contains(byte));
+    if !word_bytes || rest.len() % 2 != 0 || rest.len() / 2 > MOST_ENTRY_TYPES {
+        return None;
+    }
+    let simple = |bytes: &[u8]| SimpleType {
+        basic: bytes[0] as usize,
+        exponent: bytes[1] as i8,
+    };
+    Some((word, rest.chunks(2).map(simple).collect()))
+}
+
+impl Order {
+    /// The reflexive and transitive closure of the pairs.
+    fn closure(types: usize, pairs: &[(usize, usize)]) -> Order {
+        let mut at_or_below = vec![vec![false; types]; types];
+        for (a, row) in at_or_below.iter_mut().enumerate() {
+            row[a] = true;
+        }
+        for &(lower, upper) in pairs {
+            at_or_below[lower][upper] = true;
+        }
+        for via in 0..types {
+            for a in 0..types {
+                for b in 0..types {
+                    let through = at_or_below[a][via] && at_or_below[via][b];
+                    at_or_below[a][b] |= through;
+                }
+            }
+        }
+        Order { at_or_below }
+    }
+
+    fn pairs(&self) -> u64 {
+        self.at_or_below.iter().flatten().filter(|le| **le).count() as u64
+    }
+
+    /// Whether a link may have `earlier` and `later` as its ends:
+    /// a^(z) b^(z+1), with a ≤ b for even z and b ≤ a for odd z.
+    fn contracts(&self, earlier: SimpleType, later: SimpleType) -> bool {
+        if later.exponent != earlier.exponent + 1 {
+            return false;
+        }
+        if earlier.exponent % 2 == 0 {
+            self.at_or_below[earlier.basic][later.basic]
+        } else {
+            self.at_or_below[later.basic][earlier.basic]
+        }
+    }
+}
+
+impl Book<'_> {
+    /// Whether a simple type that stands under no link may be the unlinked one.
+    fn may_be_unlinked(&self, simple: SimpleType) -> bool {
+        simple.exponent == 0 && self.order.at_or_below[simple.basic][self.target]
+    }
+}
+
+// The line
+
+/// The line's words with their offsets: refusals 11 and 12.
+fn words_of(line: &[u8]) -> Result<Vec<(usize, &[u8])>, Refusal> {
+    let outside = |byte: &u8| !(32..=126).contains(byte);
+    if let Some(offset) = line.iter().position(outside) {
+        return Err((11, offset as u64));
+    }
+    let mut words = Vec::new();
+    let mut offset = 0;
+    for word in line.split(|byte| *byte == b' ') {
+        if !word.is_empty() {
+            words.push((offset, word));
+        }
+        offset += word.len() + 1;
+    }
+    for (place, (offset, word)) in words.iter().enumerate() {
+        if word.len() > MOST_WORD_BYTES || place == MOST_WORDS {
+            return Err((12, *offset as u64));
+        }
+    }
+    Ok(words)
+}
+
+/// All entries of each word, in the book's order: refusals 13 and 14.
+fn look_up<'b>(
+    book: &'b Book<'b>,
+    words: &[(usize, &[u8])],
+) -> Result<Vec<Vec<&'b Entry<'b>>>, Refusal> {
+    let mut places = Vec::new();
+    for (offset, word) in words {
+        let entries: Vec<&Entry> = book.entries.iter().filter(|e| e.word == *word).collect();
+        if entries.is_empty() {
+            return Err((13, *offset as u64));
+        }
+        places.push(entries);
+    }
+    if simple_types_of(&places) > MOST_LINE_TYPES {
+        return Err((14, 0));
+    }
+    Ok(places)
+}
+
+/// How many simple types all entries of all places have together.
+fn simple_types_of(places: &[Vec<&Entry>]) -> usize {
+    let entries = places.iter().flatten();
+    entries.map(|entry| entry.simple_types.len()).sum()
+}
+
+// The choice of entries
+
+/// The choice that has a linking and whose entry numbers are smallest at the
+/// first difference: place by place the first entry that can be completed.
+fn first_choice<'b>(book: &Book, places: &[Vec<&'b Entry<'b>>]) -> Option<Vec<&'b Entry<'b>>> {
+    let mut open: Vec<Vec<&Entry>> = places.iter().map(|p| without_repeats(p)).collect();
+    if !completable(book, &open) {
+        return None;
+    }
+    for place in 0..open.len() {
+        let entries = open[place].clone();
+        // Some entry can be completed: the last one, where no other can.
+        let (last, others) = entries.split_last()?;
+        let first = others.iter().find(|entry| {
+            open[place] = vec![**entry];
+            completable(book, &open)
+        });
+        open[place] = vec![*first.unwrap_or(last)];
+    }
+    Some(open.concat())
+}
+
+/// The entries without those whose type an earlier one has. Exchanging such an
+/// entry for the earlier one keeps every linking and makes the list smaller.
+fn without_repeats<'b>(entries: &[&'b Entry<'b>]) -> Vec<&'b Entry<'b>> {
+    let mut kept: Vec<&Entry> = Vec::new();
+    for entry in entries {
+        let same = |earlier: &&Entry| earlier.simple_types == entry.simple_types;
+        if !kept.iter().any(same) {
+            kept.push(entry);
+        }
+    }
+    kept
+}
+
+/// A simple type of some entry at some place, or one of the line's ends.
+#[derive(Clone, Copy)]
+enum Node {
+    Start,
+    Simple(SimpleType),
+    End,
+}
+
+/// The nodes of all entries of all places, earlier places first. A path from
+/// `Start` to `End` along `next` is the string of one choice.
+struct Lattice {
+    nodes: Vec<Node>,
+    /// Node j may stand right after node i in a choice's string.
+    next: Table,
+}
+
+impl Lattice {
+    fn new(places: &[Vec<&Entry>]) -> Lattice {
+        let end = simple_types_of(places) + 1;
+        let mut nodes = vec![Node::End; end + 1];
+        let mut next = Table::new(end + 1);
+        // Places and their nodes are added from the last to the first; `first`
+        // holds the nodes that may come first in what is added so far.
+        let mut first = vec![false; end + 1];
+        first[end] = true;
+        let mut front = end;
+        for entries in places.iter().rev() {
+            let mut first_here = vec![false; end + 1];
+            for entry in entries {
+                for (k, simple) in entry.simple_types.iter().enumerate().rev() {
+                    front -= 1;
+                    nodes[front] = Node::Simple(*simple);
+                    if k + 1 == entry.simple_types.len() {
+                        add(next.row_mut(front), &first);
+                    } else {
+                        next.row_mut(front)[front + 1] = true;
+                    }
+                }
+                if entry.simple_types.is_empty() {
+                    add(&mut first_here, &first);
+                } else {
+                    first_here[front] = true;
+                }
+            }
+            first = first_here;
+        }
+        nodes[0] = Node::Start;
+        add(next.row_mut(0), &first);
+        Lattice { nodes, next }
+    }
+}
+
+/// A square table of truth values, all false at first.
+struct Table {
+    size: usize,
+    cells: Vec<bool>,
+}
+
+impl Table {
+    fn new(size: usize) -> Table {
+        let cells = vec![false; size * size];
+        Table { size, cells }
+    }
+
+    fn row(&self, i: usize) -> &[bool] {
+        &self.cells[i * self.size..][..self.size]
+    }
+
+    fn row_mut(&mut self, i: usize) -> &mut [bool] {
+        &mut self.cells[i * self.size..][..self.size]
+    }
+}
+
+/// Makes true in `row` whatever is true in `more`.
+fn add(row: &mut [bool], more: &[bool]) {
+    for (old, new) in row.iter_mut().zip(more) {
+        *old |= *new;
+    }
+}
+
+/// Whether some choice of the given entries has a linking: a node that may be
+/// unlinked, with all before it and all after it linked inside.
+fn completable(book: &Book, places: &[Vec<&Entry>]) -> bool {
+    let lattice = Lattice::new(places);
+    let bridged = bridged(&book.order, &lattice);
+    let end = lattice.nodes.len() - 1;
+    (0..end).any(|i| match lattice.nodes[i] {
+        Node::Simple(simple) => {
+            book.may_be_unlinked(simple) && bridged.row(0)[i] && bridged.row(i)[end]
+        }
+        _ => false,
+    })
+}
+
+/// In row i and column j: on some path from node i to node j all that stands
+/// strictly between them is linked inside. Rows are made from the last to the
+/// first; a row needs only those of later nodes.
+fn bridged(order: &Order, lattice: &Lattice) -> Table {
+    let size = lattice.nodes.len();
+    let mut bridged = Table::new(size);
+    // Nodes i and j can be the ends of a link.
+    let mut links = Table::new(size);
+    // Some node right after node i can be linked with node j.
+    let mut hops = Table::new(size);
+    for i in (0..size).rev() {
+        for x in (i + 1..size).filter(|x| lattice.next.row(i)[*x]) {
+            add(hops.row_mut(i), links.row(x));
+        }
+        // Links one behind another from node i on: where the last can end.
+        let mut reached = vec![false; size];
+        reached[i] = true;
+        for last in i..size {
+            if reached[last] {
+                add(&mut reached, hops.row(last));
+                add(bridged.row_mut(i), lattice.next.row(last));
+            }
+        }
+        for j in i + 1..size {
+            let contract = nodes_contract(order, lattice.nodes[i], lattice.nodes[j]);
+            links.row_mut(i)[j] = contract && bridged.row(i)[j];
+        }
+    }
+    bridged
+}
+
+fn nodes_contract(order: &Order, earlier: Node, later: Node) -> bool {
+    match (earlier, later) {
+        (Node::Simple(earlier), Node::Simple(later)) => order.contracts(earlier, later),
+        _ => false,
+    }
+}
+
+// The linking of a string
+
+/// The linking whose partner list is smallest at the first difference, with
+/// positions counted from 0; the unlinked position has its own number.
+fn first_linking(book: &Book, string: &[SimpleType]) -> Option<Vec<usize>> {
+    let m = string.len();
+    let linked = linked_stretches(&book.order, string);
+    let unlinked = |i: usize| book.may_be_unlinked(string[i]);
+    // Positions from i on hold the unlinked one, and the others can be linked.
+    let finishes = |i: usize| (i..m).any(|u| linked[i][u] && unlinked(u) && linked[u + 1][m]);
+
+    let mut partners = vec![None; m];
+    let mut unlinked_to_come = true;
+    for i in 0..m {
+        if partners[i].is_some() {
+            continue;
+        }
+        // Whatever is linked behind i has a partner before i: a link around i.
+        let stop = (i..m).find(|j| partners[*j].is_some()).unwrap_or(m);
+        let holds_unlinked = stop == m && unlinked_to_come;
+        if holds_unlinked && unlinked(i) && linked[i + 1][m] {
+            partners[i] = Some(i);
+            unlinked_to_come = false;
+            continue;
+        }
+        let rest = |p: usize| match holds_unlinked {
+            true => finishes(p + 1),
+            false => linked[p + 1][stop],
+        };
+        let allowed = |p: &usize| {
+            book.order.contracts(string[i], string[*p]) && linked[i + 1][*p] && rest(*p)
+        };
+        let partner = (i + 1..stop).find(allowed)?;
+        partners[i] = Some(partner);
+        partners[partner] = Some(i);
+    }
+    match unlinked_to_come {
+        true => None,
+        false => partners.into_iter().collect(),
+    }
+}
+
+/// `linked[from][to]`: the positions from `from` up to but not including `to`
+/// can all be linked inside.
+fn linked_stretches(order: &Order, string: &[SimpleType]) -> Vec<Vec<bool>> {
+    let m = string.len();
+    let mut linked = vec![vec![false; m + 1]; m + 1];
+    for from in (0..=m).rev() {
+        linked[from][from] = true;
+        for to in from + 2..=m {
+            linked[from][to] = (from + 1..to).any(|partner| {
+                order.contracts(string[from], string[partner])
+                    && linked[from + 1][partner]
+                    && linked[partner + 1][to]
+            });
+        }
+    }
+    linked
+}

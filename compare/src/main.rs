@@ -1,0 +1,78 @@
+//! Compares the proved library with an independent reader on random cases, and times it beside a twin in Rust.
+//!
+//! - `compare cases [CASES] [SEED]`: the comparison; it ends with status 1 at the first difference.
+//! - `compare bench`: the times.
+//! - `compare once library|twin SAMPLE`: one sample read once, for a tool that counts instructions.
+//! - `compare samples`: the names of the samples.
+
+mod bench;
+mod books;
+#[cfg(test)]
+mod brute_force;
+mod cases;
+mod compare;
+#[cfg(test)]
+mod document_cases;
+mod independent;
+mod library;
+mod random;
+mod readers;
+mod samples;
+mod twin;
+
+use readers::{LIBRARY, TWIN};
+use std::process::ExitCode;
+
+const USAGE: &str = "compare cases [CASES] [SEED] | bench | once library|twin SAMPLE | samples";
+
+fn main() -> ExitCode {
+    let arguments: Vec<String> = std::env::args().skip(1).collect();
+    let arguments: Vec<&str> = arguments.iter().map(String::as_str).collect();
+    let done = match arguments[..] {
+        ["cases"] => cases("1000000", "1"),
+        ["cases", count] => cases(count, "1"),
+        ["cases", count, seed] => cases(count, seed),
+        ["bench"] => {
+            bench::tables();
+            true
+        }
+        ["once", "library", sample] => once(&LIBRARY, sample),
+        ["once", "twin", sample] => once(&TWIN, sample),
+        ["samples"] => {
+            for sample in samples::all() {
+                println!("{}", sample.name);
+            }
+            true
+        }
+        _ => {
+            eprintln!("{USAGE}");
+            false
+        }
+    };
+    match done {
+        true => ExitCode::SUCCESS,
+        false => ExitCode::FAILURE,
+    }
+}
+
+/// Compares so many cases of a seed.
+fn cases(count: &str, seed: &str) -> bool {
+    match (count.parse(), seed.parse()) {
+        (Ok(count), Ok(seed)) => compare::run(count, seed, &[LIBRARY, TWIN]),
+        _ => {
+            eprintln!("{USAGE}");
+            false
+        }
+    }
+}
+
+/// Reads a sample once and prints what comes back.
+fn once(reader: &readers::Reader, name: &str) -> bool {
+    let Some(sample) = samples::all().into_iter().find(|s| s.name == name) else {
+        eprintln!("no sample of that name");
+        return false;
+    };
+    let outcome = (reader.read_line)(&sample.book, &sample.line, &mut [0; 512]);
+    println!("{outcome:?}");
+    true
+}

@@ -1,0 +1,98 @@
+//! Books and lines to time: a typical book with its lines, lines at the bounds where much contracts with much, and books full of
+//! entries of one word. A sample's name ends with whether its line reads.
+mod full;
+mod hard;
+mod typical;
+
+pub use full::full;
+pub use hard::{growth, hard};
+pub use typical::typical;
+
+/// A simple type: a basic type's number and an exponent.
+type Simple = (u8, i8);
+
+/// A book and a line to read against it.
+pub struct Sample {
+    pub name: String,
+    pub book: Vec<u8>,
+    pub line: Vec<u8>,
+}
+
+/// The same kind of line for several numbers of simple types.
+pub struct Growth {
+    pub name: String,
+    pub steps: Vec<(usize, Sample)>,
+}
+
+/// All samples but those of growth.
+pub fn all() -> Vec<Sample> {
+    let mut samples = typical();
+    samples.extend(hard());
+    samples.extend(full());
+    samples
+}
+
+#[cfg(test)]
+mod tests {
+    use super::typical::typical_book;
+    use super::*;
+    use crate::random::Random;
+    use crate::readers::TWIN;
+
+    /// Whether the line has the outcome that the sample's name ends with.
+    fn as_named(sample: &Sample) {
+        let mut answer = [0; 512];
+        let result = (TWIN.read_line)(&sample.book, &sample.line, &mut answer);
+        if sample.name.ends_with("reads") {
+            assert!(result.is_ok(), "{}: {result:?}", sample.name);
+        } else {
+            assert!(sample.name.ends_with("none"));
+            assert_eq!(result, Err((15, 0)), "{}", sample.name);
+        }
+    }
+
+    #[test]
+    fn samples_are_as_named() {
+        for sample in typical().iter().chain(&hard()).chain(&full()) {
+            as_named(sample);
+        }
+        for growth in growth() {
+            for (_, sample) in &growth.steps {
+                as_named(sample);
+            }
+        }
+    }
+
+    #[test]
+    fn typical_book_has_its_size() {
+        let (book, words) = typical_book(&mut Random::new(1));
+        assert_eq!(words.len(), 400);
+        let counts = (TWIN.check_book)(&book).expect("the book is accepted");
+        assert_eq!((counts.types, counts.entries), (20, 1000));
+    }
+
+    #[test]
+    fn hard_lines_have_504_to_512_simple_types() {
+        for sample in hard() {
+            let mut at = 0;
+            let mut simples = 0;
+            while at < sample.book.len() {
+                let length = sample.book[at] as usize;
+                if sample.book[at + 2] == 3 {
+                    simples += (length - 1 - sample.book[at + 4] as usize) / 2;
+                }
+                at += 4 + length;
+            }
+            assert!((504..=512).contains(&simples), "{}: {simples}", sample.name);
+            assert_eq!(sample.line.split(|&byte| byte == b' ').count(), 24);
+        }
+    }
+
+    #[test]
+    fn growth_doubles() {
+        for growth in growth() {
+            let sizes: Vec<usize> = growth.steps.iter().map(|(size, _)| *size).collect();
+            assert_eq!(sizes, [64, 128, 256, 512], "{}", growth.name);
+        }
+    }
+}

@@ -1,0 +1,343 @@
+//! A book: any bytes at all, accepted with its contents or refused by the first rule it breaks.
+use super::bits;
+use super::check;
+use super::order::{self, MAX_TYPES};
+
+const MAX_BYTES: usize = 65535;
+pub const MAX_ENTRIES: usize = 1024;
+const MAX_NAME: usize = 15;
+pub const MAX_WORD: usize = 31;
+const MAX_SIMPLES: usize = 12;
+const NO_TARGET: u8 = 64;
+
+/// A reader of a book's records: the book and the offset of the next record.
+struct RecordReader<'a> {
+    book: &'a [u8],
+    at: usize,
+}
+
+/// How far a book has been read: the offset of the next record, how many basic types and entries there were, and the target, or
+/// `NO_TARGET` where there was none.
+#[derive(Clone, Copy)]
+struct Progress {
+    at: usize,
+    types: usize,
+    entries: usize,
+    target: u8,
+}
+
+/// What reading all records gives: the book's counts and its target, or the number of the refusal and the value returned with it.
+pub enum Scan {
+    Accepted {
+        types: usize,
+        entries: usize,
+        target: u8,
+    },
+    Refused {
+        number: u32,
+        value: usize,
+    },
+}
+
+/// What the book check answers: the number of basic types, of entries and of pairs p ≤ q in the closed order; or the number of the
+/// refusal and the value returned with it.
+#[derive(Clone, Copy, Debug, PartialEq, Eq)]
+pub enum BookCheck {
+    Accepted {
+        types: usize,
+        entries: usize,
+        pairs: u64,
+    },
+    Refused {
+        number: u32,
+        value: usize,
+    },
+}
+
+/// The little-endian number of the two bytes from `at` on.
+fn two_bytes(bytes: &[u8], at: usize) -> usize {
+    bytes[at] as usize + 256 * bytes[at + 1] as usize
+}
+
+/// The body of the record at an offset, which is there whole.
+pub fn body_at(book: &[u8], at: usize) -> &[u8] {
+    let start = at + 4;
+    let end = start + two_bytes(book, at);
+    &book[start..end]
+}
+
+fn is_letter(byte: u8) -> bool {
+    byte.is_ascii_lowercase()
+}
+
+fn is_name_byte(byte: u8) -> bool {
+    matches!(byte, b'a'..=b'z' | b'0'..=b'9')
+}
+
+fn is_word_byte(byte: u8) -> bool {
+    matches!(byte, 33..=126)
+}
+
+/// Whether a byte holds an exponent from -8 to 8, in two's complement.
+fn is_exponent(byte: u8) -> bool {
+    matches!(byte, 0..=8 | 248..=255)
+}
+
+fn all_name_bytes(bytes: &[u8]) -> bool {
+    bytes.iter().all(|&byte| is_name_byte(byte))
+}
+
+fn all_word_bytes(bytes: &[u8]) -> bool {
+    bytes.iter().all(|&byte| is_word_byte(byte))
+}
+
+/// Whether a body is a basic type's: 1 to 15 bytes, a letter first.
+fn is_name(body: &[u8]) -> bool {
+    if body.is_empty() || MAX_NAME < body.len() {
+        return false;
+    }
+    is_letter(body[0]) && all_name_bytes(body)
+}
+
+/// Whether a body is an entry's: the word's length, the word, then pairs of a type number and an exponent.
+fn is_entry(body: &[u8]) -> bool {
+    if body.is_empty() {
+        return false;
+    }
+    let length = body[0] as usize;
+    if !(1..=MAX_WORD).contains(&length) || body.len() <= length {
+        return false;
+    }
+    if !all_word_bytes(&body[1..1 + length]) {
+        return false;
+    }
+    let rest = body.len() - 1 - length;
+    rest.is_multiple_of(2) && rest <= 2 * MAX_SIMPLES
+}
+
+/// The part of an entry's body that holds its type.
+pub fn type_part(body: &[u8]) -> &[u8] {
+    let start = 1 + body[0] as usize;
+    &body[start..]
+}
+
+/// The word of an entry's body.
+pub fn word_part(body: &[u8]) -> &[u8] {
+    let end = 1 + body[0] as usize;
+    &body[1..end]
+}
+
+/// Whether all type numbers of a type are below the number of basic types.
+fn all_declared(part: &[u8], types: usize) -> bool {
+    part.chunks_exact(2).all(|pair| (pair[0] as usize) < types)
+}
+
+/// Whether all exponents of a type are from -8 to 8.
+fn all_exponents(part: &[u8]) -> bool {
+    part.chunks_exact(2).all(|pair| is_exponent(pair[1]))
+}
+
+/// Whether a body is the name of one of the basic types whose records start at the kept offsets.
+fn name_used(book: &[u8], names: &[u16], types: usize, body: &[u8]) -> bool {
+    names[..types]
+        .iter()
+        .any(|&at| check::same(body, body_at(book, at as usize)))
+}
+
+/// The rules for a basic type: its layout, a name used before, one too many.
+fn name_fault(book: &[u8], names: &[u16], types: usize, body: &[u8]) -> u32 {
+    if !is_name(body) {
+        return 4;
+    }
+    if name_used(book, names, types, body) {
+        return 7;
+    }
+    if MAX_TYPES <= types {
+        return 9;
+    }
+    0
+}
+
+/// The rules for an order pair: its layout, and two declared type numbers.
+fn pair_fault(body: &[u8], types: usize) -> u32 {
+    if body.len() != 2 {
+        return 4;
+    }
+    if types <= body[0] as usize {
+        return 5;
+    }
+    if types <= body[1] as usize {
+        return 5;
+    }
+    0
+}
+
+/// The rules for an entry: its layout, declared type numbers, exponents from -8 to 8, one too many.
+fn entry_fault(body: &[u8], types: usize, entries: usize) -> u32 {
+    if !is_entry(body) {
+        return 4;
+    }
+    let part = type_part(body);
+    if !all_declared(part, types) {
+        return 5;
+    }
+    if !all_exponents(part) {
+        return 6;
+    }
+    if MAX_ENTRIES <= entries {
+        return 9;
+    }
+    0
+}
+
+/// The rules for a target: its layout, a declared type number, no target before.
+fn target_fault(body: &[u8], types: usize, seen: bool) -> u32 {
+    if body.len() != 1 {
+        return 4;
+    }
+    if types <= body[0] as usize {
+        return 5;
+    }
+    if seen {
+        return 8;
+    }
+    0
+}
+
+/// The rules for the record at an offset of the book: the smallest number that it is refused with, or 0.
+fn record_fault(
+    book: &[u8],
+    at: usize,
+    names: &[u16],
+    types: usize,
+    entries: usize,
+    seen: bool,
+) -> u32 {
+    if book.len() - at < 4 {
+        return 2;
+    }
+    let left = book.len() - at - 4;
+    if left < two_bytes(book, at) {
+        return 2;
+    }
+    let body = body_at(book, at);
+    match two_bytes(book, at + 2) {
+        1 => name_fault(book, names, types, body),
+        2 => pair_fault(body, types),
+        3 => entry_fault(body, types, entries),
+        4 => target_fault(body, types, seen),
+        _ => 3,
+    }
+}
+
+/// A reader at an offset of the book.
+fn reader_at(book: &[u8], at: usize) -> RecordReader<'_> {
+    RecordReader { book, at }
+}
+
+/// The smallest number that the next record is refused with, or 0.
+fn next_fault(r: RecordReader, names: &[u16], types: usize, entries: usize, seen: bool) -> u32 {
+    record_fault(r.book, r.at, names, types, entries, seen)
+}
+
+/// The same for a caller that has the book and the offset.
+fn fault_at(
+    book: &[u8],
+    at: usize,
+    names: &[u16],
+    types: usize,
+    entries: usize,
+    seen: bool,
+) -> u32 {
+    next_fault(reader_at(book, at), names, types, entries, seen)
+}
+
+/// Takes the next record in: its offset, its pair or its target is kept, or it is refused with a number.
+fn take_record(
+    book: &[u8],
+    names: &mut [u16],
+    entries: &mut [u16],
+    direct: &mut [u64],
+    p: Progress,
+) -> Result<Progress, u32> {
+    let fault = fault_at(book, p.at, names, p.types, p.entries, p.target < NO_TARGET);
+    if fault != 0 {
+        return Err(fault);
+    }
+    let body = body_at(book, p.at);
+    let mut next = p;
+    next.at = p.at + 4 + body.len();
+    match two_bytes(book, p.at + 2) {
+        1 => {
+            names[p.types] = p.at as u16;
+            next.types += 1;
+        }
+        2 => {
+            let lower = body[0] as usize;
+            direct[lower] = bits::with(direct[lower], body[1]);
+        }
+        3 => {
+            entries[p.entries] = p.at as u16;
+            next.entries += 1;
+        }
+        _ => next.target = body[0],
+    }
+    Ok(next)
+}
+
+/// Reads all records of a book. Of an accepted book the arrays hold where its basic types and entries stand, and its pairs.
+pub fn scan_book(book: &[u8], names: &mut [u16], entries: &mut [u16], direct: &mut [u64]) -> Scan {
+    if MAX_BYTES < book.len() {
+        return Scan::Refused {
+            number: 1,
+            value: 0,
+        };
+    }
+    let mut p = Progress {
+        at: 0,
+        types: 0,
+        entries: 0,
+        target: NO_TARGET,
+    };
+    while p.at < book.len() {
+        match take_record(book, names, entries, direct, p) {
+            Ok(next) => p = next,
+            Err(number) => {
+                return Scan::Refused {
+                    number,
+                    value: p.at,
+                }
+            }
+        }
+    }
+    if p.target == NO_TARGET {
+        return Scan::Refused {
+            number: 10,
+            value: book.len(),
+        };
+    }
+    Scan::Accepted {
+        types: p.types,
+        entries: p.entries,
+        target: p.target,
+    }
+}
+
+/// Checks a book alone: any bytes, of any length.
+#[inline(never)]
+pub fn check_book(book: &[u8]) -> BookCheck {
+    let mut names = [0u16; MAX_TYPES];
+    let mut entries = [0u16; MAX_ENTRIES];
+    let mut direct = [0u64; MAX_TYPES];
+    match scan_book(book, &mut names, &mut entries, &mut direct) {
+        Scan::Refused { number, value } => BookCheck::Refused { number, value },
+        Scan::Accepted { types, entries, .. } => {
+            let order = order::close(&direct, types);
+            BookCheck::Accepted {
+                types,
+                entries,
+                pairs: order::count_pairs(&order),
+            }
+        }
+    }
+}

@@ -1,0 +1,267 @@
+//! Lays a checked line out as a graph, in lent lists of nodes and slots: each word a boundary, then the simple types of its entries,
+//! and behind the last word the target.
+use super::book::{body_at, type_part, word_part};
+use super::check;
+use super::line::tally_word;
+use super::pregroup::EXPONENT_BIAS;
+
+/// How many nodes a line's graph has room for: 24 boundaries and 512 simple types, then the last boundary, the target and the end.
+pub const MAX_NODES: usize = 540;
+
+/// How far the lists are filled: the next node, the next slot, and whether the word at hand has a slot with an empty type.
+#[derive(Clone, Copy)]
+struct Place {
+    node: usize,
+    slot: usize,
+    seen: bool,
+}
+
+/// The byte of the least exponent, -8, which is held as 0.
+const LEAST: u8 = 248;
+
+/// An exponent of the book, a byte in two's complement, as it is held: raised, so that it is never negative.
+fn raise(exponent: u8) -> u8 {
+    if exponent < LEAST {
+        exponent + EXPONENT_BIAS
+    } else {
+        exponent - LEAST
+    }
+}
+
+/// Lays the simple types of an entry from `node` on, from the last to the first, each leading to the one behind it and the last to the
+/// boundary. The node where the type begins is returned: for an empty one the boundary.
+fn lay_type(
+    part: &[u8],
+    node: usize,
+    boundary: usize,
+    bases: &mut [u8],
+    exponents: &mut [u8],
+    nexts: &mut [u16],
+) -> usize {
+    let mut first = boundary;
+    for (i, pair) in part.chunks_exact(2).enumerate().rev() {
+        let at = node + i;
+        bases[at] = pair[0];
+        exponents[at] = raise(pair[1]);
+        nexts[at] = first as u16;
+        first = at;
+    }
+    first
+}
+
+/// Gives an entry a slot and lays its type, but for a second empty type of a word.
+fn lay_slot(
+    part: &[u8],
+    number: usize,
+    boundary: usize,
+    p: Place,
+    bases: &mut [u8],
+    exponents: &mut [u8],
+    nexts: &mut [u16],
+    enters: &mut [u16],
+    numbers: &mut [u16],
+) -> Place {
+    let empty = part.is_empty();
+    if empty && p.seen {
+        return p;
+    }
+    let first = lay_type(part, p.node, boundary, bases, exponents, nexts);
+    enters[p.slot] = first as u16;
+    numbers[p.slot] = number as u16;
+    Place {
+        node: p.node + part.len() / 2,
+        slot: p.slot + 1,
+        seen: empty || p.seen,
+    }
+}
+
+/// Lays the entry whose record stands at an offset of the book, where it is the word's.
+fn lay_entry(
+    book: &[u8],
+    at: usize,
+    number: usize,
+    word: &[u8],
+    boundary: usize,
+    p: Place,
+    bases: &mut [u8],
+    exponents: &mut [u8],
+    nexts: &mut [u16],
+    enters: &mut [u16],
+    numbers: &mut [u16],
+) -> Place {
+    let body = body_at(book, at);
+    if !check::same(word_part(body), word) {
+        return p;
+    }
+    lay_slot(
+        type_part(body),
+        number,
+        boundary,
+        p,
+        bases,
+        exponents,
+        nexts,
+        enters,
+        numbers,
+    )
+}
+
+/// Lays all entries of a word, in the book's order, before the boundary behind the word.
+fn lay_entries(
+    book: &[u8],
+    offsets: &[u16],
+    count: usize,
+    word: &[u8],
+    boundary: usize,
+    p: Place,
+    bases: &mut [u8],
+    exponents: &mut [u8],
+    nexts: &mut [u16],
+    enters: &mut [u16],
+    numbers: &mut [u16],
+) -> Place {
+    let mut place = p;
+    for (i, &at) in offsets[..count].iter().enumerate() {
+        place = lay_entry(
+            book,
+            at as usize,
+            i,
+            word,
+            boundary,
+            place,
+            bases,
+            exponents,
+            nexts,
+            enters,
+            numbers,
+        );
+    }
+    place
+}
+
+/// Lays a word at the boundary of a place: the range of its slots, and its entries. The place behind it is at the next boundary, which
+/// is known beforehand from the number of simple types.
+fn lay_word(
+    book: &[u8],
+    offsets: &[u16],
+    count: usize,
+    word: &[u8],
+    p: Place,
+    bases: &mut [u8],
+    exponents: &mut [u8],
+    nexts: &mut [u16],
+    froms: &mut [u16],
+    tos: &mut [u16],
+    enters: &mut [u16],
+    numbers: &mut [u16],
+) -> Place {
+    let tally = tally_word(book, offsets, count, word);
+    let boundary = p.node + 1 + tally.simples;
+    let first = Place {
+        node: p.node + 1,
+        slot: p.slot,
+        seen: false,
+    };
+    let last = lay_entries(
+        book, offsets, count, word, boundary, first, bases, exponents, nexts, enters, numbers,
+    );
+    froms[p.node] = p.slot as u16;
+    tos[p.node] = last.slot as u16;
+    Place {
+        node: boundary,
+        slot: last.slot,
+        seen: false,
+    }
+}
+
+/// Lays all words of a line, each from its boundary to the next.
+fn lay_words(
+    book: &[u8],
+    offsets: &[u16],
+    count: usize,
+    line: &[u8],
+    starts: &[usize],
+    ends: &[usize],
+    words: usize,
+    p: Place,
+    bases: &mut [u8],
+    exponents: &mut [u8],
+    nexts: &mut [u16],
+    froms: &mut [u16],
+    tos: &mut [u16],
+    enters: &mut [u16],
+    numbers: &mut [u16],
+) -> Place {
+    let mut place = p;
+    for (&start, &end) in starts[..words].iter().zip(&ends[..words]) {
+        place = lay_word(
+            book,
+            offsets,
+            count,
+            &line[start..end],
+            place,
+            bases,
+            exponents,
+            nexts,
+            froms,
+            tos,
+            enters,
+            numbers,
+        );
+    }
+    place
+}
+
+/// Lays the target behind the last word: a boundary with one slot, the target's right adjoint, and the end. The number of nodes is
+/// returned.
+fn lay_goal(
+    target: u8,
+    p: Place,
+    bases: &mut [u8],
+    exponents: &mut [u8],
+    nexts: &mut [u16],
+    froms: &mut [u16],
+    tos: &mut [u16],
+    enters: &mut [u16],
+) -> usize {
+    let goal = p.node + 1;
+    let end = p.node + 2;
+    froms[p.node] = p.slot as u16;
+    tos[p.node] = (p.slot + 1) as u16;
+    enters[p.slot] = goal as u16;
+    bases[goal] = target;
+    exponents[goal] = raise(1);
+    nexts[goal] = end as u16;
+    p.node + 3
+}
+
+/// Lays a checked line out in empty lists and returns the number of nodes: a graph that goes up, from node 0 that of the line's words
+/// and the target, to its last node.
+pub fn lay_out(
+    book: &[u8],
+    offsets: &[u16],
+    count: usize,
+    line: &[u8],
+    starts: &[usize],
+    ends: &[usize],
+    words: usize,
+    target: u8,
+    bases: &mut [u8],
+    exponents: &mut [u8],
+    nexts: &mut [u16],
+    froms: &mut [u16],
+    tos: &mut [u16],
+    enters: &mut [u16],
+    numbers: &mut [u16],
+) -> usize {
+    let first = Place {
+        node: 0,
+        slot: 0,
+        seen: false,
+    };
+    let last = lay_words(
+        book, offsets, count, line, starts, ends, words, first, bases, exponents, nexts, froms,
+        tos, enters, numbers,
+    );
+    lay_goal(target, last, bases, exponents, nexts, froms, tos, enters)
+}

@@ -1,0 +1,43 @@
+//! The twin: the reader's algorithm in plain Rust, with the same functions, layouts and loops, and no contracts.
+#![allow(clippy::too_many_arguments)]
+
+mod answer;
+mod bits;
+mod book;
+mod chart;
+mod check;
+mod choice;
+mod lattice;
+mod line;
+mod order;
+mod pregroup;
+mod reader;
+mod rows;
+mod spans;
+
+use crate::readers::{Counts, Refusal};
+use book::BookCheck;
+
+/// Checks a book alone.
+pub fn check_book(book: &[u8]) -> Result<Counts, Refusal> {
+    match book::check_book(book) {
+        BookCheck::Accepted {
+            types,
+            entries,
+            pairs,
+        } => Ok(Counts {
+            types: types as u64,
+            entries: entries as u64,
+            pairs,
+        }),
+        BookCheck::Refused { number, value } => Err((number, value as u64)),
+    }
+}
+
+/// Reads a line against a book.
+pub fn read_line(book: &[u8], line: &[u8], answer: &mut [u16]) -> Result<u64, Refusal> {
+    match reader::read_line(book, line, answer) {
+        Ok(values) => Ok(values as u64),
+        Err((number, value)) => Err((number, value as u64)),
+    }
+}

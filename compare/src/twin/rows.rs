@@ -1,0 +1,74 @@
+//! Rows of nodes or places: sets of numbers below 576 in nine words of 64 bits. A row under construction is a `Row`; finished ones
+//! stand one behind another in a flat slice, row u from word 9 u on.
+use super::bits;
+
+/// How many words a row has, and how many members it has room for.
+pub const ROW_WORDS: usize = 9;
+pub const ROW_BITS: usize = 576;
+
+/// One row.
+#[derive(Clone, Copy)]
+pub struct Row {
+    pub words: [u64; ROW_WORDS],
+}
+
+/// The words of row u.
+#[inline]
+pub fn words_of(rows: &[u64], u: usize) -> &[u64] {
+    let at = ROW_WORDS * u;
+    &rows[at..at + ROW_WORDS]
+}
+
+/// The row without members.
+#[inline]
+pub fn empty() -> Row {
+    Row {
+        words: [0; ROW_WORDS],
+    }
+}
+
+/// The row with v put in.
+#[inline]
+pub fn put(mut row: Row, v: usize) -> Row {
+    row.words[v / 64] = bits::with(row.words[v / 64], (v % 64) as u8);
+    row
+}
+
+/// The members of the row and those of row u.
+#[inline]
+pub fn unite(mut row: Row, rows: &[u64], u: usize) -> Row {
+    for (word, &other) in row.words.iter_mut().zip(words_of(rows, u)) {
+        *word = bits::union(*word, other);
+    }
+    row
+}
+
+/// Puts the row in the place of row u.
+#[inline]
+pub fn store(rows: &mut [u64], u: usize, row: Row) {
+    let at = ROW_WORDS * u;
+    rows[at..at + ROW_WORDS].copy_from_slice(&row.words);
+}
+
+/// Whether v is a member of row u.
+#[inline]
+pub fn member(rows: &[u64], u: usize, v: usize) -> bool {
+    if ROW_BITS <= v {
+        return false;
+    }
+    bits::has(rows[ROW_WORDS * u + v / 64], (v % 64) as u8)
+}
+
+/// The smallest member of row u that is not below `from`, or `ROW_BITS` where there is none.
+#[inline]
+pub fn next_member(rows: &[u64], u: usize, from: usize) -> usize {
+    let mut at = from;
+    while at < ROW_BITS {
+        let word = bits::above(rows[ROW_WORDS * u + at / 64], (at % 64) as u8);
+        if word != 0 {
+            return at + bits::lowest(word) as usize;
+        }
+        at = (at / 64 + 1) * 64;
+    }
+    ROW_BITS
+}
