@@ -1,6 +1,6 @@
 // How an answer's values are written into the lent buffer of 16-bit numbers: first the number of words and the numbers of their entries,
 // then the number of partners. The partners themselves are written where they are found.
-ghost use Prim.Native.Nat.{_+_, _≤_, _<_};
+ghost use Prim.Native.Nat.{_+_, _<_};
 ghost use mathlib.Core.Path.{_≡_};
 ghost use mathlib.Core.List.{_∷_, _++_};
 ghost use lib.ListN.{length, drop, set};

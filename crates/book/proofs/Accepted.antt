@@ -1,7 +1,7 @@
 -- What holds of every accepted book: its pairs and its target name declared basic types only, and no entry has more than 12 simple types.
-use Prim.Native.Nat.{ℕ, zero, suc, _+_, _*_, _≤_, _<_}
+use Prim.Native.Nat.{ℕ, zero, suc, _*_, _≤_, _<_}
 use native.Mathlib.Omega.{arith}
-use mathlib.Core.Path.{_≡_, refl, sym, ap, subst, _∙_}
+use mathlib.Core.Path.{_≡_, refl, ap, subst, _∙_}
 use mathlib.Core.Logic.{⊎-elim}
 use mathlib.Core.Bool.{Bool, true, false, cond}
 use mathlib.Core.List.{List, [], _∷_, _++_, List·Memᴰ, List·Memᴰ·not-nil, List·Memᴰ·append-cases, List·Memᴰ·eq-of-singleton}
@@ -10,7 +10,7 @@ use lib.Dec.{ltb, eqb}
 use lib.ListN.{length, getD, length-append}
 use borrow.Author.Tests.{eqb-true}
 use Rattle.pregroup.specs.Types.{Basic}
-use Rattle.order.specs.Closed.{Pair, Listed, DeclaredPairs}
+use Rattle.order.specs.Closed.{Pair, DeclaredPairs}
 use Rattle.book.specs.Format.{Bytes, Book, Entry, Draft, Parsed, accepted, refused, Kind, basic-type, order-pair, entry, target, unlisted, maxBytes, maxSimples, nothingYet, isSome, kindAt, bodyAt, nextAt, bodyFault, recordFault, add, ended, recordsFrom, parse, simplesOf, typePart, isEntry, entryOf}
 use Rattle.book.proofs.NoFault.{no-fault-body, pair-no-fault, entry-no-fault, target-no-fault}
 use Rattle.book.proofs.Layouts.{entry-shape}

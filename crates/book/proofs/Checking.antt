@@ -1,19 +1,17 @@
 -- From what is kept of an accepted book to the three numbers of the book check.
-use Prim.Native.Nat.{ℕ, zero, suc, _≤_, _<_}
-use mathlib.Core.Path.{_≡_, refl, sym, ap, _∙_}
+use Prim.Native.Nat.{ℕ, zero, suc}
+use mathlib.Core.Path.{_≡_, refl, ap, _∙_}
 use mathlib.Core.List.{List}
 use lib.ListN.{length, getD, replicate, length-map}
-use Rattle.bits.specs.Bits.{Has}
 use Rattle.bits.proofs.BitLaws.{empty-has-none}
 use Rattle.pregroup.specs.Held.{InRows}
-use Rattle.order.specs.Closed.{Closed, Listed, DeclaredPairs, closedCount}
+use Rattle.order.specs.Closed.{Closed, Listed, DeclaredPairs}
 use Rattle.order.specs.Rows.{Hold, DeclaredRows, pairsIn}
 use Rattle.order.proofs.ClosureLaws.{hold-closed}
 use Rattle.order.proofs.Counting.{pairs-in-closed}
-use Rattle.book.specs.Format.{Bytes, Book, Parsed, accepted, refused, parse, entryOf}
+use Rattle.book.specs.Format.{Bytes, Book, refused, parse, entryOf}
 use Rattle.book.specs.Kept.{bodiesAt, Store, NoPairs, Opened}
-use Rattle.book.specs.Check.{answerFor, bookCheck}
-use Rattle.book.specs.declared.BookCheck.{BookCheck}
+use Rattle.book.specs.Check.{bookCheck}
 use Rattle.book.specs.declared.BookCheck.the-variants.{Accepted, Refused}
 use Rattle.book.proofs.Names.{bodies-length}
 

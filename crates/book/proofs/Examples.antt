@@ -2,18 +2,17 @@
 -- break several rules at once.
 use Prim.Native.Nat.{ℕ, zero, suc, _+_, _/_, _%_}
 use mathlib.Core.Path.{_≡_, refl}
-use mathlib.Core.Bool.{Bool}
 use mathlib.Core.List.{List, [], _∷_, _++_, map}
-use lib.ListN.{length, replicate}
+use lib.ListN.{replicate}
 use lib.IntN.{pos, negsuc}
 use Rattle.bits.specs.Totals.{total}
 use Rattle.pregroup.specs.Types.{PregroupType, _⁽_⁾, plain}
 use Rattle.order.specs.Closed.{below, closedCount}
-use Rattle.book.specs.Format.{Bytes, Book, Entry, Parsed, accepted, refused, every, twoBytes, kindOf, letter, nameByte, isName, wordByte, exponentOf, simplesOf, isEntry, cutShort, notListed, badLayout, numbersIn, undeclared, exponentsIn, exponentListed, exponentOutside, sameBytes, nameUsed, secondTarget, tooMany, firstFault, bodyFault, recordFault, add, ended, recordsFrom, parse}
+use Rattle.book.specs.Format.{Bytes, Entry, accepted, every, twoBytes, kindOf, letter, nameByte, isName, wordByte, exponentOf, simplesOf, isEntry, cutShort, notListed, badLayout, numbersIn, undeclared, exponentsIn, exponentListed, exponentOutside, sameBytes, nameUsed, secondTarget, tooMany, firstFault, bodyFault, recordFault, add, ended, recordsFrom, parse}
 use Rattle.book.specs.Check.{bookCheck}
 use Rattle.book.specs.declared.BookCheck.{BookCheck}
 use Rattle.book.specs.declared.BookCheck.the-variants.{Accepted, Refused}
-use Rattle.book.proofs.PaperBooks.{recordOf, typeRecord, pairRecord, entryRecord, targetRecord, join, fetch, bed4, ward7, urgently, admit, site, go, please, firstBook, secondBook}
+use Rattle.book.proofs.PaperBooks.{recordOf, typeRecord, pairRecord, entryRecord, targetRecord, fetch, bed4, ward7, urgently, admit, site, go, please, firstBook, secondBook}
 
 abbrev entry : Bytes → PregroupType → Entry
 entry word type = record { word = word; type = type }

@@ -2,23 +2,22 @@
 use Prim.Native.Nat.{ℕ, _+_, _≤_, _<_}
 use native.Mathlib.Numerals.{add-one}
 use native.Mathlib.Omega.{arith}
-use native.Mathlib.Decide.{ℕ-discrete, decLt}
-use mathlib.Core.Path.{_≡_, refl, sym, ap, ap₂, subst, _∙_}
+use native.Mathlib.Decide.{ℕ-discrete}
+use mathlib.Core.Path.{_≡_, refl, sym, ap, ap₂, _∙_}
 use mathlib.Core.Logic.{_↔_, _⊎_, inl, inr, ⊎-elim}
 use mathlib.Core.Bool.{Bool, true, false, cond}
 use mathlib.Core.List.{List, [], _∷_, _++_, map, map-append, List·Memᴰ, List·Memᴰ·append-cases, Memᴰ·append-left, Memᴰ·append-right, List·Memᴰ·eq-of-singleton, List·Memᴰ·head}
-use mathlib.Core.Option.{Option, some, none}
+use mathlib.Core.Option.{some, none}
 use lib.Dec.{ltb}
 use lib.ListN.{length, getD, take, set, length-map, length-set}
 use lib.Seq.{take-suc-set, getD-set-same, getD-set-other}
 use borrow.Author.Tests.{lt-ltb, ltb-true}
 use Rattle.bits.specs.Bits.{Has, Members}
-use Rattle.pregroup.specs.Types.{Basic}
 use Rattle.pregroup.specs.Held.{InRows}
 use Rattle.order.specs.Closed.{Pair, Within, Listed}
 use Rattle.order.specs.Rows.{maxTypes, Hold}
-use Rattle.book.specs.Format.{Bytes, Entry, Draft, Kind, basic-type, order-pair, entry, target, unlisted, twoBytes, bodyAt, nextAt, kindAt, bodyFault, recordFault, isSome, entryOf, add, maxEntries, every, declaredAmong}
-use Rattle.book.specs.Kept.{bodiesAt, Whole, Formed, AllFormed, targetKept, Store, store, Roomy, Sound, Keeps, nextFault, nextDraft, Taking}
+use Rattle.book.specs.Format.{Bytes, Entry, Draft, Kind, basic-type, order-pair, entry, target, twoBytes, bodyAt, nextAt, kindAt, bodyFault, recordFault, isSome, entryOf, add, maxEntries, every, declaredAmong}
+use Rattle.book.specs.Kept.{bodiesAt, Whole, Formed, AllFormed, Store, store, Sound, Keeps, nextFault, Taking}
 use Rattle.book.specs.declared.Progress.{Progress}
 use Rattle.book.proofs.Bools.{both}
 use Rattle.book.proofs.Names.{bodies-length}

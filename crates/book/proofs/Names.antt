@@ -2,17 +2,15 @@
 use Prim.Native.Nat.{ℕ, _+_, _≤_, _<_}
 use native.Mathlib.Omega.{arith}
 use mathlib.Core.Path.{_≡_, refl, sym, ap, ap₂, _∙_}
-use mathlib.Core.Logic.{_↔_}
-use mathlib.Core.Bool.{Bool, true, false, not, _&&_, false≢true}
-use mathlib.Core.List.{List, [], _∷_, map}
-use lib.Dec.{eqb}
+use mathlib.Core.Bool.{Bool, true, false, not, false≢true}
+use mathlib.Core.List.{List, [], _∷_}
 use lib.ListN.{length, getD, take, drop, length-map, List·getD-map}
 use lib.Seq.{length-take-le, getD-take}
 use borrow.Author.Tests.{eqb-true, eq-eqb}
 use Rattle.book.specs.Format.{Bytes, every, sameBytes, bodyAt}
-use Rattle.book.specs.Kept.{bodiesAt, Whole}
+use Rattle.book.specs.Kept.{bodiesAt}
 use Rattle.book.proofs.Bools.{both}
-use Rattle.book.proofs.Every.{every-stop, every-pass, every-end}
+use Rattle.book.proofs.Every.{every-stop, every-pass}
 
 pub same-equal : (xs ys : Bytes) → sameBytes xs ys ≡ true → xs ≡ ys
 unfolding sameBytes

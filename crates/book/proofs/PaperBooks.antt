@@ -1,6 +1,6 @@
 -- Document 01's "A book to try", byte by byte, for closed examples: how a record is laid out, the two books, and words as bytes.
 use Prim.Native.Nat.{ℕ, _/_, _%_}
-use mathlib.Core.List.{List, [], _∷_, _++_, map}
+use mathlib.Core.List.{List, [], _∷_, _++_}
 use lib.ListN.{length}
 use Rattle.book.specs.Format.{Bytes}
 

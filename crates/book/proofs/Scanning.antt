@@ -2,16 +2,14 @@
 use Prim.Native.Nat.{ℕ, zero, suc, _+_, _≤_, _<_}
 use native.Mathlib.Omega.{arith}
 use mathlib.Core.Path.{_≡_, refl, sym, ap, _∙_}
-use mathlib.Core.Logic.{_↔_, inl, inr, ⊎-elim}
-use mathlib.Core.Bool.{Bool, true, false, cond}
-use mathlib.Core.List.{List, [], _∷_, List·Memᴰ·not-nil}
-use mathlib.Core.Option.{Option, some, none}
-use lib.Dec.{ltb, eqb}
+use mathlib.Core.Logic.{inl, ⊎-elim}
+use mathlib.Core.Bool.{Bool, cond}
+use mathlib.Core.List.{List, List·Memᴰ·not-nil}
+use mathlib.Core.Option.{some, none}
 use lib.ListN.{length}
-use borrow.Author.Tests.{lt-ltb, le-ltb, eq-eqb, ne-eqb}
-use Rattle.pregroup.specs.Types.{Basic}
+use borrow.Author.Tests.{lt-ltb, le-ltb, ne-eqb}
 use Rattle.order.specs.Rows.{maxTypes}
-use Rattle.book.specs.Format.{Bytes, Book, Draft, nothingYet, Parsed, accepted, refused, parse, recordsFrom, ended, maxBytes, nextAt}
+use Rattle.book.specs.Format.{Bytes, Book, Draft, nothingYet, refused, parse, recordsFrom, ended, maxBytes, nextAt}
 use Rattle.book.specs.Kept.{Whole, Store, Roomy, NoPairs, Sound, Keeps, targetKept, nextFault, nextDraft, Taking, Refusing, Opened}
 use Rattle.book.specs.declared.Progress.{Progress}
 

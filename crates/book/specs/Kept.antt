@@ -1,10 +1,10 @@
 -- What the code keeps of a book while it reads it: where each basic type's and each entry's record starts, the order pairs as rows, and
 -- how far it has come.
-use Prim.Native.Nat.{ℕ, _+_, _≤_, _<_}
+use Prim.Native.Nat.{ℕ, _≤_, _<_}
 use mathlib.Core.Path.{_≡_}
 use mathlib.Core.Logic.{_⊎_}
-use mathlib.Core.Bool.{Bool, true, false, cond}
-use mathlib.Core.List.{List, [], _∷_, map}
+use mathlib.Core.Bool.{true, cond}
+use mathlib.Core.List.{List, map}
 use mathlib.Core.Option.{Option, none, some}
 use lib.Dec.{ltb}
 use lib.ListN.{length, getD, take}
@@ -12,7 +12,7 @@ use Rattle.pregroup.specs.Types.{Basic}
 use Rattle.pregroup.specs.Held.{InRows}
 use Rattle.order.specs.Closed.{Within, Listed}
 use Rattle.order.specs.Rows.{maxTypes, Hold}
-use Rattle.book.specs.Format.{Bytes, Book, Draft, Parsed, accepted, refused, parse, bodyAt, nextAt, every, declaredAmong, bases, exponents, exponentListed, simplesOf, typePart, isEntry, entryOf, maxBytes, maxEntries, kindAt, add, recordFault, isSome}
+use Rattle.book.specs.Format.{Bytes, Book, Draft, accepted, refused, parse, bodyAt, nextAt, every, declaredAmong, bases, exponents, exponentListed, simplesOf, typePart, isEntry, entryOf, maxBytes, maxEntries, kindAt, add, recordFault, isSome}
 use Rattle.book.specs.declared.Progress.{Progress}
 use Rattle.book.specs.declared.Taken.{Taken}
 use Rattle.book.specs.declared.Taken.the-variants.{Next, Bad}

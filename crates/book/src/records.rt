@@ -8,12 +8,7 @@ use crate::layout::wide;
 use crate::record_reader::fault_at;
 use crate::rules::MAX_ENTRIES;
 use order::MAX_TYPES;
-ghost use mathlib.Core.Path.{_≡_};
-ghost use Prim.Native.Nat.{ℕ, _+_, _≤_, _<_};
-ghost use lib.ListN.{length};
-ghost use Rattle.pregroup.specs.Held.{InRows};
-ghost use Rattle.order.specs.Rows.{maxTypes};
-ghost use Rattle.book.specs.Format.{maxEntries};
+ghost use Prim.Native.Nat.{_+_, _<_};
 ghost use Rattle.book.specs.Kept.{store, Roomy, NoPairs, Sound, TakenSays, ScanSays};
 
 pub const MAX_BYTES: usize = 65535;

@@ -1,14 +1,14 @@
 -- A line's words laid out as a graph: each word's entries as the slots of a boundary, in the book's order, and the target's right adjoint as a
 -- last word of one entry. A second empty entry of a word fares as the first did, so only the first one has a slot.
-use Prim.Native.Nat.{ℕ, _+_, _≤_, _<_}
+use Prim.Native.Nat.{ℕ, _+_}
 use mathlib.Core.Path.{_≡_}
 use mathlib.Core.Bool.{Bool, true, false}
 use mathlib.Core.List.{List, [], _∷_}
 use lib.IntN.{pos}
 use lib.ListN.{getD}
-use Rattle.pregroup.specs.Types.{Basic, Simple, PregroupType, _⁽_⁾}
+use Rattle.pregroup.specs.Types.{Basic, PregroupType, _⁽_⁾}
 use Rattle.linking.specs.Reading.{NumberedEntry, Words}
-use Rattle.chart.specs.Graph.{Graph, EntersBy}
+use Rattle.chart.specs.Graph.{Graph}
 use Rattle.chart.specs.Completion.{Boundary, Entry}
 
 abbrev pub hasNone : PregroupType → Bool

@@ -1,15 +1,14 @@
 -- The look-up, entry by entry: what the rest of the entries gives for a word, and the sums over it.
-use Prim.Native.Nat.{ℕ, zero, suc, _+_, _*_, _/_, _%_, _≤_, _<_}
+use Prim.Native.Nat.{ℕ, suc, _+_, _*_, _/_, _%_, _≤_, _<_}
 use native.Mathlib.Numerals.{add-one}
 use native.Mathlib.Omega.{arith}
-use mathlib.Core.Path.{_≡_, refl, sym, ap, _∙_}
+use mathlib.Core.Path.{_≡_, refl, ap, _∙_}
 use mathlib.Core.Bool.{Bool, true, false, cond}
-use mathlib.Core.List.{List, [], _∷_, map}
-use lib.ListN.{length, getD, take, drop, length-map, List·getD-map, drop-of-length-le}
+use mathlib.Core.List.{List, [], _∷_}
+use lib.ListN.{length, getD, drop, length-map, List·getD-map, drop-of-length-le}
 use lib.Seq.{drop-cons}
-use Rattle.pregroup.specs.Types.{PregroupType}
 use Rattle.linking.specs.Reading.{NumberedEntry}
-use Rattle.book.specs.Format.{Bytes, Entry, bodyAt, entryOf, sameBytes, wordOf, typePart, simplesOf, isEntry, maxSimples}
+use Rattle.book.specs.Format.{Bytes, Entry, bodyAt, entryOf, sameBytes, typePart, simplesOf}
 use Rattle.book.specs.Kept.{bodiesAt}
 use Rattle.book.proofs.Layouts.{entry-shape}
 use Rattle.book.proofs.Names.{bodies-length, bodies-at}

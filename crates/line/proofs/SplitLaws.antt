@@ -4,17 +4,15 @@ use native.Mathlib.Numerals.{add-one}
 use native.Mathlib.Omega.{arith}
 use native.Mathlib.Decide.{ℕ-discrete}
 use mathlib.Core.Path.{_≡_, refl, sym, ap, ap₂, _∙_}
-use mathlib.Core.Bool.{Bool, true, false, cond, _||_}
 use mathlib.Core.List.{List, [], _∷_, _++_, append-nil, append-assoc}
-use mathlib.Core.Option.{Option, none, some}
-use lib.Dec.{ltb, leb}
-use lib.ListN.{length, getD, take, drop, set, length-set, length-drop}
+use mathlib.Core.Option.{none}
+use lib.ListN.{length, getD, drop, set, length-set, length-drop}
 use lib.Seq.{getD-set-same, getD-set-other, length-take-le}
 use borrow.Author.Tests.{lt-ltb, le-ltb, le-leb, lt-leb}
 use Rattle.book.specs.Format.{Bytes, maxWord}
-use Rattle.line.specs.Words.{Word, wordsFrom, wordsOf}
+use Rattle.line.specs.Words.{Word, wordsOf}
 use Rattle.line.specs.LineFaults.{maxWords, byteFault, wordFault}
-use Rattle.line.specs.Split.{wordAt, wordsKept, Skipped, Spelt, Lying, SplitInto, Stopped, at-byte, at-word}
+use Rattle.line.specs.Split.{wordAt, wordsKept, Skipped, Spelt, Lying, SplitInto, Stopped, at-word}
 use Rattle.line.proofs.WordLaws.{wordsHere, words-end}
 
 -- What stands from a place on does not matter to the words before it.

@@ -1,7 +1,7 @@
 -- Document 01, "When the screen says no", causes 11 to 14: each number is tried over the whole line before the next, and the earliest place
 -- is returned. Words that pass are given by their entries, in the book's order.
-use Prim.Native.Nat.{ℕ, suc, _+_}
-use mathlib.Core.Bool.{Bool, true, false, cond, not, _||_}
+use Prim.Native.Nat.{ℕ, _+_}
+use mathlib.Core.Bool.{Bool, true, false, cond, _||_}
 use mathlib.Core.List.{List, [], _∷_, map}
 use mathlib.Core.Option.{Option, none, some}
 use lib.Dec.{leb, ltb}

@@ -3,12 +3,11 @@ use Prim.Native.Nat.{ℕ, _+_, _/_, _<_, _≤_}
 use mathlib.Core.Path.{_≡_}
 use mathlib.Core.Bool.{true, false}
 use mathlib.Core.List.{List, map}
-use mathlib.Core.Option.{Option, none, some}
+use mathlib.Core.Option.{none, some}
 use lib.ListN.{length, getD}
-use Rattle.linking.specs.Reading.{NumberedEntry}
 use Rattle.book.specs.Format.{Bytes, Book, Entry, bodyAt, nextAt, entryOf, isEntry, wordOf, typePart}
 use Rattle.book.specs.Kept.{bodiesAt, Whole}
-use Rattle.line.specs.LineFaults.{sameWord, entriesFrom, simplesIn, maxSimples, entriesOfLine, entryFault, simplesOfWords, LineCheck, passed, stopped, lineCheck}
+use Rattle.line.specs.LineFaults.{sameWord, entriesFrom, simplesIn, maxSimples, entriesOfLine, entryFault, simplesOfWords, passed, stopped, lineCheck}
 use Rattle.line.specs.Words.{wordsOf}
 use Rattle.line.specs.Split.{SplitInto}
 use Rattle.line.specs.declared.Tally.{Tally}

@@ -1,6 +1,6 @@
 -- Document 01, "The book's bytes", on lines: words parted by one or more spaces (byte 32); spaces at the line's ends count for nothing.
 use Prim.Native.Nat.{ℕ, _+_}
-use mathlib.Core.Bool.{Bool, true, false, cond}
+use mathlib.Core.Bool.{Bool, cond}
 use mathlib.Core.List.{List, [], _∷_}
 use lib.Dec.{eqb}
 use Rattle.book.specs.Format.{Bytes}

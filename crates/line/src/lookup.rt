@@ -8,7 +8,7 @@ use book::layout::type_part;
 use book::layout::word_part;
 use book::rules::offset;
 ghost use mathlib.Core.Path.{_≡_};
-ghost use Prim.Native.Nat.{ℕ, _≤_, _<_};
+ghost use Prim.Native.Nat.{_≤_, _<_};
 ghost use lib.ListN.{length};
 ghost use Rattle.book.specs.Format.{Book};
 ghost use Rattle.line.specs.LineFaults.{maxWords};

@@ -1,17 +1,11 @@
 -- `book::check_book` meets its contract: a refusal is passed on, and of an accepted book the closed order is counted.
 use borrow.Author.Needs.{needs}
 use mathlib.Core.Path.{ap, _∙_}
-use Prim.Native.Nat.{ℕ}
 use native.Mathlib.Omega.{arith}
 use Rattle.book.specs.declared.BookCheck.the-variants.{Accepted}
 use Rattle.book.proofs.Checking.{no-pairs, opened-rows, check-accepted, check-refused}
 use Rattle.book.proofs.check_book.Statement.{statement}
 use Rattle.book.proofs.check_book.Tie as tie
-use Rattle.book.proofs.check_book.Reads as reads
-use Rattle.book.proofs.check_book.Lts as lts
-use Rattle.book.proofs.records.scan_book.Reads as scan-book-reads
-use Rattle.order.proofs.close.Reads as close-reads
-use Rattle.order.proofs.count_pairs.Reads as count-pairs-reads
 
 slice-aggregate-scan-book : tie.Need-slice-aggregate-scan-book
 slice-aggregate-scan-book c = search needs

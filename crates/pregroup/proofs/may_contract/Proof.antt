@@ -5,9 +5,6 @@ use Rattle.pregroup.specs.Held.{InRows}
 use Rattle.pregroup.proofs.HeldLaws.{held-apart, held-even, held-odd, false-iff}
 use Rattle.pregroup.proofs.may_contract.Statement.{statement}
 use Rattle.pregroup.proofs.may_contract.Tie as tie
-use Rattle.pregroup.proofs.may_contract.Reads as reads
-use Rattle.pregroup.proofs.may_contract.Lts as lts
-use Rattle.pregroup.proofs.stands_below.Reads as stands-below-reads
 
 add-if1 : tie.Need-add-if1
 add-if1 c = search needs

@@ -5,10 +5,6 @@ use Rattle.book.proofs.Checking.{zeros}
 use Rattle.reader.proofs.OpeningLaws.{line-drawable, line-drawn, gives-outcome}
 use Rattle.reader.proofs.read_found.Statement.{statement}
 use Rattle.reader.proofs.read_found.Tie as tie
-use Rattle.reader.proofs.read_found.Reads as reads
-use Rattle.reader.proofs.read_found.Lts as lts
-use Rattle.lattice.proofs.layout.lay_out.Reads as lay-out-reads
-use Rattle.reader.proofs.graph.read_graph.Reads as read-graph-reads
 
 slice-aggregate-lay-out : tie.Need-slice-aggregate-lay-out
 slice-aggregate-lay-out c = search needs

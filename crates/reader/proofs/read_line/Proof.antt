@@ -4,11 +4,6 @@ use Rattle.book.proofs.Checking.{no-pairs, opened-rows}
 use Rattle.reader.proofs.OpeningLaws.{is-open, gives-book-refused, gives-promised}
 use Rattle.reader.proofs.read_line.Statement.{statement}
 use Rattle.reader.proofs.read_line.Tie as tie
-use Rattle.reader.proofs.read_line.Reads as reads
-use Rattle.reader.proofs.read_line.Lts as lts
-use Rattle.book.proofs.records.scan_book.Reads as scan-book-reads
-use Rattle.order.proofs.close.Reads as close-reads
-use Rattle.reader.proofs.read_words.Reads as read-words-reads
 
 slice-aggregate-scan-book : tie.Need-slice-aggregate-scan-book
 slice-aggregate-scan-book c = search needs

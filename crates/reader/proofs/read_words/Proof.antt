@@ -3,10 +3,6 @@ use native.Mathlib.Omega.{arith}
 use Rattle.reader.proofs.OpeningLaws.{gives-line-refused}
 use Rattle.reader.proofs.read_words.Statement.{statement}
 use Rattle.reader.proofs.read_words.Tie as tie
-use Rattle.reader.proofs.read_words.Reads as reads
-use Rattle.reader.proofs.read_words.Lts as lts
-use Rattle.line.proofs.lookup.check_line.Reads as check-line-reads
-use Rattle.reader.proofs.read_found.Reads as read-found-reads
 
 slice-aggregate-check-line : tie.Need-slice-aggregate-check-line
 slice-aggregate-check-line c = search needs

@@ -4,9 +4,6 @@ use mathlib.Core.Path.{sym, _∙_}
 use Rattle.reader_c.proofs.Numbers.{refused-checks, accepted-checks}
 use Rattle.reader_c.proofs.vurzhelik_check_book.Statement.{statement}
 use Rattle.reader_c.proofs.vurzhelik_check_book.Tie as tie
-use Rattle.reader_c.proofs.vurzhelik_check_book.Reads as reads
-use Rattle.reader_c.proofs.vurzhelik_check_book.Lts as lts
-use Rattle.book.proofs.check_book.Reads as check-book-reads
 
 check-book-requires : tie.Need-check-book-requires
 check-book-requires c κs = search needs

@@ -4,9 +4,6 @@ use mathlib.Core.Path.{sym}
 use Rattle.reader_c.proofs.Numbers.{refused-answers}
 use Rattle.reader_c.proofs.vurzhelik_read_line.Statement.{statement}
 use Rattle.reader_c.proofs.vurzhelik_read_line.Tie as tie
-use Rattle.reader_c.proofs.vurzhelik_read_line.Reads as reads
-use Rattle.reader_c.proofs.vurzhelik_read_line.Lts as lts
-use Rattle.reader.proofs.read_line.Reads as read-line-reads
 
 read-line-requires : tie.Need-read-line-requires
 read-line-requires c κs = search needs

@@ -8,9 +8,6 @@ use Rattle.book.specs.Format.{every, nameByte}
 use Rattle.book.proofs.Every.{every-stop, every-pass, every-end}
 use Rattle.book.proofs.layout.all_name_bytes.Statement.{statement}
 use Rattle.book.proofs.layout.all_name_bytes.Tie as tie
-use Rattle.book.proofs.layout.all_name_bytes.Reads as reads
-use Rattle.book.proofs.layout.all_name_bytes.Lts as lts
-use Rattle.book.proofs.layout.is_name_byte.Reads as is-name-byte-reads
 
 abbrev Inv-loop : tie.InvT-loop
 Inv-loop bytes i₀ i = (i ≤ length bytes) × (every nameByte bytes ≡ every nameByte (drop i bytes))

@@ -8,9 +8,6 @@ use Rattle.book.specs.Format.{every, wordByte}
 use Rattle.book.proofs.Every.{every-stop, every-pass, every-end}
 use Rattle.book.proofs.layout.all_word_bytes.Statement.{statement}
 use Rattle.book.proofs.layout.all_word_bytes.Tie as tie
-use Rattle.book.proofs.layout.all_word_bytes.Reads as reads
-use Rattle.book.proofs.layout.all_word_bytes.Lts as lts
-use Rattle.book.proofs.layout.is_word_byte.Reads as is-word-byte-reads
 
 abbrev Inv-loop : tie.InvT-loop
 Inv-loop bytes i₀ i = (i ≤ length bytes) × (every wordByte bytes ≡ every wordByte (drop i bytes))

@@ -8,9 +8,6 @@ use Prim.Native.Nat.{ℕ, _+_, _-_}
 use mathlib.Core.Path.{_≡_, ap, _∙_}
 use Rattle.book.proofs.layout.body_at.Statement.{statement}
 use Rattle.book.proofs.layout.body_at.Tie as tie
-use Rattle.book.proofs.layout.body_at.Reads as reads
-use Rattle.book.proofs.layout.body_at.Lts as lts
-use Rattle.book.proofs.layout.two_bytes.Reads as two-bytes-reads
 
 add-start : tie.Need-add-start
 add-start c = search needs

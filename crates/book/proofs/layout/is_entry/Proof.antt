@@ -9,10 +9,6 @@ use borrow.Author.Tests.{not-true, not-false}
 use Rattle.book.proofs.Layouts.{entry-empty, entry-length-no, entry-past, word-test, entry-word-no, entry-odd, entry-end}
 use Rattle.book.proofs.layout.is_entry.Statement.{statement}
 use Rattle.book.proofs.layout.is_entry.Tie as tie
-use Rattle.book.proofs.layout.is_entry.Reads as reads
-use Rattle.book.proofs.layout.is_entry.Lts as lts
-use Rattle.book.proofs.layout.all_word_bytes.Reads as all-word-bytes-reads
-use Rattle.book.proofs.layout.wide.Reads as wide-reads
 
 returns : tie.Need-returns
 returns c = entry-empty _ (omega arith)

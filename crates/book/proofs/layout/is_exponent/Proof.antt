@@ -3,8 +3,6 @@ use native.Mathlib.Omega.{arith}
 use Rattle.book.proofs.Bools.{exponent-up, exponent-down, exponent-no}
 use Rattle.book.proofs.layout.is_exponent.Statement.{statement}
 use Rattle.book.proofs.layout.is_exponent.Tie as tie
-use Rattle.book.proofs.layout.is_exponent.Reads as reads
-use Rattle.book.proofs.layout.is_exponent.Lts as lts
 
 returns : tie.Need-returns
 returns c = exponent-no _ (omega arith) (omega arith)

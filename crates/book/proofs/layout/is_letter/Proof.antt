@@ -3,8 +3,6 @@ use native.Mathlib.Omega.{arith}
 use Rattle.book.proofs.Bools.{letter-yes, letter-no}
 use Rattle.book.proofs.layout.is_letter.Statement.{statement}
 use Rattle.book.proofs.layout.is_letter.Tie as tie
-use Rattle.book.proofs.layout.is_letter.Reads as reads
-use Rattle.book.proofs.layout.is_letter.Lts as lts
 
 returns : tie.Need-returns
 returns c = letter-yes _ (omega arith)

@@ -6,10 +6,6 @@ use borrow.Author.Tests.{not-true, not-false}
 use Rattle.book.proofs.Layouts.{name-length-no, name-first-no, name-rest}
 use Rattle.book.proofs.layout.is_name.Statement.{statement}
 use Rattle.book.proofs.layout.is_name.Tie as tie
-use Rattle.book.proofs.layout.is_name.Reads as reads
-use Rattle.book.proofs.layout.is_name.Lts as lts
-use Rattle.book.proofs.layout.all_name_bytes.Reads as all-name-bytes-reads
-use Rattle.book.proofs.layout.is_letter.Reads as is-letter-reads
 
 returns : tie.Need-returns
 returns c = name-length-no _ (omega arith)

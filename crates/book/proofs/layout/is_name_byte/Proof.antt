@@ -3,8 +3,6 @@ use native.Mathlib.Omega.{arith}
 use Rattle.book.proofs.Bools.{name-letter, name-digit, name-byte-no}
 use Rattle.book.proofs.layout.is_name_byte.Statement.{statement}
 use Rattle.book.proofs.layout.is_name_byte.Tie as tie
-use Rattle.book.proofs.layout.is_name_byte.Reads as reads
-use Rattle.book.proofs.layout.is_name_byte.Lts as lts
 
 returns : tie.Need-returns
 returns c = name-digit _ (omega arith)

@@ -3,8 +3,6 @@ use native.Mathlib.Omega.{arith}
 use Rattle.book.proofs.Bools.{word-byte-yes, word-byte-no}
 use Rattle.book.proofs.layout.is_word_byte.Statement.{statement}
 use Rattle.book.proofs.layout.is_word_byte.Tie as tie
-use Rattle.book.proofs.layout.is_word_byte.Reads as reads
-use Rattle.book.proofs.layout.is_word_byte.Lts as lts
 
 returns : tie.Need-returns
 returns c = word-byte-yes _ (omega arith)

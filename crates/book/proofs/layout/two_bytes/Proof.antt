@@ -3,9 +3,6 @@ use borrow.Author.Needs.{needs}
 use Rattle.book.specs.Format.{twoBytes}
 use Rattle.book.proofs.layout.two_bytes.Statement.{statement}
 use Rattle.book.proofs.layout.two_bytes.Tie as tie
-use Rattle.book.proofs.layout.two_bytes.Reads as reads
-use Rattle.book.proofs.layout.two_bytes.Lts as lts
-use Rattle.book.proofs.layout.wide.Reads as wide-reads
 
 shared-slice-read-wide : tie.Need-shared-slice-read-wide
 shared-slice-read-wide c = search needs

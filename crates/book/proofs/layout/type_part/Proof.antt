@@ -1,16 +1,13 @@
 -- `book::layout::type_part` meets its contract: the layout of an entry leaves room for its word.
 use borrow.Author.Needs.{needs}
 use native.Mathlib.Omega.{arith}
-use mathlib.Core.Path.{_≡_, ap, _∙_}
-use lib.ListN.{length, take, drop, length-drop}
+use mathlib.Core.Path.{ap, _∙_}
+use lib.ListN.{length, drop, length-drop}
 use lib.Seq.{take-all}
-use Prim.Native.Nat.{ℕ, _+_, _-_, _≤_}
-use Rattle.book.proofs.Layouts.{EntryShape, entry-shape}
+use Prim.Native.Nat.{ℕ, _+_, _-_}
+use Rattle.book.proofs.Layouts.{entry-shape}
 use Rattle.book.proofs.layout.type_part.Statement.{statement}
 use Rattle.book.proofs.layout.type_part.Tie as tie
-use Rattle.book.proofs.layout.type_part.Reads as reads
-use Rattle.book.proofs.layout.type_part.Lts as lts
-use Rattle.book.proofs.layout.wide.Reads as wide-reads
 
 shared-slice-read-wide : tie.Need-shared-slice-read-wide
 shared-slice-read-wide c = let s = entry-shape _ (c .before .before .pre) in omega arith

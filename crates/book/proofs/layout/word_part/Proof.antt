@@ -7,9 +7,6 @@ use Prim.Native.Nat.{ℕ, _+_, _-_}
 use Rattle.book.proofs.Layouts.{entry-shape}
 use Rattle.book.proofs.layout.word_part.Statement.{statement}
 use Rattle.book.proofs.layout.word_part.Tie as tie
-use Rattle.book.proofs.layout.word_part.Reads as reads
-use Rattle.book.proofs.layout.word_part.Lts as lts
-use Rattle.book.proofs.layout.wide.Reads as wide-reads
 
 shared-slice-read-wide : tie.Need-shared-slice-read-wide
 shared-slice-read-wide c = let s = entry-shape _ (c .before .before .pre) in omega arith

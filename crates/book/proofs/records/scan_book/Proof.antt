@@ -1,16 +1,13 @@
 -- `book::records::scan_book` meets its contract: what is kept always stands for a draft from which the definition ends the same.
 use native.Mathlib.Omega.{arith}
 use Prim.Native.Nat.{_-_}
-use mathlib.Core.Path.{_≡_, _∙_}
+use mathlib.Core.Path.{_≡_}
 use lib.ListN.{length}
 use Rattle.book.specs.Format.{nextAt}
 use Rattle.book.proofs.Scanning.{Standing, too-long, standing-start, standing-next, standing-bad, standing-none, standing-some}
-use Rattle.book.specs.Kept.{Store, store}
+use Rattle.book.specs.Kept.{store}
 use Rattle.book.proofs.records.scan_book.Statement.{statement}
 use Rattle.book.proofs.records.scan_book.Tie as tie
-use Rattle.book.proofs.records.scan_book.Reads as reads
-use Rattle.book.proofs.records.scan_book.Lts as lts
-use Rattle.book.proofs.records.take_record.Reads as take-record-reads
 
 abbrev Inv-loop : tie.InvT-loop
 Inv-loop book names₀ entries₀ direct₀ p₀ names entries direct p = Standing book (store names₀ entries₀ direct₀) (store names entries direct) p

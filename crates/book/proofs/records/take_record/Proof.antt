@@ -1,7 +1,7 @@
 -- `book::records::take_record` meets its contract: where no rule is broken, what the record says is put where the laws of Keeping expect it.
 use borrow.Author.Needs.{needs}
 use native.Mathlib.Omega.{arith}
-use mathlib.Core.Path.{_≡_, refl, sym, ap, _∙_}
+use mathlib.Core.Path.{sym, ap, _∙_}
 use Prim.Native.Nat.{_+_}
 use Prim.Native.Nat.{ℕ}
 use lib.ListN.{length, getD}
@@ -9,16 +9,9 @@ use Rattle.book.proofs.WholeRecords.{whole-length}
 use Rattle.book.specs.Format.{Bytes}
 use Rattle.book.proofs.Keeping.{fault-kept, whole, name-place, entry-place, pair-place, target-place, kind-left, name-taken, entry-taken, pair-taken, target-taken}
 use Rattle.book.proofs.WholeRecords.{kind-1, kind-2, kind-3}
-use Rattle.book.specs.Kept.{Store, store}
+use Rattle.book.specs.Kept.{store}
 use Rattle.book.proofs.records.take_record.Statement.{statement}
 use Rattle.book.proofs.records.take_record.Tie as tie
-use Rattle.book.proofs.records.take_record.Reads as reads
-use Rattle.book.proofs.records.take_record.Lts as lts
-use Rattle.bits.proofs.with.Reads as with-reads
-use Rattle.book.proofs.layout.body_at.Reads as body-at-reads
-use Rattle.book.proofs.layout.two_bytes.Reads as two-bytes-reads
-use Rattle.book.proofs.layout.wide.Reads as wide-reads
-use Rattle.book.proofs.record_reader.fault_at.Reads as fault-at-reads
 
 fault-at-requires : tie.Need-fault-at-requires
 fault-at-requires c κs = search needs

@@ -9,9 +9,6 @@ use Rattle.book.specs.Format.{every, simplesOf, bases, declaredAmong}
 use Rattle.pregroup.specs.Types.{Simple}
 use Rattle.book.proofs.rules.all_declared.Statement.{statement}
 use Rattle.book.proofs.rules.all_declared.Tie as tie
-use Rattle.book.proofs.rules.all_declared.Reads as reads
-use Rattle.book.proofs.rules.all_declared.Lts as lts
-use Rattle.book.proofs.layout.wide.Reads as wide-reads
 
 abbrev Inv-loop : tie.InvT-loop
 Inv-loop part types i₀ i = (i ≤ length part) × (i % 2 ≡ 0) × (length part % 2 ≡ 0) × (every (declaredAmong types) (bases (simplesOf part)) ≡ every (declaredAmong types) (bases (simplesOf (drop i part))))

@@ -9,9 +9,6 @@ use Rattle.book.specs.Format.{every, simplesOf, exponents, exponentListe
 use Rattle.pregroup.specs.Types.{Simple}
 use Rattle.book.proofs.rules.all_exponents.Statement.{statement}
 use Rattle.book.proofs.rules.all_exponents.Tie as tie
-use Rattle.book.proofs.rules.all_exponents.Reads as reads
-use Rattle.book.proofs.rules.all_exponents.Lts as lts
-use Rattle.book.proofs.layout.is_exponent.Reads as is-exponent-reads
 
 abbrev Inv-loop : tie.InvT-loop
 Inv-loop part i₀ i = (i ≤ length part) × (i % 2 ≡ 0) × (length part % 2 ≡ 0) × (every exponentListed (exponents (simplesOf part)) ≡ every exponentListed (exponents (simplesOf (drop i part))))

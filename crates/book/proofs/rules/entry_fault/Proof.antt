@@ -10,12 +10,6 @@ use Rattle.book.specs.Format.{Bytes, every, declaredAmong, bases, simple
 use Rattle.book.proofs.Faults.{entry-faults}
 use Rattle.book.proofs.rules.entry_fault.Statement.{statement}
 use Rattle.book.proofs.rules.entry_fault.Tie as tie
-use Rattle.book.proofs.rules.entry_fault.Reads as reads
-use Rattle.book.proofs.rules.entry_fault.Lts as lts
-use Rattle.book.proofs.layout.is_entry.Reads as is-entry-reads
-use Rattle.book.proofs.layout.type_part.Reads as type-part-reads
-use Rattle.book.proofs.rules.all_declared.Reads as all-declared-reads
-use Rattle.book.proofs.rules.all_exponents.Reads as all-exponents-reads
 
 is-entry-requires : tie.Need-is-entry-requires
 is-entry-requires c κs = search needs

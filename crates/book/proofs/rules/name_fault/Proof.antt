@@ -1,6 +1,6 @@
 -- `book::rules::name_fault` meets its contract: the tests come in the order of their numbers.
 use borrow.Author.Needs.{needs}
-use mathlib.Core.Path.{sym, refl, ap, _∙_}
+use mathlib.Core.Path.{sym, refl, _∙_}
 use borrow.Author.Tests.{not-true, not-false, le-leb, lt-leb}
 use lib.ListN.{length}
 use native.Mathlib.Omega.{arith}
@@ -9,10 +9,6 @@ use Rattle.book.specs.Kept.{bodiesAt}
 use Rattle.book.proofs.Faults.{name-faults}
 use Rattle.book.proofs.rules.name_fault.Statement.{statement}
 use Rattle.book.proofs.rules.name_fault.Tie as tie
-use Rattle.book.proofs.rules.name_fault.Reads as reads
-use Rattle.book.proofs.rules.name_fault.Lts as lts
-use Rattle.book.proofs.layout.is_name.Reads as is-name-reads
-use Rattle.book.proofs.rules.name_used.Reads as name-used-reads
 
 is-name-requires : tie.Need-is-name-requires
 is-name-requires c κs = search needs

@@ -1,21 +1,16 @@
 -- `book::rules::name_used` meets its contract: until a name is the same, what is left of the names decides.
 use native.Mathlib.Omega.{arith}
-use Prim.Native.Nat.{ℕ, _-_, _≤_}
+use Prim.Native.Nat.{_-_, _≤_}
 use mathlib.Core.Path.{_≡_, refl, sym, ap, _∙_}
-use mathlib.Core.Bool.{Bool, not}
-use lib.ListN.{length, getD, drop}
+use mathlib.Core.Bool.{not}
+use lib.ListN.{drop}
 use Rattle.book.specs.Format.{Bytes, sameBytes}
 use Rattle.book.proofs.Names.{differs, same-test, bodies-length, name-found, name-other}
 use Rattle.book.proofs.Every.{every-end}
 use Rattle.book.specs.Kept.{bodiesAt}
-use Rattle.book.specs.Format.{every, bodyAt, nameUsed, nextAt}
+use Rattle.book.specs.Format.{every, bodyAt, nameUsed}
 use Rattle.book.proofs.rules.name_used.Statement.{statement}
 use Rattle.book.proofs.rules.name_used.Tie as tie
-use Rattle.book.proofs.rules.name_used.Reads as reads
-use Rattle.book.proofs.rules.name_used.Lts as lts
-use Rattle.book.proofs.layout.body_at.Reads as body-at-reads
-use Rattle.book.proofs.rules.offset.Reads as offset-reads
-use Rattle.book.proofs.compare.same.Reads as same-reads
 
 abbrev Inv-loop : tie.InvT-loop
 Inv-loop book names types body i₀ i = (i ≤ types) × (every (differs body) (bodiesAt book names types) ≡ every (differs body) (drop i (bodiesAt book names types)))

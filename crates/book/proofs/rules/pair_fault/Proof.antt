@@ -7,9 +7,6 @@ use native.Mathlib.Omega.{arith}
 use Rattle.book.proofs.Faults.{two-first-no, two-second-no, two-yes, pair-faults}
 use Rattle.book.proofs.rules.pair_fault.Statement.{statement}
 use Rattle.book.proofs.rules.pair_fault.Tie as tie
-use Rattle.book.proofs.rules.pair_fault.Reads as reads
-use Rattle.book.proofs.rules.pair_fault.Lts as lts
-use Rattle.book.proofs.layout.wide.Reads as wide-reads
 
 returns : tie.Need-returns
 returns c = λ names entries seen h. sym (pair-faults _ names entries seen (ne-eqb _ _ (c .if1 .taken)) refl)

@@ -1,22 +1,13 @@
 -- `book::rules::record_fault` meets its contract: a cut record is 2, and any other has the fault of its body by its kind.
 use borrow.Author.Needs.{needs}
 use native.Mathlib.Omega.{arith}
-use mathlib.Core.Path.{_≡_, sym, _∙_}
-use lib.ListN.{length}
+use mathlib.Core.Path.{sym, _∙_}
 use Rattle.book.proofs.WholeRecords.{cut-head, cut-body, kind-1, kind-2, kind-3, kind-4, kind-other, record-cut, record-whole}
 use Rattle.book.proofs.Faults.{unlisted-faults}
 use Rattle.book.proofs.Names.{bodies-length}
 use Rattle.book.specs.Kept.{bodiesAt}
 use Rattle.book.proofs.rules.record_fault.Statement.{statement}
 use Rattle.book.proofs.rules.record_fault.Tie as tie
-use Rattle.book.proofs.rules.record_fault.Reads as reads
-use Rattle.book.proofs.rules.record_fault.Lts as lts
-use Rattle.book.proofs.layout.body_at.Reads as body-at-reads
-use Rattle.book.proofs.layout.two_bytes.Reads as two-bytes-reads
-use Rattle.book.proofs.rules.entry_fault.Reads as entry-fault-reads
-use Rattle.book.proofs.rules.name_fault.Reads as name-fault-reads
-use Rattle.book.proofs.rules.pair_fault.Reads as pair-fault-reads
-use Rattle.book.proofs.rules.target_fault.Reads as target-fault-reads
 
 sub-if1 : tie.Need-sub-if1
 sub-if1 c = search needs

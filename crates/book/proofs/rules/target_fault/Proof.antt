@@ -7,9 +7,6 @@ use native.Mathlib.Omega.{arith}
 use Rattle.book.proofs.Faults.{one-no, one-yes, target-faults}
 use Rattle.book.proofs.rules.target_fault.Statement.{statement}
 use Rattle.book.proofs.rules.target_fault.Tie as tie
-use Rattle.book.proofs.rules.target_fault.Reads as reads
-use Rattle.book.proofs.rules.target_fault.Lts as lts
-use Rattle.book.proofs.layout.wide.Reads as wide-reads
 
 returns : tie.Need-returns
 returns c = λ names entries h. sym (target-faults _ names entries _ (ne-eqb _ _ (c .if1 .taken)) refl)

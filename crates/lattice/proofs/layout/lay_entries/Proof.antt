@@ -5,10 +5,6 @@ use Rattle.lattice.proofs.EntryLaws.{Entering, entering-start, entering
 use Rattle.lattice.specs.Cells.{cells}
 use Rattle.lattice.proofs.layout.lay_entries.Statement.{statement}
 use Rattle.lattice.proofs.layout.lay_entries.Tie as tie
-use Rattle.lattice.proofs.layout.lay_entries.Reads as reads
-use Rattle.lattice.proofs.layout.lay_entries.Lts as lts
-use Rattle.book.proofs.rules.offset.Reads as offset-reads
-use Rattle.lattice.proofs.layout.lay_entry.Reads as lay-entry-reads
 
 abbrev Inv-loop : tie.InvT-loop
 Inv-loop book offsets count word boundary bases₀ exponents₀ nexts₀ enters₀ numbers₀ place₀ i₀ bases exponents nexts enters numbers place i =

@@ -8,13 +8,6 @@ use Rattle.book.specs.Format.{Bytes, sameBytes, wordOf, typePart}
 use Rattle.book.proofs.Names.{same-test}
 use Rattle.lattice.proofs.layout.lay_entry.Statement.{statement}
 use Rattle.lattice.proofs.layout.lay_entry.Tie as tie
-use Rattle.lattice.proofs.layout.lay_entry.Reads as reads
-use Rattle.lattice.proofs.layout.lay_entry.Lts as lts
-use Rattle.book.proofs.layout.body_at.Reads as body-at-reads
-use Rattle.book.proofs.layout.type_part.Reads as type-part-reads
-use Rattle.book.proofs.layout.word_part.Reads as word-part-reads
-use Rattle.book.proofs.compare.same.Reads as same-reads
-use Rattle.lattice.proofs.layout.lay_slot.Reads as lay-slot-reads
 
 body-at-requires : tie.Need-body-at-requires
 body-at-requires c κs = search needs

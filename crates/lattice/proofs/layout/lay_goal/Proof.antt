@@ -8,9 +8,6 @@ use Rattle.lattice.specs.Lists.{lists}
 use Rattle.book.specs.Format.{exponentOf, exponentListed}
 use Rattle.lattice.proofs.layout.lay_goal.Statement.{statement}
 use Rattle.lattice.proofs.layout.lay_goal.Tie as tie
-use Rattle.lattice.proofs.layout.lay_goal.Reads as reads
-use Rattle.lattice.proofs.layout.lay_goal.Lts as lts
-use Rattle.lattice.proofs.layout.raise.Reads as raise-reads
 
 add-goal : tie.Need-add-goal
 add-goal c =

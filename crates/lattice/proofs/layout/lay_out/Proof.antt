@@ -5,10 +5,6 @@ use Rattle.lattice.proofs.LineLaws.{out-words-fit, out-standing, out-la
 use Rattle.lattice.specs.Lists.{lists}
 use Rattle.lattice.proofs.layout.lay_out.Statement.{statement}
 use Rattle.lattice.proofs.layout.lay_out.Tie as tie
-use Rattle.lattice.proofs.layout.lay_out.Reads as reads
-use Rattle.lattice.proofs.layout.lay_out.Lts as lts
-use Rattle.lattice.proofs.layout.lay_goal.Reads as lay-goal-reads
-use Rattle.lattice.proofs.layout.lay_words.Reads as lay-words-reads
 
 lay-words-requires : tie.Need-lay-words-requires
 lay-words-requires c κs =

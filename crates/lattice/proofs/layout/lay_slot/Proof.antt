@@ -5,9 +5,6 @@ use Rattle.lattice.proofs.EntryLaws.{slot-passed, slot-taken}
 use Rattle.lattice.specs.Cells.{cells}
 use Rattle.lattice.proofs.layout.lay_slot.Statement.{statement}
 use Rattle.lattice.proofs.layout.lay_slot.Tie as tie
-use Rattle.lattice.proofs.layout.lay_slot.Reads as reads
-use Rattle.lattice.proofs.layout.lay_slot.Lts as lts
-use Rattle.lattice.proofs.layout.lay_type.Reads as lay-type-reads
 
 returns : tie.Need-returns
 returns c =

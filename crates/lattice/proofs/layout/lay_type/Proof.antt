@@ -4,9 +4,6 @@ use Rattle.lattice.proofs.TypeLaws.{Typing, typing-start, typing-next, 
 use Rattle.lattice.specs.Cells.{nodes}
 use Rattle.lattice.proofs.layout.lay_type.Statement.{statement}
 use Rattle.lattice.proofs.layout.lay_type.Tie as tie
-use Rattle.lattice.proofs.layout.lay_type.Reads as reads
-use Rattle.lattice.proofs.layout.lay_type.Lts as lts
-use Rattle.lattice.proofs.layout.raise.Reads as raise-reads
 
 abbrev Inv-loop : tie.InvT-loop
 Inv-loop part node boundary bases₀ exponents₀ nexts₀ first₀ i₀ bases exponents nexts first i = Typing part node boundary (nodes bases₀ exponents₀ nexts₀) (nodes bases exponents nexts) first i

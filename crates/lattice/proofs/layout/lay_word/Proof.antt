@@ -9,10 +9,6 @@ use Rattle.lattice.proofs.WordLaws.{word-placed, word-lined}
 use Rattle.lattice.specs.Lists.{lists}
 use Rattle.lattice.proofs.layout.lay_word.Statement.{statement}
 use Rattle.lattice.proofs.layout.lay_word.Tie as tie
-use Rattle.lattice.proofs.layout.lay_word.Reads as reads
-use Rattle.lattice.proofs.layout.lay_word.Lts as lts
-use Rattle.lattice.proofs.layout.lay_entries.Reads as lay-entries-reads
-use Rattle.line.proofs.lookup.tally_word.Reads as tally-word-reads
 
 tally-word-requires : tie.Need-tally-word-requires
 tally-word-requires c κs = c .before .before .before .before .before .before .before .before .before .before .pre .lexicon .entries

@@ -5,9 +5,6 @@ use Rattle.lattice.proofs.LineLaws.{Lining, lining-start, lining-fits, 
 use Rattle.lattice.specs.Lists.{lists}
 use Rattle.lattice.proofs.layout.lay_words.Statement.{statement}
 use Rattle.lattice.proofs.layout.lay_words.Tie as tie
-use Rattle.lattice.proofs.layout.lay_words.Reads as reads
-use Rattle.lattice.proofs.layout.lay_words.Lts as lts
-use Rattle.lattice.proofs.layout.lay_word.Reads as lay-word-reads
 
 abbrev Inv-loop : tie.InvT-loop
 Inv-loop book offsets count line starts ends words bases₀ exponents₀ nexts₀ froms₀ tos₀ enters₀ numbers₀ place₀ k₀ bases exponents nexts froms tos enters numbers place k =

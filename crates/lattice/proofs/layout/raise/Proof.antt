@@ -4,8 +4,6 @@ use native.Mathlib.Omega.{arith}
 use Rattle.lattice.proofs.RaiseLaws.{raise-low, raise-high}
 use Rattle.lattice.proofs.layout.raise.Statement.{statement}
 use Rattle.lattice.proofs.layout.raise.Tie as tie
-use Rattle.lattice.proofs.layout.raise.Reads as reads
-use Rattle.lattice.proofs.layout.raise.Lts as lts
 
 add-result : tie.Need-add-result
 add-result c = search needs

@@ -1,14 +1,9 @@
 -- `line::lookup::check_line` meets its contract: what splitting and looking up found says what the line is.
 use borrow.Author.Needs.{needs}
 use native.Mathlib.Omega.{arith}
-use mathlib.Core.Path.{sym}
 use Rattle.line.proofs.LineLaws.{check-stopped, looked-up}
 use Rattle.line.proofs.lookup.check_line.Statement.{statement}
 use Rattle.line.proofs.lookup.check_line.Tie as tie
-use Rattle.line.proofs.lookup.check_line.Reads as reads
-use Rattle.line.proofs.lookup.check_line.Lts as lts
-use Rattle.line.proofs.lookup.look_up.Reads as look-up-reads
-use Rattle.line.proofs.split.split.Reads as split-reads
 
 split-requires : tie.Need-split-requires
 split-requires c κs = search needs

@@ -1,6 +1,6 @@
 -- `line::lookup::look_up` meets its contract: every word passed has an entry, and their simple types are summed.
 use native.Mathlib.Omega.{arith}
-use Prim.Native.Nat.{ℕ, _-_, _*_, _≤_}
+use Prim.Native.Nat.{_-_, _*_, _≤_}
 use mathlib.Core.Path.{_≡_, refl}
 use Rattle.line.proofs.LineLaws.{Looking, looking-start, looking-none, looking-next, looking-full, looking-end}
 use Rattle.line.specs.LookUp.{entriesKept}
@@ -8,9 +8,6 @@ use Rattle.line.specs.Split.{SplitInto}
 use Rattle.book.specs.Format.{Book}
 use Rattle.line.proofs.lookup.look_up.Statement.{statement}
 use Rattle.line.proofs.lookup.look_up.Tie as tie
-use Rattle.line.proofs.lookup.look_up.Reads as reads
-use Rattle.line.proofs.lookup.look_up.Lts as lts
-use Rattle.line.proofs.lookup.tally_word.Reads as tally-word-reads
 
 abbrev Inv-loop : tie.InvT-loop
 Inv-loop book offsets count line starts ends words sum₀ k₀ sum k = (k ≤ words) × (sum ≤ 12288 * k) × ((B : Book) → B .entries ≡ entriesKept book offsets count → (s : SplitInto line starts ends words) → Looking B line starts ends words s sum k)

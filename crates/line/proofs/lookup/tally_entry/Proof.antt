@@ -1,20 +1,13 @@
 -- `line::lookup::tally_entry` meets its contract: the comparison decides whether the entry is counted.
 use borrow.Author.Needs.{needs}
-use mathlib.Core.Path.{_≡_, refl, sym, ap, _∙_}
+use mathlib.Core.Path.{refl, sym, ap, _∙_}
 use mathlib.Core.Bool.{true≢false, false≢true}
 use Prim.Native.Nat.{ℕ, _+_, _/_}
 use lib.ListN.{length}
-use Rattle.book.proofs.Layouts.{entry-shape}
 use Rattle.book.proofs.Names.{same-test}
 use Rattle.book.specs.Format.{Bytes, sameBytes, wordOf, typePart}
 use Rattle.line.proofs.lookup.tally_entry.Statement.{statement}
 use Rattle.line.proofs.lookup.tally_entry.Tie as tie
-use Rattle.line.proofs.lookup.tally_entry.Reads as reads
-use Rattle.line.proofs.lookup.tally_entry.Lts as lts
-use Rattle.book.proofs.layout.body_at.Reads as body-at-reads
-use Rattle.book.proofs.layout.type_part.Reads as type-part-reads
-use Rattle.book.proofs.layout.word_part.Reads as word-part-reads
-use Rattle.book.proofs.compare.same.Reads as same-reads
 
 body-at-requires : tie.Need-body-at-requires
 body-at-requires c κs = search needs

@@ -1,15 +1,9 @@
 -- `line::lookup::tally_word` meets its contract: the entries passed are counted, and those left are the rest.
 use native.Mathlib.Omega.{arith}
-use Prim.Native.Nat.{_-_, _≤_}
-use mathlib.Core.Path.{sym}
+use Prim.Native.Nat.{_-_}
 use Rattle.line.proofs.LookUpLaws.{Tallying, tally-start, tally-countable, tally-next, tally-end}
-use Rattle.line.specs.LookUp.{Entries}
 use Rattle.line.proofs.lookup.tally_word.Statement.{statement}
 use Rattle.line.proofs.lookup.tally_word.Tie as tie
-use Rattle.line.proofs.lookup.tally_word.Reads as reads
-use Rattle.line.proofs.lookup.tally_word.Lts as lts
-use Rattle.book.proofs.rules.offset.Reads as offset-reads
-use Rattle.line.proofs.lookup.tally_entry.Reads as tally-entry-reads
 
 abbrev Inv-loop : tie.InvT-loop
 Inv-loop book offsets count word tally₀ i₀ tally i = Tallying book offsets count word tally i

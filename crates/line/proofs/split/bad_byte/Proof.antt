@@ -1,8 +1,8 @@
 -- `line::split::bad_byte` meets its contract: the bytes passed may stand in a line.
 use native.Mathlib.Omega.{arith}
-use Prim.Native.Nat.{ℕ, _-_, _≤_}
+use Prim.Native.Nat.{_-_, _≤_}
 use mathlib.Core.Path.{_≡_, refl, sym, ap, _∙_}
-use lib.ListN.{length, getD, drop}
+use lib.ListN.{length, drop}
 use mathlib.Core.Bool.{Bool, cond}
 use mathlib.Core.Option.{none, some}
 use borrow.Author.Tests.{not-true, not-false, lt-ltb, le-ltb}
@@ -10,9 +10,6 @@ use Rattle.line.specs.LineFaults.{byteFault}
 use Rattle.line.proofs.WordLaws.{byte-fine, byte-bad, bytes-end}
 use Rattle.line.proofs.split.bad_byte.Statement.{statement}
 use Rattle.line.proofs.split.bad_byte.Tie as tie
-use Rattle.line.proofs.split.bad_byte.Reads as reads
-use Rattle.line.proofs.split.bad_byte.Lts as lts
-use Rattle.line.proofs.split.is_line_byte.Reads as is-line-byte-reads
 
 abbrev Inv-loop : tie.InvT-loop
 Inv-loop line i₀ i = (i ≤ length line) × (byteFault 0 line ≡ byteFault i (drop i line))

@@ -1,13 +1,11 @@
 -- `line::split::end_of_word` meets its contract: the bytes passed spell the word.
 use native.Mathlib.Omega.{arith}
 use Prim.Native.Nat.{ℕ, _-_, _≤_}
-use mathlib.Core.Path.{_≡_, refl, sym, ap, _∙_}
-use lib.ListN.{length, getD, drop}
+use mathlib.Core.Path.{_≡_, sym, ap, _∙_}
+use lib.ListN.{length, getD}
 use Rattle.line.proofs.WordLaws.{Spelling, spelling-start, spelling-more, word-space, word-end}
 use Rattle.line.proofs.split.end_of_word.Statement.{statement}
 use Rattle.line.proofs.split.end_of_word.Tie as tie
-use Rattle.line.proofs.split.end_of_word.Reads as reads
-use Rattle.line.proofs.split.end_of_word.Lts as lts
 
 abbrev Inv-loop : tie.InvT-loop
 Inv-loop line at i₀ i = (at ≤ i) × (i ≤ length line) × Spelling line at i

@@ -4,8 +4,6 @@ use mathlib.Core.Path.{sym}
 use Rattle.book.proofs.Bools.{inside, outside}
 use Rattle.line.proofs.split.is_line_byte.Statement.{statement}
 use Rattle.line.proofs.split.is_line_byte.Tie as tie
-use Rattle.line.proofs.split.is_line_byte.Reads as reads
-use Rattle.line.proofs.split.is_line_byte.Lts as lts
 
 returns : tie.Need-returns
 returns c = sym (inside 32 126 (c .before .before .args .byte) (omega arith))

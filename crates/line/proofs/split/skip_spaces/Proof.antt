@@ -1,13 +1,11 @@
 -- `line::split::skip_spaces` meets its contract: the bytes passed are spaces.
 use native.Mathlib.Omega.{arith}
-use Prim.Native.Nat.{ℕ, _-_, _≤_}
-use mathlib.Core.Path.{_≡_, refl, sym, ap, _∙_}
-use lib.ListN.{length, getD, drop}
+use Prim.Native.Nat.{_-_, _≤_}
+use mathlib.Core.Path.{_≡_, refl, _∙_}
+use lib.ListN.{length}
 use Rattle.line.proofs.WordLaws.{words-space, wordsHere}
 use Rattle.line.proofs.split.skip_spaces.Statement.{statement}
 use Rattle.line.proofs.split.skip_spaces.Tie as tie
-use Rattle.line.proofs.split.skip_spaces.Reads as reads
-use Rattle.line.proofs.split.skip_spaces.Lts as lts
 
 abbrev Inv-loop : tie.InvT-loop
 Inv-loop line from i₀ i = (from ≤ i) × (i ≤ length line) × (wordsHere line from ≡ wordsHere line i)

@@ -1,7 +1,7 @@
 -- `line::split::split` meets its contract: the words kept and the words that the rest holds are always those of the line.
 use native.Mathlib.Omega.{arith}
-use Prim.Native.Nat.{ℕ, _-_}
-use mathlib.Core.Path.{_≡_, sym, ap, _∙_}
+use Prim.Native.Nat.{_-_}
+use mathlib.Core.Path.{ap, _∙_}
 use mathlib.Core.Bool.{Bool, cond}
 use mathlib.Core.Option.{some, none}
 use lib.ListN.{length}
@@ -10,11 +10,6 @@ use Rattle.line.proofs.SplitLaws.{Splitting, splitting-start, splitting
 use Rattle.line.specs.Split.{at-byte}
 use Rattle.line.proofs.split.split.Statement.{statement}
 use Rattle.line.proofs.split.split.Tie as tie
-use Rattle.line.proofs.split.split.Reads as reads
-use Rattle.line.proofs.split.split.Lts as lts
-use Rattle.line.proofs.split.bad_byte.Reads as bad-byte-reads
-use Rattle.line.proofs.split.end_of_word.Reads as end-of-word-reads
-use Rattle.line.proofs.split.skip_spaces.Reads as skip-spaces-reads
 
 abbrev Inv-loop : tie.InvT-loop
 Inv-loop line starts₀ ends₀ bad count₀ at₀ starts ends count at = Splitting line starts₀ ends₀ starts ends count at

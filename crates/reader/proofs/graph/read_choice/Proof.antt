@@ -4,10 +4,6 @@ use mathlib.Core.Path.{refl}
 use Rattle.reader.proofs.ReadingLaws.{can-choose, has-room, some-places, can-link, can-write, answers-short, answers-read}
 use Rattle.reader.proofs.graph.read_choice.Statement.{statement}
 use Rattle.reader.proofs.graph.read_choice.Tie as tie
-use Rattle.reader.proofs.graph.read_choice.Reads as reads
-use Rattle.reader.proofs.graph.read_choice.Lts as lts
-use Rattle.choice.proofs.choose.Reads as choose-reads
-use Rattle.reader.proofs.writing.write_answer.Reads as write-answer-reads
 
 sub-choose : tie.Need-sub-choose
 sub-choose c = search needs

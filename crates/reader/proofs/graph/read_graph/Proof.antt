@@ -9,10 +9,6 @@ use Rattle.reader.proofs.ReadingLaws.{has-rows, chart-reads, chart-stop
 use Rattle.reader.proofs.graph.read_graph.Statement.{statement}
 use Rattle.reader.proofs.graph.read_graph.Tie as tie
 use Rattle.reader.proofs.graph.read_graph.Reads as reads
-use Rattle.reader.proofs.graph.read_graph.Lts as lts
-use Rattle.chart.proofs.fill.Reads as fill-reads
-use Rattle.chart.proofs.rows.member.Reads as member-reads
-use Rattle.reader.proofs.graph.read_choice.Reads as read-choice-reads
 
 slice-aggregate-fill : tie.Need-slice-aggregate-fill
 slice-aggregate-fill c = search needs

@@ -3,11 +3,6 @@ use native.Mathlib.Omega.{arith}
 use Rattle.reader.proofs.WritingLaws.{wrote-answer}
 use Rattle.reader.proofs.writing.write_answer.Statement.{statement}
 use Rattle.reader.proofs.writing.write_answer.Tie as tie
-use Rattle.reader.proofs.writing.write_answer.Reads as reads
-use Rattle.reader.proofs.writing.write_answer.Lts as lts
-use Rattle.answer.proofs.write_count.Reads as write-count-reads
-use Rattle.answer.proofs.write_entries.Reads as write-entries-reads
-use Rattle.reader.proofs.writing.write_partners.Reads as write-partners-reads
 
 write-entries-requires : tie.Need-write-entries-requires
 write-entries-requires c κs =

@@ -3,11 +3,6 @@ use native.Mathlib.Omega.{arith}
 use Rattle.spans.proofs.CopyLaws.{copied-string}
 use Rattle.reader.proofs.writing.write_partners.Statement.{statement}
 use Rattle.reader.proofs.writing.write_partners.Tie as tie
-use Rattle.reader.proofs.writing.write_partners.Reads as reads
-use Rattle.reader.proofs.writing.write_partners.Lts as lts
-use Rattle.spans.proofs.fill_table.Reads as fill-table-reads
-use Rattle.spans.proofs.links.first_linking.Reads as first-linking-reads
-use Rattle.spans.proofs.string.copy_string.Reads as copy-string-reads
 
 slice-aggregate-copy-string : tie.Need-slice-aggregate-copy-string
 slice-aggregate-copy-string c = search needs
