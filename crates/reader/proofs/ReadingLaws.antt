@@ -81,6 +81,15 @@ module _ {g : Graph} (up : Upward g) where
   choice-slots {u} h (choose e t c) zero l = omega (arith, e .before, up .slots-there u h)
   choice-slots {u} h (choose {s} {w} e t c) (suc i) l = choice-slots (entry-inside (up .enters-up u s w h e .1) t) c i (omega arith)
 
+-- What a choice of m simple types is good for: they can be linked and written, and what is written is what reading the words comes to.
+record Answerable (le : Test) (Le : Relation) (g : Graph) (numbers : List ℕ) (t : Basic) (n m : ℕ) (words : Words) (picked slots : List ℕ) : Type 0 where
+  linkable : Linkable Le (g .bases) (g .exponents) picked m t
+  slots-there : n ≤ length slots
+  numbered : (i : ℕ) → i < n → getD slots i 0 < length numbers
+  short : (before : List ℕ) → length before < 2 + n + m → Gives (given (firstReading le t words) before) (Refused 16 (2 + n + m)) before
+  read : (before after : List ℕ) → 2 + n + m ≤ length before → WroteAnswer Le (g .bases) (g .exponents) picked m t numbers slots n before after
+      → Gives (given (firstReading le t words) before) (Read (2 + n + m)) after
+
 module _ {le : Test} {Le : Relation} (decides : Decides le Le) (g : Graph) (numbers : List ℕ) (t : Basic) (n : ℕ) (words : Words) (up : Upward g) (drawn : Drawn g numbers t n words)
     (end : ℕ) (last : end + 1 ≡ g .count) where
   begins : Boundary g 0
@@ -135,7 +144,7 @@ module _ {le : Test} {Le : Relation} (decides : Decides le Le) (g : Graph) (numb
       same : all .m ≡ m
       same = omega (arith, all .places-are)
 
-      pub linkable : Linkable Le (g .bases) (g .exponents) picked m t
+      linkable : Linkable Le (g .bases) (g .exponents) picked m t
       linkable = record {
         few = omega (arith, same, few-places, drawn .count);
         picks = omega (arith, c .few);
@@ -144,10 +153,10 @@ module _ {le : Test} {Le : Relation} (decides : Decides le Le) (g : Graph) (numb
         reduces = subst (λ (k : ℕ). Reduces Le t (pickedString (g .bases) (g .exponents) picked k)) same (rw string-is (all .reduces));
       }
 
-      pub slots-there : n ≤ length slots
+      slots-there : n ≤ length slots
       slots-there = omega (arith, all .taken, c .few, drawn .count)
 
-      pub numbered : (i : ℕ) → i < n → getD slots i 0 < length numbers
+      numbered : (i : ℕ) → i < n → getD slots i 0 < length numbers
       numbered i h =
           let long = length-take-le count slots (omega (arith, c .few)) in
           let inside : i < count = omega (arith, all .taken, drawn .count) in
@@ -163,13 +172,16 @@ module _ {le : Test} {Le : Relation} (decides : Decides le Le) (g : Graph) (numb
           let linked : firstLinking le t (chosen g picked (all .m)) ≡ some Q = ap (firstLinking le t) (sym string-is ∙ ap (pickedString (g .bases) (g .exponents) picked) same) ∙ e in
           all .first Q linked ∙ ap (λ (k : ℕ). some (map (λ (s : ℕ). getD numbers s 0) (take k slots), Q)) (drawn .count)
 
-      pub returns-short : (before : List ℕ) → length before < 2 + n + m → Gives (given (firstReading le t words) before) (Refused 16 (2 + n + m)) before
+      returns-short : (before : List ℕ) → length before < 2 + n + m → Gives (given (firstReading le t words) before) (Refused 16 (2 + n + m)) before
       returns-short before h = let k = some-linking in gives-short before (first-with (k .0) (ap (firstLinking le t) (ap (pickedString (g .bases) (g .exponents) picked) (sym same) ∙ string-is) ∙ k .1)) (count-values (k .0) (partners-long (k .0) (k .1) ∙ same)) h
 
-      pub returns-read : (before after : List ℕ) → 2 + n + m ≤ length before → WroteAnswer Le (g .bases) (g .exponents) picked m t numbers slots n before after
+      returns-read : (before after : List ℕ) → 2 + n + m ≤ length before → WroteAnswer Le (g .bases) (g .exponents) picked m t numbers slots n before after
           → Gives (given (firstReading le t words) before) (Read (2 + n + m)) after
       returns-read before after h w =
           gives-read before (first-with (w .partners) (first-linking-greedy decides t (pickedString (g .bases) (g .exponents) picked m) (w .whole ∙ sym (picked-length (g .bases) (g .exponents) picked m (linkable .picks))) (w .greedy))) (count-values (w .partners) (w .whole)) h (w .written)
+
+      answerable : Answerable le Le g numbers t n m words picked slots
+      answerable = record { linkable = linkable; slots-there = slots-there; numbered = numbered; short = returns-short; read = returns-read }
 
 -- The same for a graph that can be read, whatever words it is of.
 module _ {Le : Relation} {g : Graph} {numbers : List ℕ} {t : Basic} {n : ℕ} (d : Drawable Le g numbers t n) where
@@ -204,29 +216,24 @@ module _ {Le : Relation} {g : Graph} {numbers : List ℕ} {t : Basic} {n : ℕ} 
     places-more : places - 1 + 1 ≡ places
     places-more = omega (arith, some-places)
 
+    answers : {le : Test} → Decides le Le → (words : Words) → Drawn g numbers t n words → Answerable le Le g numbers t n (places - 1) words picked slots
+    answers decides words drawn =
+        answerable decides g numbers t n words (d .upward) drawn (g .count - 1) last-is c (omega (arith, d .few)) (omega (arith, d .few)) (places - 1) places-more (d .few-words) (d .numbers-room)
+
     pub can-link : Linkable Le (g .bases) (g .exponents) picked (places - 1) t
-    can-link =
-        linkable (d .decides) g numbers t n (d .words) (d .upward) (d .drawn) (g .count - 1) last-is c (omega (arith, d .few)) (omega (arith, d .few)) (places - 1) places-more
-        (d .few-words) (d .numbers-room)
+    can-link = answers (d .decides) (d .words) (d .drawn) .linkable
 
     pub can-write : (answer : List ℕ) → 2 + n + (places - 1) ≤ length answer → Writable numbers slots n (places - 1) answer
-    can-write answer h = record {
-      few = d .few-words;
-      there = slots-there (d .decides) g numbers t n (d .words) (d .upward) (d .drawn) (g .count - 1) last-is c (omega (arith, d .few)) (omega (arith, d .few)) (places - 1) places-more
-          (d .few-words) (d .numbers-room);
-      numbered = numbered (d .decides) g numbers t n (d .words) (d .upward) (d .drawn) (g .count - 1) last-is c (omega (arith, d .few)) (omega (arith, d .few)) (places - 1) places-more
-          (d .few-words) (d .numbers-room);
-      space = h;
-    }
+    can-write answer h =
+        let a = answers (d .decides) (d .words) (d .drawn) in
+        record { few = d .few-words; there = a .slots-there; numbered = a .numbered; space = h }
 
     pub answers-short : (before : List ℕ) → length before < 2 + n + (places - 1) → GivesFirst Le g numbers t n before (Refused 16 (2 + n + (places - 1))) before
-    answers-short before h le decides words drawn =
-        returns-short decides g numbers t n words (d .upward) drawn (g .count - 1) last-is c (omega (arith, d .few)) (omega (arith, d .few)) (places - 1) places-more (d .few-words) (d .numbers-room) before h
+    answers-short before h le decides words drawn = answers decides words drawn .short before h
 
     pub answers-read : (before after : List ℕ) → 2 + n + (places - 1) ≤ length before → WroteAnswer Le (g .bases) (g .exponents) picked (places - 1) t numbers slots n before after
         → GivesFirst Le g numbers t n before (Read (2 + n + (places - 1))) after
-    answers-read before after h w le decides words drawn =
-        returns-read decides g numbers t n words (d .upward) drawn (g .count - 1) last-is c (omega (arith, d .few)) (omega (arith, d .few)) (places - 1) places-more (d .few-words) (d .numbers-room) before after h w
+    answers-read before after h w le decides words drawn = answers decides words drawn .read before after h w
 
   -- What the bit of the last node in the first node's row says.
   pub chart-reads : {rows : List ℕ} {b : Bool} → FilledFrom Le g rows 0 → ((b ≡ true) ↔ InRow rows 0 (g .count - 1)) → b ≡ true → (end : ℕ) → end + 1 ≡ g .count
