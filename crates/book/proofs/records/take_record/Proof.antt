@@ -1,15 +1,14 @@
 -- `book::records::take_record` meets its contract: where no rule is broken, what the record says is put where the laws of Keeping expect it.
 use borrow.Author.Needs.{needs}
 use native.Mathlib.Omega.{arith}
-use mathlib.Core.Path.{sym, ap, _∙_}
-use Prim.Native.Nat.{_+_}
-use Prim.Native.Nat.{ℕ}
+use mathlib.Core.Path.{_≡_, sym, ap, _∙_}
+use Prim.Native.Nat.{ℕ, _+_, _<_, _≤_}
 use lib.ListN.{length, getD}
-use Rattle.book.proofs.WholeRecords.{whole-length}
-use Rattle.book.specs.Format.{Bytes}
-use Rattle.book.proofs.Keeping.{fault-kept, whole, name-place, entry-place, pair-place, target-place, kind-left, name-taken, entry-taken, pair-taken, target-taken}
-use Rattle.book.proofs.WholeRecords.{kind-1, kind-2, kind-3}
-use Rattle.book.specs.Kept.{store}
+use Rattle.book.specs.Format.{Bytes, basic-type, order-pair, entry, target, bodyAt, nextAt, kindAt}
+use Rattle.book.specs.Kept.{Store, store, Sound}
+use Rattle.book.specs.declared.Progress.{Progress}
+use Rattle.book.proofs.WholeRecords.{whole-length, kind-1, kind-2, kind-3}
+use Rattle.book.proofs.Keeping.{Found, fault-kept, whole, name-place, entry-place, pair-place, target-place, kind-left, name-taken, entry-taken, pair-taken, target-taken}
 use Rattle.book.proofs.records.take_record.Statement.{statement}
 use Rattle.book.proofs.records.take_record.Tie as tie
 
@@ -18,6 +17,58 @@ fault-at-requires c κs = search needs
 
 same-length : tie.Need-same-length
 same-length c = search needs
+
+-- What is known of a record without a fault.
+module _ (c : tie.Else1) where
+  abbrev bytes : Bytes
+  bytes = c .before .before .before .before .before .before .before .args .book .now
+
+  abbrev kept : Store
+  kept = let a = c .before .before .before .before .before .before .before .args in store (a .names .now) (a .entries .now) (a .direct .now)
+
+  abbrev p : Progress
+  p = c .before .before .before .before .before .before .before .args .p
+
+  sound : Sound bytes kept p
+  sound = c .before .before .before .before .before .before .before .pre
+
+  found : Found bytes kept p sound 0
+  found = sym (c .if1 .left) ∙ c .before .fault-at .ensures
+
+  all : nextAt bytes (p .at) ≤ length bytes
+  all = whole bytes kept p sound found
+
+-- And of its body.
+module _ (c : tie.After-body-at) where
+  abbrev body : Bytes
+  body = bodyAt (bytes (c .before)) (p (c .before) .at)
+
+  first-byte : getD {A = ℕ} (c .body-at .result .now) 0 0 ≡ getD {A = ℕ} body 0 0
+  first-byte = ap (λ (l : Bytes). getD {A = ℕ} l 0 0) (c .body-at .ensures)
+
+  second-byte : getD {A = ℕ} (c .body-at .result .now) 1 0 ≡ getD {A = ℕ} body 1 0
+  second-byte = ap (λ (l : Bytes). getD {A = ℕ} l 1 0) (c .body-at .ensures)
+
+  next-is : p (c .before) .at + 4 + length (c .body-at .result .now) ≡ nextAt (bytes (c .before)) (p (c .before) .at)
+  next-is = ap (λ (m : ℕ). p (c .before) .at + 4 + m) (ap length (c .body-at .ensures) ∙ whole-length (bytes (c .before)) (p (c .before) .at) (all (c .before)))
+
+-- The kind of the record in each arm, and what the laws of Keeping say of it.
+name-kind : (c : tie.At-match-keys1) → kindAt (bytes (c .before .before .before)) (p (c .before .before .before) .at) ≡ basic-type
+name-kind c = kind-1 _ (sym (c .before .two-bytes .ensures) ∙ c .match .keys1)
+
+pair-kind : (c : tie.At-match-keys2) → kindAt (bytes (c .before .before .before)) (p (c .before .before .before) .at) ≡ order-pair
+pair-kind c = kind-2 _ (sym (c .before .two-bytes .ensures) ∙ c .match .keys2)
+
+pair-fits : (c : tie.At-match-keys2) → (length (body (c .before .before)) ≡ 2) × (getD {A = ℕ} (body (c .before .before)) 0 0 < p (c .before .before .before) .types) × (getD {A = ℕ} (body (c .before .before)) 1 0 < p (c .before .before .before) .types)
+pair-fits c = pair-place (bytes (c .before .before .before)) (kept (c .before .before .before)) (p (c .before .before .before)) (sound (c .before .before .before)) (found (c .before .before .before)) (pair-kind c)
+
+entry-kind : (c : tie.At-match-keys3) → kindAt (bytes (c .before .before .before)) (p (c .before .before .before) .at) ≡ entry
+entry-kind c = kind-3 _ (sym (c .before .two-bytes .ensures) ∙ c .match .keys3)
+
+target-kind : (c : tie.At-match-rest) → kindAt (bytes (c .before .before .before)) (p (c .before .before .before) .at) ≡ target
+target-kind c =
+    let none = c .match .rest in
+    kind-left (bytes (c .before .before .before)) (kept (c .before .before .before)) (p (c .before .before .before)) (sound (c .before .before .before)) (found (c .before .before .before)) _ (c .before .two-bytes .ensures) (none .0 .0 .1) (none .0 .1) (none .1)
 
 returns : tie.Need-returns
 returns c =
@@ -28,13 +79,7 @@ returns c =
     }
 
 body-at-requires : tie.Need-body-at-requires
-body-at-requires c κs =
-    let a = c .before .before .before .before .before .before .before .args in
-    let s = store (a .names .now) (a .entries .now) (a .direct .now) in
-    let bytes = a .book .now in
-    let sound = c .before .before .before .before .before .before .before .pre in
-    let found = sym (c .if1 .left) ∙ c .before .fault-at .ensures in
-    whole bytes s (a .p) sound found
+body-at-requires c κs = all c
 
 add-next : tie.Need-add-next
 add-next c = search needs
@@ -46,13 +91,7 @@ add-two-bytes : tie.Need-add-two-bytes
 add-two-bytes c = search needs
 
 two-bytes-requires : tie.Need-two-bytes-requires
-two-bytes-requires c κs =
-    let a = c .before .before .before .before .before .before .before .before .args in
-    let s = store (a .names .now) (a .entries .now) (a .direct .now) in
-    let bytes = a .book .now in
-    let sound = c .before .before .before .before .before .before .before .before .pre in
-    let found = sym (c .before .if1 .left) ∙ c .before .before .fault-at .ensures in
-    omega (arith, whole bytes s (a .p) sound found)
+two-bytes-requires c κs = omega (arith, all (c .before))
 
 cast-names : tie.Need-cast-names
 cast-names c = search needs
@@ -61,29 +100,13 @@ mul-names : tie.Need-mul-names
 mul-names c = search needs
 
 slice-write-names : tie.Need-slice-write-names
-slice-write-names c =
-    let a = c .before .before .before .before .before .before .before .before .before .before .args in
-    let s = store (a .names .now) (a .entries .now) (a .direct .now) in
-    let bytes = a .book .now in
-    let sound = c .before .before .before .before .before .before .before .before .before .before .pre in
-    let found = sym (c .before .before .before .if1 .left) ∙ c .before .before .before .before .fault-at .ensures in
-    let kind = kind-1 _ (sym (c .before .two-bytes .ensures) ∙ c .match .keys1) in
-    omega (arith, name-place bytes s (a .p) sound found kind, sound .roomy .names-room)
+slice-write-names c = omega (arith, name-place (bytes (c .before .before .before)) (kept (c .before .before .before)) (p (c .before .before .before)) (sound (c .before .before .before)) (found (c .before .before .before)) (name-kind c), sound (c .before .before .before) .roomy .names-room)
 
 add-t22 : tie.Need-add-t22
 add-t22 c = search needs
 
 shared-slice-read-wide : tie.Need-shared-slice-read-wide
-shared-slice-read-wide c =
-    let a = c .before .before .before .before .before .before .before .before .before .before .before .args in
-    let s = store (a .names .now) (a .entries .now) (a .direct .now) in
-    let bytes = a .book .now in
-    let sound = c .before .before .before .before .before .before .before .before .before .before .before .pre in
-    let found = sym (c .before .before .before .before .if1 .left) ∙ c .before .before .before .before .before .fault-at .ensures in
-    let kind = kind-2 _ (sym (c .before .before .two-bytes .ensures) ∙ c .before .match .keys2) in
-    let place = pair-place bytes s (a .p) sound found kind in
-    let body = c .before .before .before .body-at .ensures in
-    omega (arith, place .0, ap length body)
+shared-slice-read-wide c = omega (arith, pair-fits (c .before) .0, ap length (c .before .before .before .body-at .ensures))
 
 wide-requires : tie.Need-wide-requires
 wide-requires c κs = search needs
@@ -93,54 +116,22 @@ mul-with c = search needs
 
 slice-read-with : tie.Need-slice-read-with
 slice-read-with c =
-    let a = c .before .before .before .before .before .before .before .before .before .before .before .before .before .args in
-    let s = store (a .names .now) (a .entries .now) (a .direct .now) in
-    let bytes = a .book .now in
-    let sound = c .before .before .before .before .before .before .before .before .before .before .before .before .before .pre in
-    let found = sym (c .before .before .before .before .before .before .if1 .left) ∙ c .before .before .before .before .before .before .before .fault-at .ensures in
-    let kind = kind-2 _ (sym (c .before .before .before .before .two-bytes .ensures) ∙ c .before .before .before .match .keys2) in
-    let place = pair-place bytes s (a .p) sound found kind in
-    let body = c .before .before .before .before .before .body-at .ensures in
-    omega (arith, place .1, sound .few-types, sound .roomy .rows, c .before .wide .ensures .0, ap (λ (l : Bytes). getD {A = ℕ} l 0 0) body)
+    let s = sound (c .before .before .before .before .before .before) in
+    omega (arith, pair-fits (c .before .before .before) .1, s .few-types, s .roomy .rows, c .before .wide .ensures .0, first-byte (c .before .before .before .before .before))
 
 shared-slice-read-with : tie.Need-shared-slice-read-with
-shared-slice-read-with c =
-    let a = c .before .before .before .before .before .before .before .before .before .before .before .before .before .before .args in
-    let s = store (a .names .now) (a .entries .now) (a .direct .now) in
-    let bytes = a .book .now in
-    let sound = c .before .before .before .before .before .before .before .before .before .before .before .before .before .before .pre in
-    let found = sym (c .before .before .before .before .before .before .before .if1 .left) ∙ c .before .before .before .before .before .before .before .before .fault-at .ensures in
-    let kind = kind-2 _ (sym (c .before .before .before .before .before .two-bytes .ensures) ∙ c .before .before .before .before .match .keys2) in
-    let place = pair-place bytes s (a .p) sound found kind in
-    let body = c .before .before .before .before .before .before .body-at .ensures in
-    omega (arith, place .0, ap length body)
+shared-slice-read-with c = omega (arith, pair-fits (c .before .before .before .before) .0, ap length (c .before .before .before .before .before .before .body-at .ensures))
 
 with-requires : tie.Need-with-requires
-with-requires c κs =
-    let a = c .before .before .before .before .before .before .before .before .before .before .before .before .before .before .args in
-    let s = store (a .names .now) (a .entries .now) (a .direct .now) in
-    let bytes = a .book .now in
-    let sound = c .before .before .before .before .before .before .before .before .before .before .before .before .before .before .pre in
-    let found = sym (c .before .before .before .before .before .before .before .if1 .left) ∙ c .before .before .before .before .before .before .before .before .fault-at .ensures in
-    let kind = kind-2 _ (sym (c .before .before .before .before .before .two-bytes .ensures) ∙ c .before .before .before .before .match .keys2) in
-    let place = pair-place bytes s (a .p) sound found kind in
-    let body = c .before .before .before .before .before .before .body-at .ensures in
-    omega (arith, place .2, sound .few-types, ap (λ (l : Bytes). getD {A = ℕ} l 1 0) body)
+with-requires c κs = omega (arith, pair-fits (c .before .before .before .before) .2, sound (c .before .before .before .before .before .before .before) .few-types, second-byte (c .before .before .before .before .before .before))
 
 mul-direct : tie.Need-mul-direct
 mul-direct c = search needs
 
 slice-write-direct : tie.Need-slice-write-direct
 slice-write-direct c =
-    let a = c .before .before .before .before .before .before .before .before .before .before .before .before .before .before .before .args in
-    let s = store (a .names .now) (a .entries .now) (a .direct .now) in
-    let bytes = a .book .now in
-    let sound = c .before .before .before .before .before .before .before .before .before .before .before .before .before .before .before .pre in
-    let found = sym (c .before .before .before .before .before .before .before .before .if1 .left) ∙ c .before .before .before .before .before .before .before .before .before .fault-at .ensures in
-    let kind = kind-2 _ (sym (c .before .before .before .before .before .before .two-bytes .ensures) ∙ c .before .before .before .before .before .match .keys2) in
-    let place = pair-place bytes s (a .p) sound found kind in
-    let body = c .before .before .before .before .before .before .before .body-at .ensures in
-    omega (arith, place .1, sound .few-types, sound .roomy .rows, c .before .before .before .wide .ensures .0, ap (λ (l : Bytes). getD {A = ℕ} l 0 0) body)
+    let s = sound (c .before .before .before .before .before .before .before .before) in
+    omega (arith, pair-fits (c .before .before .before .before .before) .1, s .few-types, s .roomy .rows, c .before .before .before .wide .ensures .0, first-byte (c .before .before .before .before .before .before .before))
 
 cast-entries : tie.Need-cast-entries
 cast-entries c = search needs
@@ -149,43 +140,19 @@ mul-entries : tie.Need-mul-entries
 mul-entries c = search needs
 
 slice-write-entries : tie.Need-slice-write-entries
-slice-write-entries c =
-    let a = c .before .before .before .before .before .before .before .before .before .before .args in
-    let s = store (a .names .now) (a .entries .now) (a .direct .now) in
-    let bytes = a .book .now in
-    let sound = c .before .before .before .before .before .before .before .before .before .before .pre in
-    let found = sym (c .before .before .before .if1 .left) ∙ c .before .before .before .before .fault-at .ensures in
-    let kind = kind-3 _ (sym (c .before .two-bytes .ensures) ∙ c .match .keys3) in
-    omega (arith, entry-place bytes s (a .p) sound found kind, sound .roomy .entries-room)
+slice-write-entries c = omega (arith, entry-place (bytes (c .before .before .before)) (kept (c .before .before .before)) (p (c .before .before .before)) (sound (c .before .before .before)) (found (c .before .before .before)) (entry-kind c), sound (c .before .before .before) .roomy .entries-room)
 
 add-t36 : tie.Need-add-t36
 add-t36 c = search needs
 
 shared-slice-read-t40 : tie.Need-shared-slice-read-t40
-shared-slice-read-t40 c =
-    let a = c .before .before .before .before .before .before .before .before .before .before .before .args in
-    let s = store (a .names .now) (a .entries .now) (a .direct .now) in
-    let bytes = a .book .now in
-    let sound = c .before .before .before .before .before .before .before .before .before .before .before .pre in
-    let found = sym (c .before .before .before .before .if1 .left) ∙ c .before .before .before .before .before .fault-at .ensures in
-    let none = c .before .match .rest in
-    let kind = kind-left bytes s (a .p) sound found _ (c .before .before .two-bytes .ensures) (none .0 .0 .1) (none .0 .1) (none .1) in
-    omega (arith, target-place bytes s (a .p) sound found kind .0, ap length (c .before .before .before .body-at .ensures))
+shared-slice-read-t40 c = omega (arith, target-place (bytes (c .before .before .before .before)) (kept (c .before .before .before .before)) (p (c .before .before .before .before)) (sound (c .before .before .before .before)) (found (c .before .before .before .before)) (target-kind (c .before)) .0, ap length (c .before .before .before .body-at .ensures))
 
 same-length-2 : tie.Need-same-length-2
 same-length-2 c = search needs
 
 returns-2 : tie.Need-returns-2
-returns-2 c =
-    let a = c .before .before .before .before .before .before .before .before .before .before .args in
-    let s = store (a .names .now) (a .entries .now) (a .direct .now) in
-    let bytes = a .book .now in
-    let sound = c .before .before .before .before .before .before .before .before .before .before .pre in
-    let found = sym (c .before .before .before .if1 .left) ∙ c .before .before .before .before .fault-at .ensures in
-    let kind = kind-1 _ (sym (c .before .two-bytes .ensures) ∙ c .match .keys1) in
-    let n = whole-length bytes (a .p .at) (whole bytes s (a .p) sound found) in
-    let on = ap (λ (m : ℕ). a .p .at + 4 + m) (ap length (c .before .before .body-at .ensures) ∙ n) in
-    name-taken bytes s (a .p) sound found _ on kind
+returns-2 c = name-taken (bytes (c .before .before .before)) (kept (c .before .before .before)) (p (c .before .before .before)) (sound (c .before .before .before)) (found (c .before .before .before)) _ (next-is (c .before .before)) (name-kind c)
 
 same-length-3 : tie.Need-same-length-3
 same-length-3 c = search needs
@@ -195,16 +162,8 @@ same-length-4 c = search needs
 
 returns-3 : tie.Need-returns-3
 returns-3 c =
-    let a = c .before .before .before .before .before .before .before .before .before .before .before .before .before .before .before .args in
-    let s = store (a .names .now) (a .entries .now) (a .direct .now) in
-    let bytes = a .book .now in
-    let sound = c .before .before .before .before .before .before .before .before .before .before .before .before .before .before .before .pre in
-    let found = sym (c .before .before .before .before .before .before .before .before .if1 .left) ∙ c .before .before .before .before .before .before .before .before .before .fault-at .ensures in
-    let kind = kind-2 _ (sym (c .before .before .before .before .before .before .two-bytes .ensures) ∙ c .before .before .before .before .before .match .keys2) in
-    let n = whole-length bytes (a .p .at) (whole bytes s (a .p) sound found) in
-    let on = ap (λ (m : ℕ). a .p .at + 4 + m) (ap length (c .before .before .before .before .before .before .before .body-at .ensures) ∙ n) in
-    pair-taken bytes s (a .p) sound found _ on kind _ _ _ (c .before .before .before .wide .ensures .0 ∙ ap (λ (l : Bytes). getD {A = ℕ} l 0 0) (c .before .before .before .before .before .before .before .body-at .ensures))
-    (ap (λ (l : Bytes). getD {A = ℕ} l 1 0) (c .before .before .before .before .before .before .before .body-at .ensures)) (c .with .ensures)
+    pair-taken (bytes (c .before .before .before .before .before .before .before .before)) (kept (c .before .before .before .before .before .before .before .before)) (p (c .before .before .before .before .before .before .before .before)) (sound (c .before .before .before .before .before .before .before .before)) (found (c .before .before .before .before .before .before .before .before)) _ (next-is (c .before .before .before .before .before .before .before)) (pair-kind (c .before .before .before .before .before)) _ _ _
+    (c .before .before .before .wide .ensures .0 ∙ first-byte (c .before .before .before .before .before .before .before)) (second-byte (c .before .before .before .before .before .before .before)) (c .with .ensures)
 
 same-length-5 : tie.Need-same-length-5
 same-length-5 c = search needs
@@ -213,32 +172,13 @@ same-length-6 : tie.Need-same-length-6
 same-length-6 c = search needs
 
 returns-4 : tie.Need-returns-4
-returns-4 c =
-    let a = c .before .before .before .before .before .before .before .before .before .before .args in
-    let s = store (a .names .now) (a .entries .now) (a .direct .now) in
-    let bytes = a .book .now in
-    let sound = c .before .before .before .before .before .before .before .before .before .before .pre in
-    let found = sym (c .before .before .before .if1 .left) ∙ c .before .before .before .before .fault-at .ensures in
-    let kind = kind-3 _ (sym (c .before .two-bytes .ensures) ∙ c .match .keys3) in
-    let n = whole-length bytes (a .p .at) (whole bytes s (a .p) sound found) in
-    let on = ap (λ (m : ℕ). a .p .at + 4 + m) (ap length (c .before .before .body-at .ensures) ∙ n) in
-    entry-taken bytes s (a .p) sound found _ on kind
+returns-4 c = entry-taken (bytes (c .before .before .before)) (kept (c .before .before .before)) (p (c .before .before .before)) (sound (c .before .before .before)) (found (c .before .before .before)) _ (next-is (c .before .before)) (entry-kind c)
 
 same-length-7 : tie.Need-same-length-7
 same-length-7 c = search needs
 
 returns-5 : tie.Need-returns-5
-returns-5 c =
-    let a = c .before .before .before .before .before .before .before .before .before .before .before .args in
-    let s = store (a .names .now) (a .entries .now) (a .direct .now) in
-    let bytes = a .book .now in
-    let sound = c .before .before .before .before .before .before .before .before .before .before .before .pre in
-    let found = sym (c .before .before .before .before .if1 .left) ∙ c .before .before .before .before .before .fault-at .ensures in
-    let none = c .before .match .rest in
-    let kind = kind-left bytes s (a .p) sound found _ (c .before .before .two-bytes .ensures) (none .0 .0 .1) (none .0 .1) (none .1) in
-    let n = whole-length bytes (a .p .at) (whole bytes s (a .p) sound found) in
-    let on = ap (λ (m : ℕ). a .p .at + 4 + m) (ap length (c .before .before .before .body-at .ensures) ∙ n) in
-    target-taken bytes s (a .p) sound found _ on kind _ (ap (λ (l : Bytes). getD {A = ℕ} l 0 0) (c .before .before .before .body-at .ensures))
+returns-5 c = target-taken (bytes (c .before .before .before .before)) (kept (c .before .before .before .before)) (p (c .before .before .before .before)) (sound (c .before .before .before .before)) (found (c .before .before .before .before)) _ (next-is (c .before .before .before)) (target-kind (c .before)) _ (first-byte (c .before .before .before))
 
 pub take-record-spec : {M : Type 1} → statement M
 take-record-spec =
