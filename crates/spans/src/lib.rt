@@ -58,7 +58,7 @@ fn next_row(order: &[u64], bases: &[u8], exponents: &[u8], rows: &[u64], k: usiz
 }
 
 // Makes row 0: of the empty string the empty stretch vanishes.
-pub fn begin(rows: &mut [u64])
+fn begin(rows: &mut [u64])
     requires { ⌜ HasRow (now rows) 0 ⌝ }
     ensures { λ _. ⌜ RowSays (now (rows .exit)) 0 (λ i. i ≡ 0) ⌝ }
 {
@@ -66,7 +66,7 @@ pub fn begin(rows: &mut [u64])
 }
 
 // Makes the row behind k, where the rows up to k are right for the string of the first k simple types.
-pub fn extend(order: &[u64], bases: &[u8], exponents: &[u8], k: usize, rows: &mut [u64])
+fn extend(order: &[u64], bases: &[u8], exponents: &[u8], k: usize, rows: &mut [u64])
     requires { ⌜ StringThere (now bases) (now exponents) (k + 1) ⌝ }
     requires { ⌜ HasRow (now rows) (k + 1) ⌝ }
     requires { ⌜ Right (InRows (now order)) (stringOf (now bases) (now exponents) k) (now rows) k ⌝ }
