@@ -7,7 +7,25 @@ use crate::random::Random;
 
 pub type TypeString = Vec<(u8, i8)>;
 
-const WORDS: [&str; 8] = ["a", "b", "ab", "A", "go", "~!", "4", "a-b"];
+/// Short words, and longer ones of which some differ in one byte at the front, in the middle or at the end.
+const WORDS: [&str; 16] = [
+    "a",
+    "b",
+    "ab",
+    "A",
+    "go",
+    "~!",
+    "4",
+    "a-b",
+    "bedside",
+    "transfer",
+    "transfes",
+    "Transfer",
+    "wheelchair",
+    "wheelxhair",
+    "stretcher-with-oxygen-to-ward17",
+    "stretcher-with-oxygen-to-ward71",
+];
 const NAMES: [&str; 7] = ["s", "n", "np", "x1", "x10", "o", "q"];
 
 /// Basic types with their order pairs and the target.
