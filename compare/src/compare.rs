@@ -85,7 +85,11 @@ pub fn run(cases: u64, seed: u64, readers: &[Reader]) -> bool {
     };
     let tallies = in_threads(part);
     print_tallies(&tallies, start.elapsed());
-    !differ.into_inner()
+    let alike = !differ.into_inner();
+    if alike {
+        println!("no difference");
+    }
+    alike
 }
 
 /// Runs each thread's part and puts the tallies together.
