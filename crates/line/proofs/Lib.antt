@@ -2,5 +2,6 @@
 pub mod WordLaws
 pub mod SplitLaws
 pub mod LookUpLaws
+pub mod FoundLaws
 pub mod LineLaws
 pub mod Passed

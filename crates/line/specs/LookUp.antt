@@ -4,7 +4,8 @@ use mathlib.Core.Path.{_≡_}
 use mathlib.Core.Bool.{true, false}
 use mathlib.Core.List.{List, map}
 use mathlib.Core.Option.{none, some}
-use lib.ListN.{length, getD}
+use lib.ListN.{length, getD, take}
+use Rattle.linking.specs.Reading.{NumberedEntry}
 use Rattle.book.specs.Format.{Bytes, Book, Entry, bodyAt, nextAt, entryOf, isEntry, wordOf, typePart}
 use Rattle.book.specs.Kept.{bodiesAt, Whole}
 use Rattle.line.specs.LineFaults.{sameWord, entriesFrom, simplesIn, maxSimples, entriesOfLine, entryFault, simplesOfWords, passed, stopped, lineCheck}
@@ -22,6 +23,35 @@ pub record Entries (bytes : Bytes) (offsets : List ℕ) (count : ℕ) : Type 0 w
   pub few : count ≤ 1024
   pub whole : Whole bytes offsets count
   pub layouts : (i : ℕ) → i < count → isEntry (bodyAt bytes (getD {A = ℕ} offsets i 0)) ≡ true
+
+-- The kept entry of a number, and those of the first n of a list of numbers.
+abbrev pub entryAt : Bytes → List ℕ → ℕ → NumberedEntry
+entryAt bytes offsets i = record { number = i; type = entryOf (bodyAt bytes (getD {A = ℕ} offsets i 0)) .type }
+
+abbrev pub entriesAt : Bytes → List ℕ → List ℕ → ℕ → List NumberedEntry
+entriesAt bytes offsets found n = map (entryAt bytes offsets) (take n found)
+
+-- The first n of a list are numbers of kept entries.
+pub record Numbers (count : ℕ) (found : List ℕ) (n : ℕ) : Type 0 where
+  pub few : n ≤ count
+  pub room : n ≤ length found
+  pub low : (k : ℕ) → k < n → getD {A = ℕ} found k 0 < count
+
+-- They are those of a word's entries, all of them, in the book's order.
+pub record FoundEntries (bytes : Bytes) (offsets : List ℕ) (count : ℕ) (word : Bytes) (found : List ℕ) (n : ℕ) : Type 0 where
+  pub numbers : Numbers count found n
+  pub all : entriesAt bytes offsets found n ≡ entriesFrom 0 (entriesKept bytes offsets count) word
+
+-- The first n of a list are numbers of entries that some caller keeps.
+pub record Held (bytes : Bytes) (offsets : List ℕ) (found : List ℕ) (n : ℕ) : Type 0 where
+  pub count : ℕ
+  pub entries : Entries bytes offsets count
+  pub numbers : Numbers count found n
+
+-- The number of simple types that they have together.
+pub record Tallied (bytes : Bytes) (offsets : List ℕ) (found : List ℕ) (n sum : ℕ) : Type 0 where
+  pub total : sum ≡ simplesIn (entriesAt bytes offsets found n)
+  pub small : sum ≤ 12288
 
 -- How many entries a word has, and how many simple types they have together.
 pub record Counts (bytes : Bytes) (offsets : List ℕ) (count : ℕ) (word : Bytes) (tally : Tally) : Type 0 where

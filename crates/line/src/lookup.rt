@@ -8,14 +8,61 @@ use book::layout::type_part;
 use book::layout::word_part;
 use book::rules::offset;
 ghost use mathlib.Core.Path.{_≡_};
+ghost use mathlib.Core.Bool.{true};
 ghost use Prim.Native.Nat.{_≤_, _<_};
 ghost use lib.ListN.{length};
-ghost use Rattle.book.specs.Format.{Book};
-ghost use Rattle.line.specs.LineFaults.{maxWords};
+ghost use Rattle.book.specs.Format.{Book, bodyAt, nextAt, isEntry, wordOf};
+ghost use Rattle.line.specs.LineFaults.{maxWords, sameWord};
 ghost use Rattle.line.specs.Split.{SplitInto};
-ghost use Rattle.line.specs.LookUp.{entriesKept, Entries, Counts, Countable, Counted, LookedUp, LineSays};
+ghost use Rattle.line.specs.LookUp.{entriesKept, Entries, FoundEntries, Held, Tallied, Counts, Countable, Counted, LookedUp, LineSays};
 
 pub const MAX_SIMPLES: usize = 512;
+
+// Whether the entry whose record stands at an offset is a word's.
+fn belongs(book: &[u8], at: usize, word: &[u8]) -> bool
+    requires { ⌜ (nextAt (now book) at ≤ length (now book)) × (isEntry (bodyAt (now book) at) ≡ true) ⌝ }
+    ensures { λ r. ⌜ r ≡ sameWord (wordOf (bodyAt (now (book .entry)) at)) (now (word .entry)) ⌝ }
+{
+    same(word_part(body_at(book, at)), word)
+}
+
+// Finds a word's entries: their numbers, in the book's order, are written to the front of `found`, and how many there are is returned.
+pub fn find_entries(
+    book: &[u8],
+    offsets: &[u16],
+    count: usize,
+    word: &[u8],
+    found: &mut [u16],
+) -> usize
+    requires { ⌜ Entries (now book) (now offsets) count × (count ≤ length (now found)) ⌝ }
+    ensures { λ r. ⌜ FoundEntries (now (book .entry)) (now (offsets .entry)) count (now (word .entry)) (now (found .exit)) r ⌝ }
+{
+    let mut n = 0;
+    let mut i = 0;
+    while i < count {
+        if belongs(book, offset(offsets[i]), word) {
+            found[n] = i as u16;
+            n += 1;
+        }
+        i += 1;
+    }
+    n
+}
+
+// How many simple types the first n entries found have together.
+pub fn tally_found(book: &[u8], offsets: &[u16], found: &[u16], n: usize) -> usize
+    requires { ⌜ Held (now book) (now offsets) (now found) n ⌝ }
+    ensures { λ r. ⌜ Tallied (now (book .entry)) (now (offsets .entry)) (now (found .entry)) n r ⌝ }
+{
+    let mut sum = 0;
+    let mut k = 0;
+    while k < n {
+        let at = offset(offsets[offset(found[k])]);
+        sum += type_part(body_at(book, at)).len() / 2;
+        k += 1;
+    }
+    sum
+}
 
 // The tally with one entry more, where it is the word's.
 fn tally_entry(book: &[u8], at: usize, word: &[u8], tally: Tally) -> Tally
