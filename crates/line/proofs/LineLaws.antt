@@ -16,10 +16,10 @@ use Rattle.book.specs.Format.{Bytes, Book}
 use Rattle.line.specs.Words.{Word, wordsOf}
 use Rattle.line.specs.LineFaults.{maxSimples, entriesFrom, entriesOf, entriesOfLine, byteFault, wordFault, entryFault, isEmpty, simplesIn, simplesOfWords, passed, stopped, lineCheck}
 use Rattle.line.specs.Split.{wordAt, wordsKept, SplitInto, Stopped, at-byte, at-word}
-use Rattle.line.specs.LookUp.{entriesKept, Counts, Missing, no-entry, too-many, LookedUp, LineSays}
+use Rattle.line.specs.LookUp.{entriesKept, entriesAt, FoundEntries, Tallied, Missing, no-entry, too-many, LookedUp, LineSays}
 use Rattle.line.specs.declared.Words.{Words as Split}
 use Rattle.line.specs.declared.Words.the-variants.{Found, Refused}
-use Rattle.line.specs.declared.Tally.{Tally}
+use Rattle.line.proofs.FoundLaws.{found-length}
 
 pub kept-length : (line : Bytes) (starts ends : List ℕ) (n : ℕ) → length (wordsKept line starts ends n) ≡ n
 unfolding wordsKept
@@ -77,27 +77,30 @@ module _ (B : Book) (line : Bytes) (starts ends : List ℕ) (words : ℕ) (s : S
   pub looking-start : Looking 0 0
   looking-start = record { inside = omega arith; found = refl; simples = omega arith; small = omega arith }
 
-  module _ (bytes : Bytes) (offsets : List ℕ) (count : ℕ) (kept : B .entries ≡ entriesKept bytes offsets count) (sum k : ℕ) (l : Looking sum k) (h : k < words) (tally : Tally) (t : Counts bytes offsets count (word k .bytes) tally) where
-    number : tally .entries ≡ length (entriesOf B (word k))
-    number = t .number ∙ ap (λ (es : List _). length (entriesFrom 0 es (word k .bytes))) (sym kept)
+  module _ (bytes : Bytes) (offsets : List ℕ) (count : ℕ) (kept : B .entries ≡ entriesKept bytes offsets count) (sum k : ℕ) (l : Looking sum k) (h : k < words) (found : List ℕ) (n : ℕ) (f : FoundEntries bytes offsets count (word k .bytes) found n) where
+    entries : entriesAt bytes offsets found n ≡ entriesOf B (word k)
+    entries = f .all ∙ ap (λ (es : List _). entriesFrom 0 es (word k .bytes)) (sym kept)
+
+    number : n ≡ length (entriesOf B (word k))
+    number = sym (found-length bytes offsets found n (f .numbers .room)) ∙ ap length entries
 
     unfolded : entryFault B (drop k (wordsOf line)) ≡ cond (isEmpty (entriesOf B (word k))) (some (word k .at)) (entryFault B (drop (k + 1) (wordsOf line)))
     unfolding entryFault
     unfolded = rw (words-at k h)
 
-    pub looking-none : tally .entries ≡ 0 → Missing B line 13 (word k .at)
+    pub looking-none : n ≡ 0 → Missing B line 13 (word k .at)
     looking-none e = no-entry (l .found ∙ unfolded ∙ ap (λ (b : Bool). cond b (some (word k .at)) (entryFault B (drop (k + 1) (wordsOf line)))) (empty (entriesOf B (word k)) (sym number ∙ e)))
       where
         empty : (es : List NumberedEntry) → length es ≡ 0 → isEmpty es ≡ true
         empty [] z = refl
         empty (x ∷ es) z = absurd (omega arith)
 
-    pub looking-next : (tally .entries ≡ 0 → ⊥) → Looking (sum + tally .simples) (k + 1)
-    looking-next n =
+    pub looking-next : (n ≡ 0 → ⊥) → (simples : ℕ) → Tallied bytes offsets found n simples → Looking (sum + simples) (k + 1)
+    looking-next any simples t =
         record {
           inside = omega arith;
-          found = l .found ∙ unfolded ∙ ap (λ (b : Bool). cond b (some (word k .at)) (entryFault B (drop (k + 1) (wordsOf line)))) (full (entriesOf B (word k)) (λ z. n (number ∙ z)));
-          simples = l .simples ∙ ap (λ (m : ℕ). sum + m) more ∙ sym (add-assoc sum (tally .simples) (simplesOfWords (leftWords (k + 1))));
+          found = l .found ∙ unfolded ∙ ap (λ (b : Bool). cond b (some (word k .at)) (entryFault B (drop (k + 1) (wordsOf line)))) (full (entriesOf B (word k)) (λ z. any (number ∙ z)));
+          simples = l .simples ∙ ap (λ (m : ℕ). sum + m) more ∙ sym (add-assoc sum simples (simplesOfWords (leftWords (k + 1))));
           small = omega (arith, l .small, t .small);
         }
       where
@@ -108,8 +111,8 @@ module _ (B : Book) (line : Bytes) (starts ends : List ℕ) (words : ℕ) (s : S
         added : simplesOfWords (leftWords k) ≡ simplesIn (entriesOf B (word k)) + simplesOfWords (leftWords (k + 1))
         added = ap (λ (ws : List Word). simplesOfWords (map (entriesOf B) ws)) (words-at k h) ∙ simples-cons (entriesOf B (word k)) (leftWords (k + 1))
 
-        more : simplesOfWords (leftWords k) ≡ tally .simples + simplesOfWords (leftWords (k + 1))
-        more = added ∙ ap (λ (m : ℕ). m + simplesOfWords (leftWords (k + 1))) (sym (t .sum ∙ ap (λ (es : List _). simplesIn (entriesFrom 0 es (word k .bytes))) (sym kept)))
+        more : simplesOfWords (leftWords k) ≡ simples + simplesOfWords (leftWords (k + 1))
+        more = added ∙ ap (λ (m : ℕ). m + simplesOfWords (leftWords (k + 1))) (sym (t .total ∙ ap simplesIn entries))
 
   pub none-left : (k : ℕ) → words ≤ k → drop k (wordsOf line) ≡ []
   none-left k h = drop-of-length-le (wordsOf line) {i = k} (omega (arith, words-length))

@@ -6,6 +6,7 @@ use book::compare::same;
 use book::layout::body_at;
 use book::layout::type_part;
 use book::layout::word_part;
+use book::rules::MAX_ENTRIES;
 use book::rules::offset;
 ghost use mathlib.Core.Path.{_≡_};
 ghost use mathlib.Core.Bool.{true};
@@ -110,19 +111,20 @@ fn look_up(
     requires { ⌜ Entries (now book) (now offsets) count × SplitInto (now line) (now starts) (now ends) words × (maxWords ≤ length (now starts)) × (maxWords ≤ length (now ends)) ⌝ }
     ensures { λ r. ⌜ ((B : Book) → B .entries ≡ entriesKept (now (book .entry)) (now (offsets .entry)) count → LookedUp B (now (line .entry)) words r) ⌝ }
 {
+    let mut found = [0; MAX_ENTRIES];
     let mut sum = 0;
     let mut k = 0;
     while k < words {
         let start = starts[k];
         let end = ends[k];
-        let tally = tally_word(book, offsets, count, &line[start..end]);
-        if tally.entries == 0 {
+        let n = find_entries(book, offsets, count, &line[start..end], &mut found);
+        if n == 0 {
             return Words::Refused {
                 number: 13,
                 value: start,
             };
         }
-        sum += tally.simples;
+        sum += tally_found(book, offsets, &found, n);
         k += 1;
     }
     if MAX_SIMPLES < sum {

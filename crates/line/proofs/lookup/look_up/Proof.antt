@@ -1,22 +1,24 @@
 -- `line::lookup::look_up` meets its contract: every word passed has an entry, and their simple types are summed.
 use native.Mathlib.Omega.{arith}
 use Prim.Native.Nat.{_-_, _*_, _≤_}
-use mathlib.Core.Path.{_≡_, refl}
+use mathlib.Core.Path.{_≡_, refl, _∙_}
+use lib.ListN.{length}
 use Rattle.line.proofs.LineLaws.{Looking, looking-start, looking-none, looking-next, looking-full, looking-end}
 use Rattle.line.specs.LookUp.{entriesKept}
 use Rattle.line.specs.Split.{SplitInto}
-use Rattle.book.specs.Format.{Book}
+use Rattle.book.specs.Format.{Book, maxEntries}
 use Rattle.line.proofs.lookup.look_up.Statement.{statement}
 use Rattle.line.proofs.lookup.look_up.Tie as tie
 
 abbrev Inv-loop : tie.InvT-loop
-Inv-loop book offsets count line starts ends words sum₀ k₀ sum k = (k ≤ words) × (sum ≤ 12288 * k) × ((B : Book) → B .entries ≡ entriesKept book offsets count → (s : SplitInto line starts ends words) → Looking B line starts ends words s sum k)
+Inv-loop book offsets count line starts ends words found₀ sum₀ k₀ found sum k =
+    (k ≤ words) × (sum ≤ 12288 * k) × (length found ≡ maxEntries) × ((B : Book) → B .entries ≡ entriesKept book offsets count → (s : SplitInto line starts ends words) → Looking B line starts ends words s sum k)
 
 abbrev μ-loop : tie.MeasureT-loop
-μ-loop book offsets count line starts ends words sum₀ k₀ sum k = words - k
+μ-loop book offsets count line starts ends words found₀ sum₀ k₀ found sum k = words - k
 
 loop-holds : tie.Need-loop-holds Inv-loop μ-loop
-loop-holds c = let a = c .before .before .before .before .before .args in (omega arith, omega arith, λ B kept s. looking-start B (a .line .now) (a .starts .now) (a .ends .now) (a .words) s)
+loop-holds c = let a = c .before .before .before .before .before .args in (omega arith, omega arith, refl, λ B kept s. looking-start B (a .line .now) (a .starts .now) (a .ends .now) (a .words) s)
 
 mul-start : tie.Need-mul-start Inv-loop μ-loop
 mul-start c = omega arith
@@ -30,47 +32,57 @@ mul-end c = omega arith
 shared-slice-read-end : tie.Need-shared-slice-read-end Inv-loop μ-loop
 shared-slice-read-end c = omega arith
 
-sub-tally-word : tie.Need-sub-tally-word Inv-loop μ-loop
-sub-tally-word c =
+sub-find-entries : tie.Need-sub-find-entries Inv-loop μ-loop
+sub-find-entries c =
     let lies = c .before .before .before .before .before .before .before .before .before .pre .1 .lying (c .before .before .before .loop .k) (omega arith) in
-    omega (arith, lies .0)
+    omega (arith, lies .0, lies .1)
 
-part-tally-word-start : tie.Need-part-tally-word-start Inv-loop μ-loop
-part-tally-word-start c =
+part-find-entries-start : tie.Need-part-find-entries-start Inv-loop μ-loop
+part-find-entries-start c =
     let lies = c .before .before .before .before .before .before .before .before .before .pre .1 .lying (c .before .before .before .loop .k) (omega arith) in
-    omega (arith, lies .0)
+    omega (arith, lies .0, lies .1)
 
-part-tally-word-end : tie.Need-part-tally-word-end Inv-loop μ-loop
-part-tally-word-end c =
+part-find-entries-end : tie.Need-part-find-entries-end Inv-loop μ-loop
+part-find-entries-end c =
     let lies = c .before .before .before .before .before .before .before .before .before .pre .1 .lying (c .before .before .before .loop .k) (omega arith) in
-    omega (arith, lies .1)
+    omega (arith, lies .0, lies .1)
 
-tally-word-requires : tie.Need-tally-word-requires Inv-loop μ-loop
-tally-word-requires c κs = c .before .before .before .before .before .before .before .before .before .before .pre .0
+slice-aggregate-find-entries : tie.Need-slice-aggregate-find-entries Inv-loop μ-loop
+slice-aggregate-find-entries c = omega (arith, c .before .before .before .before .before .loop .inv .2)
+
+find-entries-requires : tie.Need-find-entries-requires Inv-loop μ-loop
+find-entries-requires c κs = (c .before .before .before .before .before .before .before .before .before .before .before .pre .0, omega (arith, c .before .before .before .before .before .before .before .before .before .before .before .pre .0 .few, c .before .before .before .before .before .loop .inv .2))
 
 returns : tie.Need-returns Inv-loop μ-loop
 returns c =
-    let a = c .before .before .before .before .before .before .before .before .before .before .before .before .before .args in
-    let l = c .before .before .before .before .before .before .before .loop in
-    let s = c .before .before .before .before .before .before .before .before .before .before .before .before .before .pre .1 in
-    λ B kept. looking-none B (a .line .now) (a .starts .now) (a .ends .now) (a .words) s (a .book .now) (a .offsets .now) (a .count) kept (l .sum) (l .k) (l .inv .2 B kept s) (omega arith) _ (c .before .before .tally-word .ensures) (c .if1 .taken)
+    let a = c .before .before .before .before .before .before .before .before .before .before .before .before .before .before .args in
+    let l = c .before .before .before .before .before .before .before .before .loop in
+    let s = c .before .before .before .before .before .before .before .before .before .before .before .before .before .before .pre .1 in
+    λ B kept. looking-none B (a .line .now) (a .starts .now) (a .ends .now) (a .words) s (a .book .now) (a .offsets .now) (a .count) kept (l .sum) (l .k) (l .inv .3 B kept s) (c .before .before .before .before .before .before .before .loop-test .taken) _ _ (c .before .before .find-entries .ensures) (c .if1 .taken)
+
+slice-aggregate-tally-found : tie.Need-slice-aggregate-tally-found Inv-loop μ-loop
+slice-aggregate-tally-found c = omega (arith, c .before .before .before .before .before .before .before .before .before .loop .inv .2, c .before .before .before .find-entries .kept .1 .1 .1 .1 .0)
+
+tally-found-requires : tie.Need-tally-found-requires Inv-loop μ-loop
+tally-found-requires c κs = record { count = c .before .before .before .before .before .before .before .before .before .before .before .before .before .before .before .args .count; entries = c .before .before .before .before .before .before .before .before .before .before .before .before .before .before .before .pre .0; numbers = c .before .before .before .find-entries .ensures .numbers }
 
 add-sum : tie.Need-add-sum Inv-loop μ-loop
-add-sum c = omega (arith, c .before .before .before .before .before .before .before .before .before .before .before .before .before .before .pre .1 .few, c .before .before .before .tally-word .ensures .small)
+add-sum c = omega (arith, c .before .before .before .before .before .before .before .before .before .before .loop .inv .1, c .before .before .before .before .before .before .before .before .before .loop-test .taken, c .before .before .before .before .before .before .before .before .before .before .before .before .before .before .before .before .pre .1 .few, c .tally-found .ensures .small)
 
 add-k : tie.Need-add-k Inv-loop μ-loop
-add-k c = omega arith
+add-k c = omega (arith, c .before .before .before .before .before .before .before .before .before .loop-test .taken, c .before .before .before .before .before .before .before .before .before .before .before .before .before .before .before .before .pre .1 .few)
 
 loop-less : tie.Need-loop-less Inv-loop μ-loop
-loop-less c = omega arith
+loop-less c = omega (arith, c .before .before .before .before .before .before .before .before .before .loop-test .taken)
 
 loop-again : tie.Need-loop-again Inv-loop μ-loop
 loop-again c =
-    let a = c .before .before .before .before .before .before .before .before .before .before .before .before .before .before .args in
-    let l = c .before .before .before .before .before .before .before .before .loop in (
-      omega arith,
-      omega (arith, c .before .before .before .tally-word .ensures .small),
-      λ B kept s. looking-next B (a .line .now) (a .starts .now) (a .ends .now) (a .words) s (a .book .now) (a .offsets .now) (a .count) kept (l .sum) (l .k) (l .inv .2 B kept s) (omega arith) _ (c .before .before .before .tally-word .ensures) (c .before .if1 .left),
+    let a = c .before .before .before .before .before .before .before .before .before .before .before .before .before .before .before .before .args in
+    let l = c .before .before .before .before .before .before .before .before .before .before .loop in (
+      omega (arith, c .before .before .before .before .before .before .before .before .before .loop-test .taken),
+      omega (arith, l .inv .1, c .tally-found .ensures .small),
+      c .before .before .before .before .find-entries .kept .1 .1 .1 .1 .0 ∙ l .inv .2,
+      λ B kept s. looking-next B (a .line .now) (a .starts .now) (a .ends .now) (a .words) s (a .book .now) (a .offsets .now) (a .count) kept (l .sum) (l .k) (l .inv .3 B kept s) (c .before .before .before .before .before .before .before .before .before .loop-test .taken) _ _ (c .before .before .before .before .find-entries .ensures) (c .before .before .if1 .left) _ (c .tally-found .ensures),
     )
 
 returns-2 : tie.Need-returns-2 Inv-loop μ-loop
@@ -78,14 +90,14 @@ returns-2 c =
     let a = c .before .before .before .before .before .before .before .before .args in
     let l = c .before .before .loop in
     let s = c .before .before .before .before .before .before .before .before .pre .1 in
-    λ B kept. looking-full B (a .line .now) (a .starts .now) (a .ends .now) (a .words) s (l .sum) (l .k) (l .inv .2 B kept s) (omega arith) (c .if2 .taken)
+    λ B kept. looking-full B (a .line .now) (a .starts .now) (a .ends .now) (a .words) s (l .sum) (l .k) (l .inv .3 B kept s) (omega arith) (c .if2 .taken)
 
 returns-3 : tie.Need-returns-3 Inv-loop μ-loop
 returns-3 c =
     let a = c .before .before .before .before .before .before .before .before .args in
     let l = c .before .before .loop in
     let s = c .before .before .before .before .before .before .before .before .pre .1 in
-    λ B kept. let e = looking-end B (a .line .now) (a .starts .now) (a .ends .now) (a .words) s (l .sum) (l .k) (l .inv .2 B kept s) (omega arith) (omega arith) in (refl, e .0, e .1)
+    λ B kept. let e = looking-end B (a .line .now) (a .starts .now) (a .ends .now) (a .words) s (l .sum) (l .k) (l .inv .3 B kept s) (omega arith) (omega arith) in (refl, e .0, e .1)
 
 pub look-up-spec : {M : Type 1} → statement M
 look-up-spec =
@@ -98,11 +110,14 @@ look-up-spec =
     shared-slice-read-start
     mul-end
     shared-slice-read-end
-    sub-tally-word
-    part-tally-word-start
-    part-tally-word-end
-    tally-word-requires
+    sub-find-entries
+    part-find-entries-start
+    part-find-entries-end
+    slice-aggregate-find-entries
+    find-entries-requires
     returns
+    slice-aggregate-tally-found
+    tally-found-requires
     add-sum
     add-k
     loop-less
