@@ -3,21 +3,23 @@ use Prim.Native.Nat.{ℕ, zero, suc, _+_, _/_, _%_, _≤_, _<_}
 use native.Mathlib.Omega.{arith}
 use native.Mathlib.Decide.{decLt}
 use mathlib.Core.Path.{_≡_, refl, sym, ap, subst, _∙_}
-use mathlib.Core.Bool.{Bool, true, false, cond, _&&_, _||_, true≢false, false≢true}
+use mathlib.Core.Bool.{Bool, true, false, _&&_, _||_, true≢false, false≢true}
 use mathlib.Core.List.{List, [], _∷_}
 use lib.Dec.{eqb}
 use lib.ListN.{length, getD, set, length-set}
 use lib.Seq.{getD-set-same}
 use borrow.Author.Tests.{ne-eqb}
 use Rattle.linking.specs.Reading.{NumberedEntry}
-use Rattle.book.specs.Format.{Bytes, simplesOf, bodyAt, entryOf, sameBytes, typePart}
+use Rattle.book.specs.Format.{Bytes, simplesOf, bodyAt, typePart}
 use Rattle.book.proofs.Layouts.{entry-shape}
 use Rattle.line.specs.LineFaults.{simplesIn}
-use Rattle.line.proofs.LookUpLaws.{simples-length, left, left-same, left-other, left-end}
+use Rattle.line.specs.LookUp.{entryAt, entriesAt}
+use Rattle.line.proofs.LookUpLaws.{simples-length}
+use Rattle.line.proofs.FoundLaws.{onward, onward-next, onward-end}
 use Rattle.chart.specs.Graph.{Graph}
 use Rattle.chart.specs.Completion.{Boundary, Entry}
 use Rattle.lattice.specs.Layout.{hasNone, slotted, Slots, slot}
-use Rattle.lattice.specs.Cells.{maxNodes, Cells, cells, nodes, cellsGraph, Continues, Typed, Placed, Lays, SlotFits, EntryFits, withEntry, EntriesFit, entriesOfWord}
+use Rattle.lattice.specs.Cells.{maxNodes, Cells, cells, nodes, cellsGraph, Continues, Typed, Placed, Lays, SlotFits, EntriesFit}
 use Rattle.lattice.specs.declared.Place.{Place}
 use Rattle.lattice.proofs.TypeLaws.{SameNode, entry-later, continues-back, kept-here, same-set}
 
@@ -191,59 +193,24 @@ module _ (part : Bytes) (number b : ℕ) (p : Place) (c : Cells) (f : SlotFits p
           entered = each;
         }
 
--- The entry of a record, where it is another word's and where it is the word's.
-module _ (bytes : Bytes) (at number : ℕ) (word : Bytes) (b : ℕ) (p : Place) (c : Cells) (n : EntryFits bytes at number word b p c) where
-  abbrev mine : Bool
-  mine = sameBytes (entryOf (bodyAt bytes at) .word) word
-
-  abbrev record-entry : NumberedEntry
-  record-entry = record { number = number; type = entryOf (bodyAt bytes at) .type }
-
-  with-other : (rest : List NumberedEntry) → mine ≡ false → withEntry bytes at number word rest ≡ rest
-  with-other rest e = ap (λ (t : Bool). cond t (record-entry ∷ rest) rest) e
-
-  pub entry-other : mine ≡ false → (rest : List NumberedEntry) → Lays b p c p c (withEntry bytes at number word rest) rest
-  entry-other e rest =
-      lays-same b p c (withEntry bytes at number word rest) rest (n .placed) (ap (slotted (p .seen)) (with-other rest e)) (ap simplesIn (with-other rest e))
-
-  module _ (e : mine ≡ true) (part : Bytes) (s : part ≡ typePart (bodyAt bytes at)) where
-    pub entry-slot-fits : SlotFits part number b p c
-    entry-slot-fits =
-        rw s
-        (record {
-          pairs = entry-shape _ (n .layout) .pairs;
-          listed = n .listed;
-          fits = n .fits e;
-          low = n .low;
-          placed = n .placed;
-        })
-
-    pub entry-same : (p′ : Place) (c′ : Cells)
-        → ((rest : List NumberedEntry) → Lays b p c p′ c′ (record { number = number; type = simplesOf part } ∷ rest) rest)
-        → (rest : List NumberedEntry) → Lays b p c p′ c′ (withEntry bytes at number word rest) rest
-    entry-same p′ c′ l rest =
-        let order : withEntry bytes at number word rest ≡ record { number = number; type = simplesOf part } ∷ rest =
-        ap (λ (t : Bool). cond t (record-entry ∷ rest) rest) e ∙ ap (λ (q : Bytes). record { number = number; type = simplesOf q } ∷ rest) (sym s) in
-        rw order (l rest)
-
--- The loop over the book's entries.
-module _ (bytes : Bytes) (offsets : List ℕ) (count : ℕ) (word : Bytes) (b : ℕ) (p : Place) (c : Cells) where
-  -- How it stands before the i-th entry.
-  pub record Entering (place : Place) (c′ : Cells) (i : ℕ) : Type 0 where
-    pub inside : i ≤ count
-    pub lays : Lays b p c place c′ (left bytes offsets count word 0) (left bytes offsets count word i)
+-- The loop over the entries found.
+module _ (bytes : Bytes) (offsets found : List ℕ) (n b : ℕ) (p : Place) (c : Cells) where
+  -- How it stands before the k-th.
+  pub record Entering (place : Place) (c′ : Cells) (k : ℕ) : Type 0 where
+    pub inside : k ≤ n
+    pub lays : Lays b p c place c′ (entriesAt bytes offsets found n) (onward bytes offsets found n k)
     pub bases-length : length (c′ .bases) ≡ length (c .bases)
     pub exponents-length : length (c′ .exponents) ≡ length (c .exponents)
     pub nexts-length : length (c′ .nexts) ≡ length (c .nexts)
     pub enters-length : length (c′ .enters) ≡ length (c .enters)
     pub numbers-length : length (c′ .numbers) ≡ length (c .numbers)
 
-  module _ (n : EntriesFit bytes offsets count word b p c) where
+  module _ (f : EntriesFit bytes offsets found n b p c) where
     pub entering-start : Entering p c 0
     entering-start =
         record {
           inside = omega arith;
-          lays = lays-same b p c (left bytes offsets count word 0) (left bytes offsets count word 0) (n .placed) refl refl;
+          lays = lays-same b p c (entriesAt bytes offsets found n) (entriesAt bytes offsets found n) (f .placed) refl refl;
           bases-length = refl;
           exponents-length = refl;
           nexts-length = refl;
@@ -251,47 +218,43 @@ module _ (bytes : Bytes) (offsets : List ℕ) (count : ℕ) (word : Bytes) (b : 
           numbers-length = refl;
         }
 
-    pub entering-end : (place : Place) (c′ : Cells) (i : ℕ) → Entering place c′ i → count ≤ i → Lays b p c place c′ (entriesOfWord bytes offsets count word) []
-    entering-end place c′ i s h = rw (left-end bytes offsets count (n .lexicon .entries) word i h) at (s .lays)
+    pub entering-end : (place : Place) (c′ : Cells) (k : ℕ) → Entering place c′ k → n ≤ k → Lays b p c place c′ (entriesAt bytes offsets found n) []
+    entering-end place c′ k s h = rw (onward-end bytes offsets found n (f .named .room) k h) at (s .lays)
 
-    module _ (place : Place) (c′ : Cells) (i : ℕ) (s : Entering place c′ i) (h : i < count) where
-      abbrev at : ℕ
-      at = getD {A = ℕ} offsets i 0
+    -- The k-th, by its number and the bytes of its type.
+    module _ (place : Place) (c′ : Cells) (k : ℕ) (s : Entering place c′ k) (h : k < n) (number : ℕ) (named : number ≡ getD {A = ℕ} found k 0)
+        (part : Bytes) (here : part ≡ typePart (bodyAt bytes (getD {A = ℕ} offsets number 0))) where
+      abbrev k-th : NumberedEntry
+      k-th = record { number = number; type = simplesOf part }
 
-      abbrev i-th : NumberedEntry
-      i-th = record { number = i; type = entryOf (bodyAt bytes at) .type }
+      abbrev behind : List NumberedEntry
+      behind = onward bytes offsets found n (k + 1)
 
-      -- The entries left are this one, where it is the word's, and those behind it.
-      left-here : left bytes offsets count word i ≡ withEntry bytes at i word (left bytes offsets count word (i + 1))
-      left-here = go (sameBytes (entryOf (bodyAt bytes at) .word) word) refl
-        where
-          behind : List NumberedEntry
-          behind = left bytes offsets count word (i + 1)
+      low : number < f .count
+      low = rw named (f .named .low k h)
 
-          go : (t : Bool) → sameBytes (entryOf (bodyAt bytes at) .word) word ≡ t → left bytes offsets count word i ≡ withEntry bytes at i word behind
-          go true e = left-same bytes offsets count (n .lexicon .entries) word i h e ∙ sym (ap (λ (t : Bool). cond t (i-th ∷ behind) behind) e)
-          go false e = left-other bytes offsets count (n .lexicon .entries) word i h e ∙ sym (ap (λ (t : Bool). cond t (i-th ∷ behind) behind) e)
+      pairs : length part % 2 ≡ 0
+      pairs = rw here (entry-shape (bodyAt bytes (getD {A = ℕ} offsets number 0)) (f .lexicon .entries .layouts number low) .pairs)
 
-      fits : sameBytes (entryOf (bodyAt bytes at) .word) word ≡ true → place .node + length (typePart (bodyAt bytes at)) / 2 ≤ b
-      fits e =
-          let same = ap simplesIn (left-same bytes offsets count (n .lexicon .entries) word i h e) ∙ simples-cons i-th (left bytes offsets count word (i + 1)) in
-          let long = simples-length (typePart (bodyAt bytes at)) (entry-shape (bodyAt bytes at) (n .lexicon .entries .layouts i h) .pairs) in
-          omega (arith, same, long, s .lays .count, n .fits)
+      -- The entries left are this one and those behind it.
+      left-here : onward bytes offsets found n k ≡ k-th ∷ behind
+      left-here =
+          onward-next bytes offsets found n (f .named .room) k h ∙ ap (λ (m : ℕ). entryAt bytes offsets m ∷ behind) (sym named)
+          ∙ ap (λ (q : Bytes). record { number = number; type = simplesOf q } ∷ behind) (sym here)
 
-      pub entering-fits : EntryFits bytes at i word b place c′
+      pub entering-fits : SlotFits part number b place c′
       entering-fits =
+          let sum = ap simplesIn left-here ∙ simples-cons k-th behind in
+          let long = simples-length part pairs in
           record {
-            whole = n .lexicon .entries .whole .whole i h;
-            layout = n .lexicon .entries .layouts i h;
-            listed = n .lexicon .listed i h;
-            low = omega (arith, n .lexicon .entries .few);
-            fits = fits;
+            pairs = pairs;
+            listed = rw here (f .lexicon .listed number low);
+            fits = omega (arith, sum, long, s .lays .count, f .fits);
+            low = omega (arith, low, f .lexicon .entries .few);
             placed = s .lays .placed;
           }
 
-      pub entering-next : (place′ : Place) (c″ : Cells) → ((rest : List NumberedEntry) → Lays b place c′ place′ c″ (withEntry bytes at i word rest) rest)
-          → Lays b p c place′ c″ (left bytes offsets count word 0) (left bytes offsets count word (i + 1))
+      pub entering-next : (place′ : Place) (c″ : Cells) → ((rest : List NumberedEntry) → Lays b place c′ place′ c″ (k-th ∷ rest) rest)
+          → Lays b p c place′ c″ (entriesAt bytes offsets found n) behind
       entering-next place′ c″ l =
-          lays-then (s .lays)
-          (subst (λ (es : List NumberedEntry). Lays b place c′ place′ c″ es (left bytes offsets count word (i + 1))) (sym left-here)
-          (l (left bytes offsets count word (i + 1))))
+          lays-then (s .lays) (subst (λ (es : List NumberedEntry). Lays b place c′ place′ c″ es behind) (sym left-here) (l behind))

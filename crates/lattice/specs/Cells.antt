@@ -2,13 +2,13 @@
 -- is laid is said of every graph that agrees with the lists as far as they are filled, so later stores cannot disturb it.
 use Prim.Native.Nat.{ℕ, _+_, _/_, _%_, _≤_, _<_}
 use mathlib.Core.Path.{_≡_}
-use mathlib.Core.Bool.{true, false, cond}
-use mathlib.Core.List.{List, [], _∷_}
+use mathlib.Core.Bool.{true, false}
+use mathlib.Core.List.{List, []}
 use lib.ListN.{length, getD}
 use Rattle.linking.specs.Reading.{NumberedEntry}
-use Rattle.book.specs.Format.{Bytes, bodyAt, nextAt, entryOf, isEntry, wordOf, typePart, simplesOf, every, exponents, exponentListed}
-use Rattle.line.specs.LineFaults.{sameWord, entriesFrom, simplesIn}
-use Rattle.line.specs.LookUp.{entriesKept, Entries}
+use Rattle.book.specs.Format.{Bytes, bodyAt, typePart, simplesOf, every, exponents, exponentListed}
+use Rattle.line.specs.LineFaults.{entriesFrom, simplesIn}
+use Rattle.line.specs.LookUp.{entriesKept, Entries, entriesAt, Numbers}
 use Rattle.chart.specs.Graph.{Graph, graph}
 use Rattle.chart.specs.Completion.{Boundary, Entry}
 use Rattle.lattice.specs.Layout.{Slots, slotted}
@@ -111,20 +111,6 @@ pub record SlotFits (part : Bytes) (number b : ℕ) (p : Place) (c : Cells) : Ty
   pub low : number ≤ 1024
   pub placed : Placed b p c
 
--- An entry of the book put before others, where it is the word's.
-abbrev pub withEntry : Bytes → ℕ → ℕ → Bytes → List NumberedEntry → List NumberedEntry
-withEntry bytes at number word rest =
-    cond (sameWord (entryOf (bodyAt bytes at) .word) word) (record { number = number; type = entryOf (bodyAt bytes at) .type } ∷ rest) rest
-
--- The record at an offset is an entry's, and it can be laid where it is the word's.
-pub record EntryFits (bytes : Bytes) (at number : ℕ) (word : Bytes) (b : ℕ) (p : Place) (c : Cells) : Type 0 where
-  pub whole : nextAt bytes at ≤ length bytes
-  pub layout : isEntry (bodyAt bytes at) ≡ true
-  pub listed : Listed (typePart (bodyAt bytes at))
-  pub low : number ≤ 1024
-  pub fits : sameWord (wordOf (bodyAt bytes at)) word ≡ true → p .node + length (typePart (bodyAt bytes at)) / 2 ≤ b
-  pub placed : Placed b p c
-
 -- The entries that are kept of a book, with exponents from −8 to 8.
 pub record Lexicon (bytes : Bytes) (offsets : List ℕ) (count : ℕ) : Type 0 where
   pub entries : Entries bytes offsets count
@@ -134,8 +120,10 @@ pub record Lexicon (bytes : Bytes) (offsets : List ℕ) (count : ℕ) : Type 0 w
 abbrev pub entriesOfWord : Bytes → List ℕ → ℕ → Bytes → List NumberedEntry
 entriesOfWord bytes offsets count word = entriesFrom 0 (entriesKept bytes offsets count) word
 
--- All entries of a word can be laid from the place p on, before the boundary b.
-pub record EntriesFit (bytes : Bytes) (offsets : List ℕ) (count : ℕ) (word : Bytes) (b : ℕ) (p : Place) (c : Cells) : Type 0 where
+-- The first n entries found can be laid from the place p on, before the boundary b.
+pub record EntriesFit (bytes : Bytes) (offsets found : List ℕ) (n b : ℕ) (p : Place) (c : Cells) : Type 0 where
+  pub count : ℕ
   pub lexicon : Lexicon bytes offsets count
+  pub named : Numbers count found n
   pub placed : Placed b p c
-  pub fits : p .node + simplesIn (entriesOfWord bytes offsets count word) ≤ b
+  pub fits : p .node + simplesIn (entriesAt bytes offsets found n) ≤ b

@@ -1,11 +1,11 @@
 // Lays a checked line out: each word a boundary, then the simple types of its entries, and behind the last word the target.
 use crate::Place;
-use book::compare::same;
 use book::layout::body_at;
 use book::layout::type_part;
-use book::layout::word_part;
+use book::rules::MAX_ENTRIES;
 use book::rules::offset;
-use line::lookup::tally_word;
+use line::lookup::find_entries;
+use line::lookup::tally_found;
 use pregroup::EXPONENT_BIAS;
 ghost use mathlib.Core.Path.{_≡_};
 ghost use mathlib.Core.Bool.{true};
@@ -16,7 +16,8 @@ ghost use Rattle.pregroup.specs.Held.{bias};
 ghost use Rattle.book.specs.Format.{exponentOf, exponentListed, simplesOf};
 ghost use Rattle.linking.specs.Reading.{NumberedEntry, Words};
 ghost use Rattle.line.specs.Words.{wordsOf};
-ghost use Rattle.lattice.specs.Cells.{maxNodes, cells, nodes, TypeFits, Typed, SlotFits, EntryFits, Lays, withEntry, EntriesFit, entriesOfWord};
+ghost use Rattle.line.specs.LookUp.{entriesAt};
+ghost use Rattle.lattice.specs.Cells.{maxNodes, cells, nodes, TypeFits, Typed, SlotFits, Lays, EntriesFit, entriesOfWord};
 ghost use Rattle.lattice.specs.Lists.{lists, WordFits, WordsFit, Lined, entriesOfWords, Ended, Standing, LineFits, LaidOut};
 
 // The byte of the least exponent, -8, which is held as 0.
@@ -95,46 +96,12 @@ fn lay_slot(
     }
 }
 
-// Lays the entry whose record stands at an offset of the book, where it is the word's.
-fn lay_entry(
-    book: &[u8],
-    at: usize,
-    number: usize,
-    word: &[u8],
-    boundary: usize,
-    p: Place,
-    bases: &mut [u8],
-    exponents: &mut [u8],
-    nexts: &mut [u16],
-    enters: &mut [u16],
-    numbers: &mut [u16],
-) -> Place
-    requires { ⌜ EntryFits (now book) at number (now word) boundary p (cells (now bases) (now exponents) (now nexts) (now enters) (now numbers)) ⌝ }
-    ensures { λ r. ⌜ ((rest : List NumberedEntry) → Lays boundary p (cells (now (bases .entry)) (now (exponents .entry)) (now (nexts .entry)) (now (enters .entry)) (now (numbers .entry))) r (cells (now (bases .exit)) (now (exponents .exit)) (now (nexts .exit)) (now (enters .exit)) (now (numbers .exit))) (withEntry (now (book .entry)) at number (now (word .entry)) rest) rest) ⌝ }
-{
-    let body = body_at(book, at);
-    if !same(word_part(body), word) {
-        return p;
-    }
-    lay_slot(
-        type_part(body),
-        number,
-        boundary,
-        p,
-        bases,
-        exponents,
-        nexts,
-        enters,
-        numbers,
-    )
-}
-
-// Lays all entries of a word, in the book's order, before the boundary behind the word.
+// Lays the first n entries found, in their order, before the boundary behind the word.
 fn lay_entries(
     book: &[u8],
     offsets: &[u16],
-    count: usize,
-    word: &[u8],
+    found: &[u16],
+    n: usize,
     boundary: usize,
     p: Place,
     bases: &mut [u8],
@@ -143,18 +110,17 @@ fn lay_entries(
     enters: &mut [u16],
     numbers: &mut [u16],
 ) -> Place
-    requires { ⌜ EntriesFit (now book) (now offsets) count (now word) boundary p (cells (now bases) (now exponents) (now nexts) (now enters) (now numbers)) ⌝ }
-    ensures { λ r. ⌜ Lays boundary p (cells (now (bases .entry)) (now (exponents .entry)) (now (nexts .entry)) (now (enters .entry)) (now (numbers .entry))) r (cells (now (bases .exit)) (now (exponents .exit)) (now (nexts .exit)) (now (enters .exit)) (now (numbers .exit))) (entriesOfWord (now (book .entry)) (now (offsets .entry)) count (now (word .entry))) [] ⌝ }
+    requires { ⌜ EntriesFit (now book) (now offsets) (now found) n boundary p (cells (now bases) (now exponents) (now nexts) (now enters) (now numbers)) ⌝ }
+    ensures { λ r. ⌜ Lays boundary p (cells (now (bases .entry)) (now (exponents .entry)) (now (nexts .entry)) (now (enters .entry)) (now (numbers .entry))) r (cells (now (bases .exit)) (now (exponents .exit)) (now (nexts .exit)) (now (enters .exit)) (now (numbers .exit))) (entriesAt (now (book .entry)) (now (offsets .entry)) (now (found .entry)) n) [] ⌝ }
 {
     let mut place = p;
-    let mut i = 0;
-    while i < count {
-        let at = offset(offsets[i]);
-        place = lay_entry(
-            book,
-            at,
-            i,
-            word,
+    let mut k = 0;
+    while k < n {
+        let number = offset(found[k]);
+        let part = type_part(body_at(book, offset(offsets[number])));
+        place = lay_slot(
+            part,
+            number,
             boundary,
             place,
             bases,
@@ -163,13 +129,13 @@ fn lay_entries(
             enters,
             numbers,
         );
-        i += 1;
+        k += 1;
     }
     place
 }
 
-// Lays a word at the boundary of a place: the range of its slots, and its entries. The place behind it is at the next boundary, which is
-// known beforehand from the number of simple types.
+// Lays a word at the boundary of a place: the range of its slots, and its entries, which are found once. The place behind it is at the next
+// boundary, which is known beforehand from the number of simple types.
 fn lay_word(
     book: &[u8],
     offsets: &[u16],
@@ -189,8 +155,9 @@ fn lay_word(
 {
     let node = p.node;
     let slot = p.slot;
-    let tally = tally_word(book, offsets, count, word);
-    let boundary = node + 1 + tally.simples;
+    let mut found = [0; MAX_ENTRIES];
+    let n = find_entries(book, offsets, count, word, &mut found);
+    let boundary = node + 1 + tally_found(book, offsets, &found, n);
     let first = Place {
         node: node + 1,
         slot,
@@ -199,8 +166,8 @@ fn lay_word(
     let last = lay_entries(
         book,
         offsets,
-        count,
-        word,
+        &found,
+        n,
         boundary,
         first,
         bases,

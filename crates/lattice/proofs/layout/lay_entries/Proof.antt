@@ -7,47 +7,72 @@ use Rattle.lattice.proofs.layout.lay_entries.Statement.{statement}
 use Rattle.lattice.proofs.layout.lay_entries.Tie as tie
 
 abbrev Inv-loop : tie.InvT-loop
-Inv-loop book offsets count word boundary bases₀ exponents₀ nexts₀ enters₀ numbers₀ place₀ i₀ bases exponents nexts enters numbers place i =
-    Entering book offsets count word boundary place₀ (cells bases₀ exponents₀ nexts₀ enters₀ numbers₀) place (cells bases exponents nexts enters numbers) i
+Inv-loop book offsets found n boundary bases₀ exponents₀ nexts₀ enters₀ numbers₀ place₀ k₀ bases exponents nexts enters numbers place k =
+    Entering book offsets found n boundary place₀ (cells bases₀ exponents₀ nexts₀ enters₀ numbers₀) place (cells bases exponents nexts enters numbers) k
 
 abbrev μ-loop : tie.MeasureT-loop
-μ-loop book offsets count word boundary bases₀ exponents₀ nexts₀ enters₀ numbers₀ place₀ i₀ bases exponents nexts enters numbers place i =
-    count - i
+μ-loop book offsets found n boundary bases₀ exponents₀ nexts₀ enters₀ numbers₀ place₀ k₀ bases exponents nexts enters numbers place k =
+    n - k
 
 loop-holds : tie.Need-loop-holds Inv-loop μ-loop
 loop-holds c =
     let a = c .before .before .before .before .before .before .before .before .args in
-    entering-start (a .book .now) (a .offsets .now) (a .count) (a .word .now) (a .boundary) (a .p) (cells (a .bases .now) (a .exponents .now) (a .nexts .now) (a .enters .now) (a .numbers .now)) (c .before .before .before .before .before .before .before .before .pre)
+    entering-start (a .book .now) (a .offsets .now) (a .found .now) (a .n) (a .boundary) (a .p) (cells (a .bases .now) (a .exponents .now) (a .nexts .now) (a .enters .now) (a .numbers .now)) (c .before .before .before .before .before .before .before .before .pre)
 
 mul-offset : tie.Need-mul-offset Inv-loop μ-loop
-mul-offset c = omega arith
+mul-offset c = omega (arith, c .loop-test .taken, c .before .before .before .before .before .before .before .before .before .before .pre .named .few, c .before .before .before .before .before .before .before .before .before .before .pre .lexicon .entries .few)
 
 shared-slice-read-offset : tie.Need-shared-slice-read-offset Inv-loop μ-loop
-shared-slice-read-offset c = omega (arith, c .before .before .before .before .before .before .before .before .before .before .before .pre .lexicon .entries .whole .room)
+shared-slice-read-offset c = omega (arith, c .before .loop-test .taken, c .before .before .before .before .before .before .before .before .before .before .before .pre .named .room)
 
 offset-requires : tie.Need-offset-requires Inv-loop μ-loop
 offset-requires c κs = omega arith
 
-lay-entry-requires : tie.Need-lay-entry-requires Inv-loop μ-loop
-lay-entry-requires c κs =
-    let a = c .before .before .before .before .before .before .before .before .before .before .before .before .before .before .before .before .before .args in
-    let l = c .before .before .before .before .before .before .before .before .loop in
-    rw (c .before .before .before .before .before .offset .ensures) (entering-fits (a .book .now) (a .offsets .now) (a .count) (a .word .now) (a .boundary) (a .p) (cells (a .bases .now) (a .exponents .now) (a .nexts .now) (a .enters .now) (a .numbers .now)) (c .before .before .before .before .before .before .before .before .before .before .before .before .before .before .before .before .before .pre) (l .place) (cells (l .bases) (l .exponents) (l .nexts) (l .enters) (l .numbers)) (l .i) (l .inv) (omega arith))
+mul-offset-2 : tie.Need-mul-offset-2 Inv-loop μ-loop
+mul-offset-2 c =
+    let low = c .before .before .before .before .before .before .before .before .before .before .before .before .pre .named .low (c .before .before .before .loop .k) (c .before .before .loop-test .taken) in
+    omega (arith, low, c .offset .ensures, c .before .before .before .before .before .before .before .before .before .before .before .before .pre .lexicon .entries .few)
 
-add-i : tie.Need-add-i Inv-loop μ-loop
-add-i c = omega arith
+shared-slice-read-offset-2 : tie.Need-shared-slice-read-offset-2 Inv-loop μ-loop
+shared-slice-read-offset-2 c =
+    let low = c .before .before .before .before .before .before .before .before .before .before .before .before .before .pre .named .low (c .before .before .before .before .loop .k) (c .before .before .before .loop-test .taken) in
+    omega (arith, low, c .before .offset .ensures, c .before .before .before .before .before .before .before .before .before .before .before .before .before .pre .lexicon .entries .whole .room)
+
+offset-requires-2 : tie.Need-offset-requires-2 Inv-loop μ-loop
+offset-requires-2 c κs = omega arith
+
+body-at-requires : tie.Need-body-at-requires Inv-loop μ-loop
+body-at-requires c κs =
+    let low = c .before .before .before .before .before .before .before .before .before .before .before .before .before .before .pre .named .low (c .before .before .before .before .before .loop .k) (c .before .before .before .before .loop-test .taken) in
+    rw (c .offset2 .ensures, c .before .before .offset .ensures) (c .before .before .before .before .before .before .before .before .before .before .before .before .before .before .pre .lexicon .entries .whole .whole _ low)
+
+type-part-requires : tie.Need-type-part-requires Inv-loop μ-loop
+type-part-requires c κs =
+    let low = c .before .before .before .before .before .before .before .before .before .before .before .before .before .before .before .pre .named .low (c .before .before .before .before .before .before .loop .k) (c .before .before .before .before .before .loop-test .taken) in
+    rw (c .body-at .ensures, c .before .offset2 .ensures, c .before .before .before .offset .ensures) (c .before .before .before .before .before .before .before .before .before .before .before .before .before .before .before .pre .lexicon .entries .layouts _ low)
+
+lay-slot-requires : tie.Need-lay-slot-requires Inv-loop μ-loop
+lay-slot-requires c κs =
+    let a = c .before .before .before .before .before .before .before .before .before .before .before .before .before .before .before .before .before .before .before .before .before .args in
+    let l = c .before .before .before .before .before .before .before .before .before .before .before .before .loop in
+    let part = rw (c .before .before .before .before .before .before .body-at .ensures, c .before .before .before .before .before .before .before .offset2 .ensures) at (c .before .before .before .before .before .type-part .ensures) in
+    entering-fits (a .book .now) (a .offsets .now) (a .found .now) (a .n) (a .boundary) (a .p) (cells (a .bases .now) (a .exponents .now) (a .nexts .now) (a .enters .now) (a .numbers .now)) (c .before .before .before .before .before .before .before .before .before .before .before .before .before .before .before .before .before .before .before .before .before .pre) (l .place) (cells (l .bases) (l .exponents) (l .nexts) (l .enters) (l .numbers)) (l .k) (l .inv) (c .before .before .before .before .before .before .before .before .before .before .before .loop-test .taken) (c .before .before .before .before .before .before .before .before .before .offset .result) (c .before .before .before .before .before .before .before .before .before .offset .ensures) (c .before .before .before .before .before .type-part .result .now) part
+
+add-k : tie.Need-add-k Inv-loop μ-loop
+add-k c = omega (arith, c .before .before .before .before .before .before .before .before .before .before .before .before .before .before .before .before .before .before .before .before .before .before .loop-test .taken, c .before .before .before .before .before .before .before .before .before .before .before .before .before .before .before .before .before .before .before .before .before .before .before .before .before .before .before .before .before .before .before .before .pre .named .few, c .before .before .before .before .before .before .before .before .before .before .before .before .before .before .before .before .before .before .before .before .before .before .before .before .before .before .before .before .before .before .before .before .pre .lexicon .entries .few)
 
 loop-less : tie.Need-loop-less Inv-loop μ-loop
-loop-less c = omega arith
+loop-less c = omega (arith, c .before .before .before .before .before .before .before .before .before .before .before .before .before .before .before .before .before .before .before .before .before .before .loop-test .taken)
 
 loop-again : tie.Need-loop-again Inv-loop μ-loop
 loop-again c =
-    let a = c .before .before .before .before .before .before .before .before .before .before .before .before .before .before .before .before .before .before .before .before .before .before .before .before .before .before .before .before .args in
-    let l = c .before .before .before .before .before .before .before .before .before .before .before .before .before .before .before .before .before .before .before .loop in
-    let m = c .before .before .before .before .before .before .before .before .before .before .lay-entry .last .1 .1 .1 .1 .1 .1 in
+    let a = c .before .before .before .before .before .before .before .before .before .before .before .before .before .before .before .before .before .before .before .before .before .before .before .before .before .before .before .before .before .before .before .before .args in
+    let l = c .before .before .before .before .before .before .before .before .before .before .before .before .before .before .before .before .before .before .before .before .before .before .before .loop in
+    let part = rw (c .before .before .before .before .before .before .before .before .before .before .before .before .before .before .before .before .before .body-at .ensures, c .before .before .before .before .before .before .before .before .before .before .before .before .before .before .before .before .before .before .offset2 .ensures) at (c .before .before .before .before .before .before .before .before .before .before .before .before .before .before .before .before .type-part .ensures) in
+    let m = c .before .before .before .before .before .before .before .before .before .before .lay-slot .last .1 .1 .1 .1 in
     record {
-      inside = omega arith;
-      lays = entering-next (a .book .now) (a .offsets .now) (a .count) (a .word .now) (a .boundary) (a .p) (cells (a .bases .now) (a .exponents .now) (a .nexts .now) (a .enters .now) (a .numbers .now)) (c .before .before .before .before .before .before .before .before .before .before .before .before .before .before .before .before .before .before .before .before .before .before .before .before .before .before .before .before .pre) (l .place) (cells (l .bases) (l .exponents) (l .nexts) (l .enters) (l .numbers)) (l .i) (l .inv) (omega arith) (c .before .before .before .before .before .before .before .before .before .before .lay-entry .result) (cells (m .0) (m .1 .0) (m .1 .1 .0) (m .1 .1 .1 .0) (m .1 .1 .1 .1 .0)) (rw (c .before .before .before .before .before .before .before .before .before .before .before .before .before .before .before .before .offset .ensures) at (c .before .before .before .before .before .before .before .before .before .before .lay-entry .ensures));
+      inside = omega (arith, c .before .before .before .before .before .before .before .before .before .before .before .before .before .before .before .before .before .before .before .before .before .before .loop-test .taken);
+      lays = entering-next (a .book .now) (a .offsets .now) (a .found .now) (a .n) (a .boundary) (a .p) (cells (a .bases .now) (a .exponents .now) (a .nexts .now) (a .enters .now) (a .numbers .now)) (c .before .before .before .before .before .before .before .before .before .before .before .before .before .before .before .before .before .before .before .before .before .before .before .before .before .before .before .before .before .before .before .before .pre) (l .place) (cells (l .bases) (l .exponents) (l .nexts) (l .enters) (l .numbers)) (l .k) (l .inv) (c .before .before .before .before .before .before .before .before .before .before .before .before .before .before .before .before .before .before .before .before .before .before .loop-test .taken) (c .before .before .before .before .before .before .before .before .before .before .before .before .before .before .before .before .before .before .before .before .offset .result) (c .before .before .before .before .before .before .before .before .before .before .before .before .before .before .before .before .before .before .before .before .offset .ensures) (c .before .before .before .before .before .before .before .before .before .before .before .before .before .before .before .before .type-part .result .now) part (c .before .before .before .before .before .before .before .before .before .before .lay-slot .result) (cells (m .0) (m .1 .0) (m .1 .1 .0) (m .1 .1 .1 .0) (m .1 .1 .1 .1 .0)) (c .before .before .before .before .before .before .before .before .before .before .lay-slot .ensures);
       bases-length = omega (arith, l .inv .bases-length);
       exponents-length = omega (arith, l .inv .exponents-length);
       nexts-length = omega (arith, l .inv .nexts-length);
@@ -74,7 +99,7 @@ returns : tie.Need-returns Inv-loop μ-loop
 returns c =
     let a = c .before .before .before .before .before .before .before .before .before .before .args in
     let l = c .before .loop in
-    entering-end (a .book .now) (a .offsets .now) (a .count) (a .word .now) (a .boundary) (a .p) (cells (a .bases .now) (a .exponents .now) (a .nexts .now) (a .enters .now) (a .numbers .now)) (c .before .before .before .before .before .before .before .before .before .before .pre) (l .place) (cells (l .bases) (l .exponents) (l .nexts) (l .enters) (l .numbers)) (l .i) (l .inv) (omega arith)
+    entering-end (a .book .now) (a .offsets .now) (a .found .now) (a .n) (a .boundary) (a .p) (cells (a .bases .now) (a .exponents .now) (a .nexts .now) (a .enters .now) (a .numbers .now)) (c .before .before .before .before .before .before .before .before .before .before .pre) (l .place) (cells (l .bases) (l .exponents) (l .nexts) (l .enters) (l .numbers)) (l .k) (l .inv) (omega arith)
 
 pub lay-entries-spec : {M : Type 1} → statement M
 lay-entries-spec =
@@ -86,8 +111,13 @@ lay-entries-spec =
     mul-offset
     shared-slice-read-offset
     offset-requires
-    lay-entry-requires
-    add-i
+    mul-offset-2
+    shared-slice-read-offset-2
+    offset-requires-2
+    body-at-requires
+    type-part-requires
+    lay-slot-requires
+    add-k
     loop-less
     loop-again
     same-length
