@@ -1,19 +1,19 @@
 -- Entries by their numbers: one more is found, one more is tallied. What is found so far and what the rest of the book gives are
 -- together all entries of the word.
-use Prim.Native.Nat.{ℕ, suc, _+_, _*_, _/_, _≤_, _<_}
+use Prim.Native.Nat.{ℕ, _+_, _*_, _/_, _≤_, _<_}
 use native.Mathlib.Numerals.{add-one}
 use native.Mathlib.Omega.{arith}
 use native.Mathlib.Decide.{ℕ-discrete}
 use mathlib.Core.Path.{_≡_, refl, sym, ap, _∙_}
 use mathlib.Core.Bool.{Bool, true, false}
 use mathlib.Core.List.{List, [], _∷_, _++_, map, map-append, append-assoc, append-nil}
-use lib.ListN.{length, getD, set, take, length-map, length-set, drop-of-length-le}
+use lib.ListN.{length, getD, set, take, length-map, drop-of-length-le}
 use lib.Seq.{slice, slice-cons, length-take-le, take-suc-set, getD-set-same, getD-set-other}
 use Rattle.linking.specs.Reading.{NumberedEntry}
 use Rattle.book.specs.Format.{Bytes, bodyAt, typePart, sameBytes, wordOf}
 use Rattle.book.proofs.Layouts.{entry-shape}
 use Rattle.line.specs.LineFaults.{simplesIn}
-use Rattle.line.specs.LookUp.{Entries, entryAt, entriesAt, Numbers, FoundEntries, Held, Tallied}
+use Rattle.line.specs.LookUp.{Entries, entryAt, entriesAt, FoundEntries, Held, Tallied}
 use Rattle.line.proofs.LookUpLaws.{simples-length, left, left-same, left-other, left-end}
 
 -- The search for a word's entries.

@@ -1,17 +1,16 @@
 -- The look-up of a line's words among the entries that are kept of a book.
-use Prim.Native.Nat.{ℕ, _+_, _/_, _<_, _≤_}
+use Prim.Native.Nat.{ℕ, _<_, _≤_}
 use mathlib.Core.Path.{_≡_}
-use mathlib.Core.Bool.{true, false}
+use mathlib.Core.Bool.{true}
 use mathlib.Core.List.{List, map}
 use mathlib.Core.Option.{none, some}
 use lib.ListN.{length, getD, take}
 use Rattle.linking.specs.Reading.{NumberedEntry}
-use Rattle.book.specs.Format.{Bytes, Book, Entry, bodyAt, nextAt, entryOf, isEntry, wordOf, typePart}
+use Rattle.book.specs.Format.{Bytes, Book, Entry, bodyAt, entryOf, isEntry}
 use Rattle.book.specs.Kept.{bodiesAt, Whole}
-use Rattle.line.specs.LineFaults.{sameWord, entriesFrom, simplesIn, maxSimples, entriesOfLine, entryFault, simplesOfWords, passed, stopped, lineCheck}
+use Rattle.line.specs.LineFaults.{entriesFrom, simplesIn, maxSimples, entriesOfLine, entryFault, simplesOfWords, passed, stopped, lineCheck}
 use Rattle.line.specs.Words.{wordsOf}
 use Rattle.line.specs.Split.{SplitInto}
-use Rattle.line.specs.declared.Tally.{Tally}
 use Rattle.line.specs.declared.Words.{Words}
 use Rattle.line.specs.declared.Words.the-variants.{Found, Refused}
 
@@ -37,40 +36,21 @@ pub record Numbers (count : ℕ) (found : List ℕ) (n : ℕ) : Type 0 where
   pub room : n ≤ length found
   pub low : (k : ℕ) → k < n → getD {A = ℕ} found k 0 < count
 
--- They are those of a word's entries, all of them, in the book's order.
-pub record FoundEntries (bytes : Bytes) (offsets : List ℕ) (count : ℕ) (word : Bytes) (found : List ℕ) (n : ℕ) : Type 0 where
-  pub numbers : Numbers count found n
-  pub all : entriesAt bytes offsets found n ≡ entriesFrom 0 (entriesKept bytes offsets count) word
-
--- The first n of a list are numbers of entries that some caller keeps.
+-- The same, however many entries are kept.
 pub record Held (bytes : Bytes) (offsets : List ℕ) (found : List ℕ) (n : ℕ) : Type 0 where
   pub count : ℕ
   pub entries : Entries bytes offsets count
   pub numbers : Numbers count found n
 
--- The number of simple types that they have together.
+-- The first n of a list are the numbers of a word's entries, all of them, in the book's order.
+pub record FoundEntries (bytes : Bytes) (offsets : List ℕ) (count : ℕ) (word : Bytes) (found : List ℕ) (n : ℕ) : Type 0 where
+  pub numbers : Numbers count found n
+  pub all : entriesAt bytes offsets found n ≡ entriesFrom 0 (entriesKept bytes offsets count) word
+
+-- The number of simple types that the first n entries have together: no more than 12 for each of 1,024.
 pub record Tallied (bytes : Bytes) (offsets : List ℕ) (found : List ℕ) (n sum : ℕ) : Type 0 where
   pub total : sum ≡ simplesIn (entriesAt bytes offsets found n)
   pub small : sum ≤ 12288
-
--- How many entries a word has, and how many simple types they have together.
-pub record Counts (bytes : Bytes) (offsets : List ℕ) (count : ℕ) (word : Bytes) (tally : Tally) : Type 0 where
-  pub number : tally .entries ≡ length (entriesFrom 0 (entriesKept bytes offsets count) word)
-  pub sum : tally .simples ≡ simplesIn (entriesFrom 0 (entriesKept bytes offsets count) word)
-  pub small : tally .simples ≤ 12288
-
--- One entry can be counted: its record is there, and the tally is far from any limit.
-pub record Countable (bytes : Bytes) (at : ℕ) (tally : Tally) : Type 0 where
-  pub whole : nextAt bytes at ≤ length bytes
-  pub layout : isEntry (bodyAt bytes at) ≡ true
-  pub few : tally .entries ≤ 1024
-  pub small : tally .simples ≤ 12288
-
--- One entry is counted, where it is the word's.
-pub record Counted (bytes : Bytes) (at : ℕ) (word : Bytes) (tally tally′ : Tally) : Type 0 where
-  pub same : sameWord (wordOf (bodyAt bytes at)) word ≡ true
-      → (tally′ .entries ≡ tally .entries + 1) × (tally′ .simples ≡ tally .simples + length (typePart (bodyAt bytes at)) / 2)
-  pub other : sameWord (wordOf (bodyAt bytes at)) word ≡ false → tally′ ≡ tally
 
 -- What the check of a line says, against a book whose entries are kept.
 abbrev pub LineSays : Book → Bytes → List ℕ → List ℕ → Words → Type 0

@@ -8,9 +8,3 @@ pub enum Words {
     Found(usize),
     Refused { number: u32, value: usize },
 }
-
-// How many entries a word has, and how many simple types these have together.
-pub struct Tally {
-    pub entries: usize,
-    pub simples: usize,
-}

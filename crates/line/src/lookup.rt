@@ -1,5 +1,4 @@
 // The look-up of a line's words in a book, and refusals 13 and 14. Words are compared where they stand.
-use crate::Tally;
 use crate::Words;
 use crate::split::split;
 use book::compare::same;
@@ -15,7 +14,7 @@ ghost use lib.ListN.{length};
 ghost use Rattle.book.specs.Format.{Book, bodyAt, nextAt, isEntry, wordOf};
 ghost use Rattle.line.specs.LineFaults.{maxWords, sameWord};
 ghost use Rattle.line.specs.Split.{SplitInto};
-ghost use Rattle.line.specs.LookUp.{entriesKept, Entries, FoundEntries, Held, Tallied, Counts, Countable, Counted, LookedUp, LineSays};
+ghost use Rattle.line.specs.LookUp.{entriesKept, Entries, FoundEntries, Held, Tallied, LookedUp, LineSays};
 
 pub const MAX_SIMPLES: usize = 512;
 
@@ -63,39 +62,6 @@ pub fn tally_found(book: &[u8], offsets: &[u16], found: &[u16], n: usize) -> usi
         k += 1;
     }
     sum
-}
-
-// The tally with one entry more, where it is the word's.
-fn tally_entry(book: &[u8], at: usize, word: &[u8], tally: Tally) -> Tally
-    requires { ⌜ Countable (now book) at tally ⌝ }
-    ensures { λ r. ⌜ Counted (now (book .entry)) at (now (word .entry)) tally r ⌝ }
-{
-    let body = body_at(book, at);
-    if same(word_part(body), word) {
-        Tally {
-            entries: tally.entries + 1,
-            simples: tally.simples + type_part(body).len() / 2,
-        }
-    } else {
-        tally
-    }
-}
-
-// How many entries of the book are a word's, and how many simple types they have.
-pub fn tally_word(book: &[u8], offsets: &[u16], count: usize, word: &[u8]) -> Tally
-    requires { ⌜ Entries (now book) (now offsets) count ⌝ }
-    ensures { λ r. ⌜ Counts (now (book .entry)) (now (offsets .entry)) count (now (word .entry)) r ⌝ }
-{
-    let mut tally = Tally {
-        entries: 0,
-        simples: 0,
-    };
-    let mut i = 0;
-    while i < count {
-        tally = tally_entry(book, offset(offsets[i]), word, tally);
-        i += 1;
-    }
-    tally
 }
 
 // Looks up all words of a line: each must have an entry (13), and all entries together not too many simple types (14).
