@@ -1,8 +1,7 @@
 //! Lays a checked line out as a graph, in lent lists of nodes and slots: each word a boundary, then the simple types of its entries,
 //! and behind the last word the target.
-use super::book::{body_at, type_part, word_part};
-use super::check;
-use super::line::tally_word;
+use super::book::{body_at, type_part, MAX_ENTRIES};
+use super::line::{find_entries, tally_found};
 use super::pregroup::EXPONENT_BIAS;
 
 /// How many nodes a line's graph has room for: 24 boundaries and 512 simple types, then the last boundary, the target and the end.
@@ -75,43 +74,12 @@ fn lay_slot(
     }
 }
 
-/// Lays the entry whose record stands at an offset of the book, where it is the word's.
-fn lay_entry(
-    book: &[u8],
-    at: usize,
-    number: usize,
-    word: &[u8],
-    boundary: usize,
-    p: Place,
-    bases: &mut [u8],
-    exponents: &mut [u8],
-    nexts: &mut [u16],
-    enters: &mut [u16],
-    numbers: &mut [u16],
-) -> Place {
-    let body = body_at(book, at);
-    if !check::same(word_part(body), word) {
-        return p;
-    }
-    lay_slot(
-        type_part(body),
-        number,
-        boundary,
-        p,
-        bases,
-        exponents,
-        nexts,
-        enters,
-        numbers,
-    )
-}
-
-/// Lays all entries of a word, in the book's order, before the boundary behind the word.
+/// Lays the first n entries found, in their order, before the boundary behind the word.
 fn lay_entries(
     book: &[u8],
     offsets: &[u16],
-    count: usize,
-    word: &[u8],
+    found: &[u16],
+    n: usize,
     boundary: usize,
     p: Place,
     bases: &mut [u8],
@@ -121,26 +89,18 @@ fn lay_entries(
     numbers: &mut [u16],
 ) -> Place {
     let mut place = p;
-    for (i, &at) in offsets[..count].iter().enumerate() {
-        place = lay_entry(
-            book,
-            at as usize,
-            i,
-            word,
-            boundary,
-            place,
-            bases,
-            exponents,
-            nexts,
-            enters,
-            numbers,
+    for &number in &found[..n] {
+        let number = number as usize;
+        let part = type_part(body_at(book, offsets[number] as usize));
+        place = lay_slot(
+            part, number, boundary, place, bases, exponents, nexts, enters, numbers,
         );
     }
     place
 }
 
-/// Lays a word at the boundary of a place: the range of its slots, and its entries. The place behind it is at the next boundary, which
-/// is known beforehand from the number of simple types.
+/// Lays a word at the boundary of a place: the range of its slots, and its entries, which are found once. The place behind it is at the
+/// next boundary, which is known beforehand from the number of simple types.
 fn lay_word(
     book: &[u8],
     offsets: &[u16],
@@ -155,15 +115,16 @@ fn lay_word(
     enters: &mut [u16],
     numbers: &mut [u16],
 ) -> Place {
-    let tally = tally_word(book, offsets, count, word);
-    let boundary = p.node + 1 + tally.simples;
+    let mut found = [0u16; MAX_ENTRIES];
+    let n = find_entries(book, offsets, count, word, &mut found);
+    let boundary = p.node + 1 + tally_found(book, offsets, &found, n);
     let first = Place {
         node: p.node + 1,
         slot: p.slot,
         seen: false,
     };
     let last = lay_entries(
-        book, offsets, count, word, boundary, first, bases, exponents, nexts, enters, numbers,
+        book, offsets, &found, n, boundary, first, bases, exponents, nexts, enters, numbers,
     );
     froms[p.node] = p.slot as u16;
     tos[p.node] = last.slot as u16;

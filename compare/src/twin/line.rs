@@ -1,6 +1,6 @@
 //! A line: any bytes at all. Its words are found where they stand, and it is refused for a byte, a word, a word without an entry or
 //! too many simple types, in this order.
-use super::book::{body_at, type_part, word_part, MAX_WORD};
+use super::book::{body_at, type_part, word_part, MAX_ENTRIES, MAX_WORD};
 use super::check;
 
 pub const MAX_WORDS: usize = 24;
@@ -10,13 +10,6 @@ const MAX_SIMPLES: usize = 512;
 pub enum Words {
     Found(usize),
     Refused { number: u32, value: usize },
-}
-
-/// How many entries a word has, and how many simple types these have together.
-#[derive(Clone, Copy)]
-pub struct Tally {
-    pub entries: usize,
-    pub simples: usize,
 }
 
 /// Whether a line may have this byte: 32 to 126.
@@ -76,29 +69,38 @@ fn split(line: &[u8], starts: &mut [usize], ends: &mut [usize]) -> Words {
     Words::Found(count)
 }
 
-/// The tally with one entry more, where it is the word's.
-fn tally_entry(book: &[u8], at: usize, word: &[u8], tally: Tally) -> Tally {
-    let body = body_at(book, at);
-    if check::same(word_part(body), word) {
-        Tally {
-            entries: tally.entries + 1,
-            simples: tally.simples + type_part(body).len() / 2,
-        }
-    } else {
-        tally
-    }
+/// Whether the entry whose record stands at an offset is a word's.
+fn belongs(book: &[u8], at: usize, word: &[u8]) -> bool {
+    check::same(word_part(body_at(book, at)), word)
 }
 
-/// How many entries of the book are a word's, and how many simple types they have.
-pub fn tally_word(book: &[u8], offsets: &[u16], count: usize, word: &[u8]) -> Tally {
-    let mut tally = Tally {
-        entries: 0,
-        simples: 0,
-    };
-    for &at in &offsets[..count] {
-        tally = tally_entry(book, at as usize, word, tally);
+/// Finds a word's entries: their numbers, in the book's order, are written to the front of `found`, and how many there are is
+/// returned.
+pub fn find_entries(
+    book: &[u8],
+    offsets: &[u16],
+    count: usize,
+    word: &[u8],
+    found: &mut [u16],
+) -> usize {
+    let mut n = 0;
+    for (i, &at) in offsets[..count].iter().enumerate() {
+        if belongs(book, at as usize, word) {
+            found[n] = i as u16;
+            n += 1;
+        }
     }
-    tally
+    n
+}
+
+/// How many simple types the first n entries found have together.
+pub fn tally_found(book: &[u8], offsets: &[u16], found: &[u16], n: usize) -> usize {
+    let mut sum = 0;
+    for &number in &found[..n] {
+        let at = offsets[number as usize] as usize;
+        sum += type_part(body_at(book, at)).len() / 2;
+    }
+    sum
 }
 
 /// Looks up all words of a line: each must have an entry (13), and all entries together not too many simple types (14).
@@ -111,16 +113,17 @@ fn look_up(
     ends: &[usize],
     words: usize,
 ) -> Words {
+    let mut found = [0u16; MAX_ENTRIES];
     let mut sum = 0;
     for (&start, &end) in starts[..words].iter().zip(&ends[..words]) {
-        let tally = tally_word(book, offsets, count, &line[start..end]);
-        if tally.entries == 0 {
+        let n = find_entries(book, offsets, count, &line[start..end], &mut found);
+        if n == 0 {
             return Words::Refused {
                 number: 13,
                 value: start,
             };
         }
-        sum += tally.simples;
+        sum += tally_found(book, offsets, &found, n);
     }
     if MAX_SIMPLES < sum {
         return Words::Refused {
