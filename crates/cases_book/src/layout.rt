@@ -1,271 +1,146 @@
-// The books of the paper, whole and cut, and what a record's head and body must look like.
-use crate::build::BASIC_TYPE;
-use crate::build::ENTRY;
-use crate::build::PAIR;
-use crate::build::Space;
-use crate::build::TARGET;
-use crate::build::fill;
-use crate::build::head;
-use crate::build::pair;
-use crate::build::put;
-use crate::build::put_all;
-use crate::build::record;
-use crate::build::row;
-use crate::build::row_ending;
-use crate::build::row_of;
-use crate::build::target;
-use crate::build::two_types;
-use book::layout::wide;
+// The books of the paper, whole and cut, and what a record's head and body must look like. In most of the books the record in
+// question stands at offset 10, behind the types a and b.
+use crate::rows::check_each;
+use cases::buffer::Space;
 
 pub fn rows(buf: &mut Space) {
-    first_book(buf);
-    second_book(buf);
+    paper(buf);
     heads(buf);
     names(buf);
-    entries(buf);
-    pair_bodies(buf);
-    target_bodies(buf);
-}
-
-fn heads(buf: &mut Space) {
-    kinds(buf);
-    kinds_of_two_bytes(buf);
-    body_lengths(buf);
-}
-
-fn names(buf: &mut Space) {
-    name_lengths(buf);
-    name_bytes(buf);
-    bytes_not_in_names(buf);
-}
-
-fn entries(buf: &mut Space) {
-    word_lengths(buf);
-    words_not_there(buf);
+    words(buf);
     word_bytes(buf);
-    more_word_bytes(buf);
-    simple_types(buf);
-    odd_rests(buf);
+    type_parts(buf);
+    other_bodies(buf);
 }
 
-// Puts the types o, p, w, u and the pair u ≤ w, 26 bytes.
-fn paper_types(buf: &mut Space) -> usize {
-    let at = record(buf, 0, BASIC_TYPE, b"o");
-    let at = record(buf, at, BASIC_TYPE, b"p");
-    let at = record(buf, at, BASIC_TYPE, b"w");
-    let at = record(buf, at, BASIC_TYPE, b"u");
-    pair(buf, at, 3, 2)
+// The first book of the paper has 150 bytes: its target stands at 26, its second entry at 45 and its last one at 135. The cuts are parts of
+// it. The second book adds type k, with target k, and the entry log k o^l.
+fn paper(buf: &mut Space) {
+    check_each(
+        buf,
+        b"first-book:1 o,1 p,1 w,1 u,2 \x03\x02,4 \x00,\
+          3 \x05fetch\x00\x00\x01\xff,3 \x05fetch\x00\x00\x02\xff\x01\xff,3 \x04bed4\x01\x00,3 \x05ward7\x03\x00,\
+          3 \x08urgently\x00\x01\x00\x00,3 \x05admit\x00\x00\x03\xff,3 \x04site\x02\x00,3 \x02go\x00\x00,\
+          3 \x06please\x00\x00\x00\xff\n\
+          first-book-cut-by-one-byte:149=\n\
+          first-book-cut-behind-a-head:139=\n\
+          first-book-three-bytes-of-a-head:138=\n\
+          first-book-two-bytes-of-a-head:137=\n\
+          first-book-one-byte-of-a-head:136=\n\
+          first-book-without-its-last-record:135=\n\
+          first-book-cut-in-a-word:50=\n\
+          first-book-without-entries:31=\n\
+          first-book-cut-in-its-target:30=\n\
+          first-book-cut-before-its-target:26=\n\
+          first-book-cut-in-its-first-head:3=\n\
+          second-book:1 o,1 p,1 w,1 u,2 \x03\x02,1 k,4 \x04,\
+          3 \x05fetch\x00\x00\x01\xff,3 \x05fetch\x00\x00\x02\xff\x01\xff,3 \x04bed4\x01\x00,3 \x05ward7\x03\x00,\
+          3 \x08urgently\x00\x01\x00\x00,3 \x05admit\x00\x00\x03\xff,3 \x04site\x02\x00,3 \x02go\x00\x00,\
+          3 \x06please\x00\x00\x00\xff,3 \x03log\x04\x00\x00\xff\n",
+    );
 }
 
-// Puts entries 0 to 4, 70 bytes.
-fn early_entries(buf: &mut Space, at: usize) -> usize {
-    let at = record(buf, at, ENTRY, b"\x05fetch\x00\x00\x01\xff");
-    let at = record(buf, at, ENTRY, b"\x05fetch\x00\x00\x02\xff\x01\xff");
-    let at = record(buf, at, ENTRY, b"\x04bed4\x01\x00");
-    let at = record(buf, at, ENTRY, b"\x05ward7\x03\x00");
-    record(buf, at, ENTRY, b"\x08urgently\x00\x01\x00\x00")
+// Kinds that are not listed, and kind 4, which is. Both bytes of a kind count, and both of a body's length.
+fn heads(buf: &mut Space) {
+    check_each(
+        buf,
+        b"kind-0:1 a,1 b,0 \x00\n\
+          kind-4:1 a,1 b,4 \x00\n\
+          kind-5:1 a,1 b,5 \x00\n\
+          kind-65535:1 a,1 b,65535 \x00\n\
+          kind-0-without-a-body:1 a,1 b,0 \n\
+          kind-256:1 a,1 b,256 \x00\n\
+          kind-257:1 a,1 b,257 c\n\
+          kind-258:1 a,1 b,258 \x00\x01\n\
+          kind-260:1 a,1 b,260 \x00\n\
+          kind-1024:1 a,1 b,1024 \x00\n\
+          length-257-and-one-byte:1 a,1 b,257/4,1*'\x00\n\
+          length-257-and-256-bytes:1 a,1 b,257/4,256*'\x00\n\
+          length-257-and-257-bytes:1 a,1 b,257/4,257*'\x00\n\
+          length-65535-and-one-byte:1 a,1 b,65535/4,1*'\x00\n",
+    );
 }
 
-// Puts entries 5 to 8, 49 bytes.
-fn late_entries(buf: &mut Space, at: usize) -> usize {
-    let at = record(buf, at, ENTRY, b"\x05admit\x00\x00\x03\xff");
-    let at = record(buf, at, ENTRY, b"\x04site\x02\x00");
-    let at = record(buf, at, ENTRY, b"\x02go\x00\x00");
-    record(buf, at, ENTRY, b"\x06please\x00\x00\x00\xff")
+// Names have 1 to 15 letters and digits, a letter first. The last six hold the bytes beside a to z and 0 to 9.
+fn names(buf: &mut Space) {
+    check_each(
+        buf,
+        b"name-of-0:1 a,1 b,1 ,4 \x00\n\
+          name-of-1:1 a,1 b,1 c,4 \x00\n\
+          name-of-15:1 a,1 b,15/1,15*'c,4 \x00\n\
+          name-of-16:1 a,1 b,16/1,16*'c,4 \x00\n\
+          name-of-257:1 a,1 b,257/1,257*'c,4 \x00\n\
+          name-letters-and-digits:1 a,1 b,1 az09,4 \x00\n\
+          name-z-first:1 a,1 b,1 z,4 \x00\n\
+          name-digit-first:1 a,1 b,1 9a,4 \x00\n\
+          name-capital-first:1 a,1 b,1 Aa,4 \x00\n\
+          name-capital-later:1 a,1 b,1 aZ,4 \x00\n\
+          name-starts-as-another:1 a,1 b,1 ab,4 \x00\n\
+          name-byte-96-first:1 a,1 b,1 \x60,4 \x00\n\
+          name-byte-96-later:1 a,1 b,1 a\x60,4 \x00\n\
+          name-byte-123-first:1 a,1 b,1 \x7b,4 \x00\n\
+          name-byte-123-later:1 a,1 b,1 a\x7b,4 \x00\n\
+          name-byte-47:1 a,1 b,1 a\x2f,4 \x00\n\
+          name-byte-58:1 a,1 b,1 a\x3a,4 \x00\n",
+    );
 }
 
-// Puts entries 0 to 8, 119 bytes.
-fn paper_entries(buf: &mut Space, at: usize) -> usize {
-    let at = early_entries(buf, at);
-    late_entries(buf, at)
+// Words have 1 to 31 bytes. Then a word longer than what the body holds behind its length, and a body that holds no word.
+fn words(buf: &mut Space) {
+    check_each(
+        buf,
+        b"word-of-0:1 a,1 b,3 \x00,4 \x00\n\
+          word-of-1:1 a,1 b,3 \x01x,4 \x00\n\
+          word-of-31:1 a,1 b,32/3,'\x1f,31*'x,4 \x00\n\
+          word-of-32:1 a,1 b,33/3,'\x20,32*'x,4 \x00\n\
+          word-of-255:1 a,1 b,256/3,'\xff,255*'x,4 \x00\n\
+          word-of-31-past-the-body:1 a,1 b,31/3,'\x1f,30*'x,4 \x00\n\
+          word-of-1-past-the-body:1 a,1 b,3 \x01,4 \x00\n\
+          word-of-3-past-the-body:1 a,1 b,3 \x03go,4 \x00\n\
+          word-of-0-and-a-simple-type:1 a,1 b,3 \x00\x00\x00,4 \x00\n\
+          entry-of-no-bytes:1 a,1 b,3 ,4 \x00\n",
+    );
 }
 
-// The first book, 150 bytes, and cuts of it.
-fn first_book(buf: &mut Space) {
-    let at = paper_types(buf);
-    let at = target(buf, at);
-    let at = paper_entries(buf, at);
-    row(buf, b"first-book", at);
-    cuts_in_the_last_record(buf);
-    cuts_further_in_front(buf);
-}
-
-// The first book's last record stands at 135.
-fn cuts_in_the_last_record(buf: &Space) {
-    row(buf, b"first-book-cut-by-one-byte", 149);
-    row(buf, b"first-book-cut-behind-a-head", 139);
-    row(buf, b"first-book-three-bytes-of-a-head", 138);
-    row(buf, b"first-book-two-bytes-of-a-head", 137);
-    row(buf, b"first-book-one-byte-of-a-head", 136);
-    row(buf, b"first-book-without-its-last-record", 135);
-}
-
-// The first book's second entry stands at 45, its target at 26.
-fn cuts_further_in_front(buf: &Space) {
-    row(buf, b"first-book-cut-in-a-word", 50);
-    row(buf, b"first-book-without-entries", 31);
-    row(buf, b"first-book-cut-in-its-target", 30);
-    row(buf, b"first-book-cut-before-its-target", 26);
-    row(buf, b"first-book-cut-in-its-first-head", 3);
-}
-
-// The second book: type k, target k, and the entry log k o^l.
-fn second_book(buf: &mut Space) {
-    let at = paper_types(buf);
-    let at = record(buf, at, BASIC_TYPE, b"k");
-    let at = record(buf, at, TARGET, b"\x04");
-    let at = paper_entries(buf, at);
-    let at = record(buf, at, ENTRY, b"\x03log\x04\x00\x00\xff");
-    row(buf, b"second-book", at);
-}
-
-// Kinds that are not listed, and kind 4, which is.
-fn kinds(buf: &mut Space) {
-    row_ending(buf, b"kind-0", 0, b"\x00");
-    row_ending(buf, b"kind-4", 4, b"\x00");
-    row_ending(buf, b"kind-5", 5, b"\x00");
-    row_ending(buf, b"kind-65535", 65535, b"\x00");
-    row_ending(buf, b"kind-0-without-a-body", 0, b"");
-}
-
-// Both bytes of the kind count.
-fn kinds_of_two_bytes(buf: &mut Space) {
-    row_ending(buf, b"kind-256", 256, b"\x00");
-    row_ending(buf, b"kind-257", 257, b"c");
-    row_ending(buf, b"kind-258", 258, b"\x00\x01");
-    row_ending(buf, b"kind-260", 260, b"\x00");
-    row_ending(buf, b"kind-1024", 1024, b"\x00");
-}
-
-// The row of a book of two types and a target with a body of so many zeros.
-fn target_of(buf: &mut Space, label: &[u8], length: usize, zeros: usize) {
-    let at = two_types(buf);
-    let at = head(buf, at, length, TARGET);
-    let at = fill(buf, at, zeros, 0);
-    row(buf, label, at);
-}
-
-// Both bytes of a body's length count.
-fn body_lengths(buf: &mut Space) {
-    target_of(buf, b"length-257-and-one-byte", 257, 1);
-    target_of(buf, b"length-257-and-256-bytes", 257, 256);
-    target_of(buf, b"length-257-and-257-bytes", 257, 257);
-    target_of(buf, b"length-65535-and-one-byte", 65535, 1);
-}
-
-// The row of a book whose third type has a name of so many bytes.
-fn name_of(buf: &mut Space, label: &[u8], length: usize) {
-    let at = two_types(buf);
-    let at = head(buf, at, length, BASIC_TYPE);
-    let at = fill(buf, at, length, b'c');
-    let at = target(buf, at);
-    row(buf, label, at);
-}
-
-fn name_lengths(buf: &mut Space) {
-    name_of(buf, b"name-of-0", 0);
-    name_of(buf, b"name-of-1", 1);
-    name_of(buf, b"name-of-15", 15);
-    name_of(buf, b"name-of-16", 16);
-    name_of(buf, b"name-of-257", 257);
-}
-
-// Letters and digits, a letter first.
-fn name_bytes(buf: &mut Space) {
-    row_of(buf, b"name-letters-and-digits", BASIC_TYPE, b"az09");
-    row_of(buf, b"name-z-first", BASIC_TYPE, b"z");
-    row_of(buf, b"name-digit-first", BASIC_TYPE, b"9a");
-    row_of(buf, b"name-capital-first", BASIC_TYPE, b"Aa");
-    row_of(buf, b"name-capital-later", BASIC_TYPE, b"aZ");
-    row_of(buf, b"name-starts-as-another", BASIC_TYPE, b"ab");
-}
-
-// The bytes beside a to z and 0 to 9.
-fn bytes_not_in_names(buf: &mut Space) {
-    row_of(buf, b"name-byte-96-first", BASIC_TYPE, b"\x60");
-    row_of(buf, b"name-byte-96-later", BASIC_TYPE, b"a\x60");
-    row_of(buf, b"name-byte-123-first", BASIC_TYPE, b"\x7b");
-    row_of(buf, b"name-byte-123-later", BASIC_TYPE, b"a\x7b");
-    row_of(buf, b"name-byte-47", BASIC_TYPE, b"a\x2f");
-    row_of(buf, b"name-byte-58", BASIC_TYPE, b"a\x3a");
-}
-
-// The row of a book with an entry that gives its word a length and holds so many bytes behind it.
-fn word_of(buf: &mut Space, label: &[u8], length: u8, bytes: u8) {
-    let at = two_types(buf);
-    let at = head(buf, at, wide(bytes) + 1, ENTRY);
-    let at = put(buf, at, length);
-    let at = fill(buf, at, wide(bytes), b'x');
-    let at = target(buf, at);
-    row(buf, label, at);
-}
-
-fn word_lengths(buf: &mut Space) {
-    word_of(buf, b"word-of-0", 0, 0);
-    word_of(buf, b"word-of-1", 1, 1);
-    word_of(buf, b"word-of-31", 31, 31);
-    word_of(buf, b"word-of-32", 32, 32);
-    word_of(buf, b"word-of-255", 255, 255);
-}
-
-// A word longer than what the body holds behind its length, and a body that holds no word.
-fn words_not_there(buf: &mut Space) {
-    word_of(buf, b"word-of-31-past-the-body", 31, 30);
-    word_of(buf, b"word-of-1-past-the-body", 1, 0);
-    row_of(buf, b"word-of-3-past-the-body", ENTRY, b"\x03go");
-    row_of(buf, b"word-of-0-and-a-simple-type", ENTRY, b"\x00\x00\x00");
-    row_of(buf, b"entry-of-no-bytes", ENTRY, b"");
-}
-
-// The bytes beside 33 to 126.
+// The bytes beside 33 to 126, bytes that no word holds, and a word with a capital.
 fn word_bytes(buf: &mut Space) {
-    row_of(buf, b"word-byte-32", ENTRY, b"\x01\x20");
-    row_of(buf, b"word-byte-33", ENTRY, b"\x01\x21");
-    row_of(buf, b"word-byte-126", ENTRY, b"\x01\x7e");
-    row_of(buf, b"word-byte-127", ENTRY, b"\x01\x7f");
+    check_each(
+        buf,
+        b"word-byte-32:1 a,1 b,3 \x01\x20,4 \x00\n\
+          word-byte-33:1 a,1 b,3 \x01\x21,4 \x00\n\
+          word-byte-126:1 a,1 b,3 \x01\x7e,4 \x00\n\
+          word-byte-127:1 a,1 b,3 \x01\x7f,4 \x00\n\
+          word-byte-0:1 a,1 b,3 \x01\x00,4 \x00\n\
+          word-byte-255:1 a,1 b,3 \x01\xff,4 \x00\n\
+          word-byte-32-last:1 a,1 b,3 \x03go\x20\x00\x00,4 \x00\n\
+          word-capital:1 a,1 b,3 \x02Go\x00\x00,4 \x00\n",
+    );
 }
 
-// Bytes that no word holds, and a word with a capital.
-fn more_word_bytes(buf: &mut Space) {
-    row_of(buf, b"word-byte-0", ENTRY, b"\x01\x00");
-    row_of(buf, b"word-byte-255", ENTRY, b"\x01\xff");
-    row_of(buf, b"word-byte-32-last", ENTRY, b"\x03go\x20\x00\x00");
-    row_of(buf, b"word-capital", ENTRY, b"\x02Go\x00\x00");
+// Up to 12 simple types, of two bytes each; a type part of an odd length.
+fn type_parts(buf: &mut Space) {
+    check_each(
+        buf,
+        b"simple-types-0:1 a,1 b,3 \x02go,4 \x00\n\
+          simple-types-1:1 a,1 b,3 \x02go\x00\x00,4 \x00\n\
+          simple-types-12:1 a,1 b,27/3,'\x02go,24*'\x00,4 \x00\n\
+          simple-types-13:1 a,1 b,29/3,'\x02go,26*'\x00,4 \x00\n\
+          odd-rest-1:1 a,1 b,3 \x02go\x00,4 \x00\n\
+          odd-rest-23:1 a,1 b,26/3,'\x02go,23*'\x00,4 \x00\n\
+          odd-rest-25:1 a,1 b,28/3,'\x02go,25*'\x00,4 \x00\n",
+    );
 }
 
-// The row of a book with an entry whose type part is so many zeros.
-fn type_part_of(buf: &mut Space, label: &[u8], zeros: u8) {
-    let at = two_types(buf);
-    let at = head(buf, at, wide(zeros) + 3, ENTRY);
-    let at = put_all(buf, at, b"\x02go");
-    let at = fill(buf, at, wide(zeros), 0);
-    let at = target(buf, at);
-    row(buf, label, at);
-}
-
-fn simple_types(buf: &mut Space) {
-    type_part_of(buf, b"simple-types-0", 0);
-    type_part_of(buf, b"simple-types-1", 2);
-    type_part_of(buf, b"simple-types-12", 24);
-    type_part_of(buf, b"simple-types-13", 26);
-}
-
-// A type part of an odd length.
-fn odd_rests(buf: &mut Space) {
-    type_part_of(buf, b"odd-rest-1", 1);
-    type_part_of(buf, b"odd-rest-23", 23);
-    type_part_of(buf, b"odd-rest-25", 25);
-}
-
-fn pair_bodies(buf: &mut Space) {
-    row_of(buf, b"pair-of-0", PAIR, b"");
-    row_of(buf, b"pair-of-1", PAIR, b"\x00");
-    row_of(buf, b"pair-of-2", PAIR, b"\x00\x01");
-    row_of(buf, b"pair-of-3", PAIR, b"\x00\x01\x00");
-}
-
-fn target_bodies(buf: &mut Space) {
-    row_ending(buf, b"target-of-0", TARGET, b"");
-    row_ending(buf, b"target-of-1", TARGET, b"\x01");
-    row_ending(buf, b"target-of-2", TARGET, b"\x00\x00");
+// A pair has two bytes, a target one.
+fn other_bodies(buf: &mut Space) {
+    check_each(
+        buf,
+        b"pair-of-0:1 a,1 b,2 ,4 \x00\n\
+          pair-of-1:1 a,1 b,2 \x00,4 \x00\n\
+          pair-of-2:1 a,1 b,2 \x00\x01,4 \x00\n\
+          pair-of-3:1 a,1 b,2 \x00\x01\x00,4 \x00\n\
+          target-of-0:1 a,1 b,4 \n\
+          target-of-1:1 a,1 b,4 \x01\n\
+          target-of-2:1 a,1 b,4 \x00\x00\n",
+    );
 }

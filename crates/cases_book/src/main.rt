@@ -1,12 +1,12 @@
-// The book check on books for each rule of the format: a row for each book, with its label and what the check answers.
-mod build;
+// The book check on books for each rule of the format: a row for each book, with its name and what the check answers.
 mod faults;
 mod layout;
 mod limits;
 mod pairs;
+mod rows;
 
 fn main() {
-    let mut space = [0u8; build::ROOM];
+    let mut space = [0u8; cases::buffer::ROOM];
     layout::rows(&mut space);
     limits::rows(&mut space);
     faults::rows(&mut space);

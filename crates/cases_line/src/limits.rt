@@ -1,16 +1,16 @@
 // The limits of a line, refusals 11 to 16, several faults at once, and refused books.
-use crate::build::ROOM;
-use crate::build::Space;
-use crate::build::records;
 use crate::rows::Show;
 use crate::rows::against;
 use crate::rows::answers;
+use cases::buffer::ROOM;
+use cases::buffer::Space;
+use cases::items::put_items;
 
 // A line with a bad byte against books that are refused: one too long, one without a target, and one cut short. The buffer is all zeros at
 // first.
 pub fn refused_books(buf: &mut Space) {
     against(buf, ROOM, b"book-of-65536:\x7f;", 4, Show::Buffer);
-    let at = records(buf, 0, b"1a ");
+    let at = put_items(buf, 0, b"1 a");
     against(buf, at, b"book-without-a-target:\x7f;", 4, Show::Buffer);
     against(buf, 3, b"book-cut-short:\x7f;", 4, Show::Buffer);
     against(buf, 0, b"empty-book-and-line:;", 4, Show::Buffer);
@@ -28,14 +28,14 @@ pub fn rows(buf: &mut Space) {
 // Types o, x; target o. Entries: w has 0 o o^l, 1 o, and 2 to 4 of 12, 12 and 5 x, 32 simple types in all; 5 go o; 6 e, empty; 7 a word of 31
 // bytes, o; 8 ~ o; 9 ! o^r o.
 fn limits_book(buf: &mut Space) -> usize {
-    records(
+    put_items(
         buf,
         0,
-        b"1o 1x 4\x00 3\x01w\x00\x00\x00\xff 3\x01w\x00\x00 \
-          3\x01w\x01\x00\x01\x00\x01\x00\x01\x00\x01\x00\x01\x00\x01\x00\x01\x00\x01\x00\x01\x00\x01\x00\x01\x00 \
-          3\x01w\x01\x00\x01\x00\x01\x00\x01\x00\x01\x00\x01\x00\x01\x00\x01\x00\x01\x00\x01\x00\x01\x00\x01\x00 \
-          3\x01w\x01\x00\x01\x00\x01\x00\x01\x00\x01\x00 3\x02go\x00\x00 3\x01e \
-          3\x1fabcdefghijklmnopqrstuvwxyz01234\x00\x00 3\x01~\x00\x00 3\x01!\x00\x01\x00\x00 ",
+        b"1 o,1 x,4 \x00,3 \x01w\x00\x00\x00\xff,3 \x01w\x00\x00,\
+          3 \x01w\x01\x00\x01\x00\x01\x00\x01\x00\x01\x00\x01\x00\x01\x00\x01\x00\x01\x00\x01\x00\x01\x00\x01\x00,\
+          3 \x01w\x01\x00\x01\x00\x01\x00\x01\x00\x01\x00\x01\x00\x01\x00\x01\x00\x01\x00\x01\x00\x01\x00\x01\x00,\
+          3 \x01w\x01\x00\x01\x00\x01\x00\x01\x00\x01\x00,3 \x02go\x00\x00,3 \x01e,\
+          3 \x1fabcdefghijklmnopqrstuvwxyz01234\x00\x00,3 \x01~\x00\x00,3 \x01!\x00\x01\x00\x00",
     )
 }
 

@@ -1,5 +1,4 @@
 // Lines read against books: a row for each, with its name and what the reader answers.
-mod build;
 mod choices;
 mod limits;
 mod paper;
@@ -7,7 +6,7 @@ mod rows;
 mod thesis;
 
 fn main() {
-    let mut space = [0u8; build::ROOM];
+    let mut space = [0u8; cases::buffer::ROOM];
     limits::refused_books(&mut space);
     paper::rows(&mut space);
     thesis::rows(&mut space);

@@ -1,11 +1,11 @@
 // The books of the paper and its table of lines.
-use crate::build::Space;
-use crate::build::records;
 use crate::rows::answers;
 use crate::rows::lending;
+use cases::buffer::Space;
+use cases::items::put_items;
 
 pub fn rows(buf: &mut Space) {
-    let at = records(buf, 0, b"1o 1p 1w 1u 2\x03\x02 4\x00 ");
+    let at = put_items(buf, 0, b"1 o,1 p,1 w,1 u,2 \x03\x02,4 \x00");
     let at = entries(buf, at);
     answers(
         buf,
@@ -20,19 +20,19 @@ pub fn rows(buf: &mut Space) {
 
 // Puts entries 0 to 8.
 fn entries(buf: &mut Space, at: usize) -> usize {
-    records(
+    put_items(
         buf,
         at,
-        b"3\x05fetch\x00\x00\x01\xff 3\x05fetch\x00\x00\x02\xff\x01\xff 3\x04bed4\x01\x00 3\x05ward7\x03\x00 \
-          3\x08urgently\x00\x01\x00\x00 3\x05admit\x00\x00\x03\xff 3\x04site\x02\x00 3\x02go\x00\x00 \
-          3\x06please\x00\x00\x00\xff ",
+        b"3 \x05fetch\x00\x00\x01\xff,3 \x05fetch\x00\x00\x02\xff\x01\xff,3 \x04bed4\x01\x00,3 \x05ward7\x03\x00,\
+          3 \x08urgently\x00\x01\x00\x00,3 \x05admit\x00\x00\x03\xff,3 \x04site\x02\x00,3 \x02go\x00\x00,\
+          3 \x06please\x00\x00\x00\xff",
     )
 }
 
 // The second book adds type k, with target k, and an entry of log.
 fn second_book(buf: &mut Space) {
-    let at = records(buf, 0, b"1o 1p 1w 1u 1k 2\x03\x02 4\x04 ");
+    let at = put_items(buf, 0, b"1 o,1 p,1 w,1 u,1 k,2 \x03\x02,4 \x04");
     let at = entries(buf, at);
-    let at = records(buf, at, b"3\x03log\x04\x00\x00\xff ");
+    let at = put_items(buf, at, b"3 \x03log\x04\x00\x00\xff");
     answers(buf, at, b"log-go-urgently:log go urgently;");
 }

@@ -1,6 +1,7 @@
 // Lines read against a book, with a row for each. A list of cases is written as text: for each case its name, a colon, its line, and a
 // semicolon; no name and no line holds one of the two.
-use crate::build::Space;
+use cases::buffer::Space;
+use cases::text::find;
 use reader::LineAnswer;
 
 // How many values there are to lend.
@@ -95,56 +96,36 @@ fn row(book: &[u8], label: &[u8], line: &[u8], lent: usize, show: Show) {
     }
 }
 
-// Writes the row of the case that stands at `from` in a list, with its colon at `colon` and its semicolon at `end`.
-fn listed(
-    book: &[u8],
-    cases: &[u8],
-    from: usize,
-    colon: usize,
-    end: usize,
-    lent: usize,
-    show: Show,
-) {
-    if from > colon {
-        return;
-    }
-    if colon >= end {
-        return;
-    }
-    if end > cases.len() {
+// Writes the row of a case.
+fn row_of_case(book: &[u8], case: &[u8], lent: usize, show: Show) {
+    let colon = find(case, b':');
+    if colon >= case.len() {
         return;
     }
     let line = colon + 1;
-    row(book, &cases[from..colon], &cases[line..end], lent, show);
+    row(book, &case[0..colon], &case[line..], lent, show);
 }
 
 // Writes the rows of the cases of a list.
 fn rows(book: &[u8], cases: &[u8], lent: usize, show: Show) {
     let mut from = 0;
-    let mut colon = 0;
     let mut i = 0;
     while i < cases.len() {
-        if cases[i] == b':' {
-            colon = i;
-        }
         if cases[i] == b';' {
-            listed(book, cases, from, colon, i, lent, show);
-            from = i + 1;
+            row_of_case(book, &cases[from..i], lent, show);
+            i += 1;
+            from = i;
+        } else {
+            i += 1;
         }
-        i += 1;
     }
 }
 
 // The rows of a list against the book that the first bytes of a slice are.
-fn rows_of_part(bytes: &[u8], length: usize, cases: &[u8], lent: usize, show: Show) {
+pub fn against(bytes: &[u8], length: usize, cases: &[u8], lent: usize, show: Show) {
     if length <= bytes.len() {
-        rows(&bytes[..length], cases, lent, show);
+        rows(&bytes[0..length], cases, lent, show);
     }
-}
-
-// The rows of a list against the book that the first bytes of the buffer are.
-pub fn against(buf: &Space, length: usize, cases: &[u8], lent: usize, show: Show) {
-    rows_of_part(buf, length, cases, lent, show);
 }
 
 // The rows of a list with the answers, and with more values lent than any answer takes.

@@ -1,11 +1,11 @@
 // Examples 4.3 to 4.5 of document 000, with names respelt in letters and digits and the target s. Of the last two the rows say only whether
 // a line is read.
-use crate::build::Space;
-use crate::build::records;
 use crate::rows::Show;
 use crate::rows::VALUES;
 use crate::rows::against;
 use crate::rows::answers;
+use cases::buffer::Space;
+use cases::items::put_items;
 
 pub fn rows(buf: &mut Space) {
     example_3(buf);
@@ -15,24 +15,24 @@ pub fn rows(buf: &mut Space) {
 
 // π1 is p1, π is p.
 fn example_3(buf: &mut Space) {
-    let at = records(
+    let at = put_items(
         buf,
         0,
-        b"1p1 1p 1s1 1s 1j 1i 1q1 1o 2\x00\x01 2\x05\x04 2\x02\x03 4\x03 3\x01I\x00\x00 3\x04will\x01\x01\x02\x00\x04\xff \
-          3\x04will\x06\x00\x04\xff\x01\xff 3\x04meet\x05\x00\x07\xff 3\x03him\x07\x00 ",
+        b"1 p1,1 p,1 s1,1 s,1 j,1 i,1 q1,1 o,2 \x00\x01,2 \x05\x04,2 \x02\x03,4 \x03,3 \x01I\x00\x00,3 \x04will\x01\x01\x02\x00\x04\xff,\
+          3 \x04will\x06\x00\x04\xff\x01\xff,3 \x04meet\x05\x00\x07\xff,3 \x03him\x07\x00",
     );
     answers(buf, at, b"I-will-meet-him:I will meet him;");
 }
 
 // π is p, π3 is p3, n and j with a bar are nb and jb, o' is o1.
 fn example_4(buf: &mut Space) {
-    let at = records(
+    let at = put_items(
         buf,
         0,
-        b"1q2 1i 1p 1s2 1p3 1o 1nb 1n 1jb 1s 1q 1o1 2\x04\x02 2\x03\x09 2\x00\x0a 2\x0a\x09 2\x08\x04 2\x0b\x05 2\x07\x06 \
-          2\x06\x05 4\x09 3\x03did\x00\x00\x01\xff\x02\xff 3\x03did\x02\x01\x03\x00\x01\xff 3\x02he\x04\x00 \
-          3\x04give\x01\x00\x05\xff 3\x04give\x01\x00\x06\xff\x05\xff 3\x05books\x07\x00 3\x02to\x01\x01\x01\x00\x05\xff \
-          3\x02to\x08\x00\x01\xff 3\x03her\x05\x00 ",
+        b"1 q2,1 i,1 p,1 s2,1 p3,1 o,1 nb,1 n,1 jb,1 s,1 q,1 o1,2 \x04\x02,2 \x03\x09,2 \x00\x0a,2 \x0a\x09,2 \x08\x04,2 \x0b\x05,2 \x07\x06,\
+          2 \x06\x05,4 \x09,3 \x03did\x00\x00\x01\xff\x02\xff,3 \x03did\x02\x01\x03\x00\x01\xff,3 \x02he\x04\x00,\
+          3 \x04give\x01\x00\x05\xff,3 \x04give\x01\x00\x06\xff\x05\xff,3 \x05books\x07\x00,3 \x02to\x01\x01\x01\x00\x05\xff,\
+          3 \x02to\x08\x00\x01\xff,3 \x03her\x05\x00",
     );
     against(
         buf,
@@ -44,12 +44,12 @@ fn example_4(buf: &mut Space) {
 }
 
 fn example_5(buf: &mut Space) {
-    let at = records(
+    let at = put_items(
         buf,
         0,
-        b"1np 1s 1pp 1n 4\x01 3\x03Kim\x00\x00 3\x06mailed\x00\x01\x01\x00\x02\xff\x00\xff \
-          3\x06mailed\x00\x01\x01\x00\x00\xff 3\x03the\x00\x00\x03\xff 3\x06letter\x03\x00\x02\xff 3\x06letter\x03\x00 \
-          3\x02to\x02\x00\x00\xff 3\x05Sandy\x00\x00 ",
+        b"1 np,1 s,1 pp,1 n,4 \x01,3 \x03Kim\x00\x00,3 \x06mailed\x00\x01\x01\x00\x02\xff\x00\xff,\
+          3 \x06mailed\x00\x01\x01\x00\x00\xff,3 \x03the\x00\x00\x03\xff,3 \x06letter\x03\x00\x02\xff,3 \x06letter\x03\x00,\
+          3 \x02to\x02\x00\x00\xff,3 \x05Sandy\x00\x00",
     );
     against(
         buf,

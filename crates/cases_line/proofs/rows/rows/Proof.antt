@@ -1,4 +1,4 @@
--- `rows` is safe and ends: the index stays at most the length of the list. Assumes nothing.
+-- `rows` is safe and ends: a case starts at most where the index stands, and the index at most at the end of the list. Assumes nothing.
 use Prim.Native.Nat.{_≤_, _-_}
 use lib.ListN.{length}
 use native.Mathlib.Omega.{arith}
@@ -6,10 +6,10 @@ use Rattle.cases_line.proofs.rows.rows.Statement.{statement}
 use Rattle.cases_line.proofs.rows.rows.Tie as tie
 
 abbrev Inv-loop : tie.InvT-loop
-Inv-loop book cases lent show from₀ colon₀ i₀ from colon i = i ≤ length cases
+Inv-loop book cases lent show from₀ i₀ from i = from ≤ i × i ≤ length cases
 
 abbrev μ-loop : tie.MeasureT-loop
-μ-loop book cases lent show from₀ colon₀ i₀ from colon i = length cases - i
+μ-loop book cases lent show from₀ i₀ from i = length cases - i
 
 loop-holds : tie.Need-loop-holds Inv-loop μ-loop
 loop-holds c = omega arith
@@ -17,14 +17,17 @@ loop-holds c = omega arith
 shared-slice-read-if1 : tie.Need-shared-slice-read-if1 Inv-loop μ-loop
 shared-slice-read-if1 c = omega arith
 
-shared-slice-read-if2 : tie.Need-shared-slice-read-if2 Inv-loop μ-loop
-shared-slice-read-if2 c = omega arith
+sub-row-of-case : tie.Need-sub-row-of-case Inv-loop μ-loop
+sub-row-of-case c = omega arith
 
-listed-requires : tie.Need-listed-requires Inv-loop μ-loop
-listed-requires c κs = omega arith
+part-row-of-case-start : tie.Need-part-row-of-case-start Inv-loop μ-loop
+part-row-of-case-start c = omega arith
 
-add-from : tie.Need-add-from Inv-loop μ-loop
-add-from c = omega arith
+part-row-of-case-end : tie.Need-part-row-of-case-end Inv-loop μ-loop
+part-row-of-case-end c = omega arith
+
+row-of-case-requires : tie.Need-row-of-case-requires Inv-loop μ-loop
+row-of-case-requires c κs = omega arith
 
 add-i : tie.Need-add-i Inv-loop μ-loop
 add-i c = omega arith
@@ -34,6 +37,15 @@ loop-less c = omega arith
 
 loop-again : tie.Need-loop-again Inv-loop μ-loop
 loop-again c = omega arith
+
+add-i-2 : tie.Need-add-i-2 Inv-loop μ-loop
+add-i-2 c = omega arith
+
+loop-less-2 : tie.Need-loop-less-2 Inv-loop μ-loop
+loop-less-2 c = omega arith
+
+loop-again-2 : tie.Need-loop-again-2 Inv-loop μ-loop
+loop-again-2 c = omega arith
 
 returns : tie.Need-returns Inv-loop μ-loop
 returns c = omega arith
@@ -46,10 +58,14 @@ rows-spec =
     μ-loop
     loop-holds
     shared-slice-read-if1
-    shared-slice-read-if2
-    listed-requires
-    add-from
+    sub-row-of-case
+    part-row-of-case-start
+    part-row-of-case-end
+    row-of-case-requires
     add-i
     loop-less
     loop-again
+    add-i-2
+    loop-less-2
+    loop-again-2
     returns)

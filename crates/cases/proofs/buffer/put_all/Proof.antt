@@ -2,8 +2,8 @@
 use Prim.Native.Nat.{_≤_, _-_}
 use lib.ListN.{length}
 use native.Mathlib.Omega.{arith}
-use Rattle.cases_line.proofs.build.put_all.Statement.{statement}
-use Rattle.cases_line.proofs.build.put_all.Tie as tie
+use Rattle.cases.proofs.buffer.put_all.Statement.{statement}
+use Rattle.cases.proofs.buffer.put_all.Tie as tie
 
 abbrev Inv-loop : tie.InvT-loop
 Inv-loop buf₀ start bytes at₀ i₀ buf at i = i ≤ length bytes

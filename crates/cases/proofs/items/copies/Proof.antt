@@ -1,20 +1,20 @@
--- `copies` is safe and ends: the count of lists put stays at most the count asked for. Assumes nothing.
+-- `copies` is safe and ends: the count of items put stays at most the count asked for. Assumes nothing.
 use Prim.Native.Nat.{_≤_, _-_}
 use native.Mathlib.Omega.{arith}
-use Rattle.cases_line.proofs.build.copies.Statement.{statement}
-use Rattle.cases_line.proofs.build.copies.Tie as tie
+use Rattle.cases.proofs.items.copies.Statement.{statement}
+use Rattle.cases.proofs.items.copies.Tie as tie
 
 abbrev Inv-loop : tie.InvT-loop
-Inv-loop buf₀ start count list at₀ i₀ buf at i = i ≤ count
+Inv-loop buf₀ start count item at₀ i₀ buf at i = i ≤ count
 
 abbrev μ-loop : tie.MeasureT-loop
-μ-loop buf₀ start count list at₀ i₀ buf at i = count - i
+μ-loop buf₀ start count item at₀ i₀ buf at i = count - i
 
 loop-holds : tie.Need-loop-holds Inv-loop μ-loop
 loop-holds c = omega arith
 
-records-requires : tie.Need-records-requires Inv-loop μ-loop
-records-requires c κs = omega arith
+single-requires : tie.Need-single-requires Inv-loop μ-loop
+single-requires c κs = omega arith
 
 add-i : tie.Need-add-i Inv-loop μ-loop
 add-i c = omega arith
@@ -31,4 +31,4 @@ returns c = omega arith
 pub copies-spec : {M : Type 1} → statement M
 copies-spec =
     tie.close
-    (tie.spec Inv-loop μ-loop loop-holds records-requires add-i loop-less loop-again returns)
+    (tie.spec Inv-loop μ-loop loop-holds single-requires add-i loop-less loop-again returns)

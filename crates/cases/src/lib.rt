@@ -1,0 +1,4 @@
+// What the programs that try cases share: books written as text and put together in a buffer.
+pub mod buffer;
+pub mod items;
+pub mod text;
