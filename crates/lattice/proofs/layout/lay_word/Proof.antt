@@ -2,7 +2,7 @@
 use borrow.Author.Needs.{needs}
 use native.Mathlib.Omega.{arith}
 use Prim.Native.Nat.{ℕ, _+_, _<_}
-use mathlib.Core.Path.{_≡_, ap, _∙_}
+use mathlib.Core.Path.{_≡_, refl, sym, ap, _∙_}
 use mathlib.Core.List.{List}
 use Rattle.linking.specs.Reading.{NumberedEntry}
 use Rattle.line.specs.LineFaults.{simplesIn}
@@ -26,29 +26,36 @@ module _ (c : tie.After-tally-found) where
   low : boundary < maxNodes
   low = omega (arith, next, c .before .before .before .before .before .before .before .before .before .before .before .before .before .before .before .pre .fits)
 
+-- What is stored, and where, is below the number of nodes.
+module _ (c : tie.After-slice-known12) where
+  stored : (c .before .before .before .before .before .before .before .before .before .before .before .before .before .before .before .before .before .before .before .before .before .before .before .before .before .before .before .before .before .before .before .before .args .p .node < maxNodes) × (c .before .before .before .before .before .before .before .before .before .before .before .before .before .before .before .before .before .before .before .before .before .before .before .before .before .before .before .before .before .before .before .before .args .p .slot < maxNodes) × (c .before .before .before .before .before .before .before .before .before .before .lay-entries .result .slot < maxNodes)
+  stored =
+      let l = c .before .before .before .before .before .before .before .before .before .before .lay-entries .ensures in
+      (omega (arith, low (c .before .before .before .before .before .before .before .before .before .before .before .before .before .before .before .before .before)), omega (arith, low (c .before .before .before .before .before .before .before .before .before .before .before .before .before .before .before .before .before), c .before .before .before .before .before .before .before .before .before .before .before .before .before .before .before .before .before .before .before .before .before .before .before .before .before .before .before .before .before .before .before .before .pre .standing .few), omega (arith, l .placed .few, l .placed .inside, l .placed .small))
+
 slice-aggregate-find-entries : tie.Need-slice-aggregate-find-entries
-slice-aggregate-find-entries c = search needs
+slice-aggregate-find-entries c = refl
 
 find-entries-requires : tie.Need-find-entries-requires
-find-entries-requires c κs = search needs
+find-entries-requires c κs = (c .before .before .before .before .before .before .before .before .before .before .before .pre .lexicon .entries, omega (arith, c .before .before .before .before .before .before .before .before .before .before .before .pre .lexicon .entries .few))
 
 add-boundary : tie.Need-add-boundary
-add-boundary c = search needs
+add-boundary c = omega (arith, c .before .before .before .before .before .before .before .before .before .before .before .before .before .pre .fits)
 
 slice-aggregate-tally-found : tie.Need-slice-aggregate-tally-found
-slice-aggregate-tally-found c = search needs
+slice-aggregate-tally-found c = sym (c .before .before .find-entries .kept .1 .1 .1 .1 .0)
 
 tally-found-requires : tie.Need-tally-found-requires
-tally-found-requires c κs = search needs
+tally-found-requires c κs = record { count = c .before .before .before .before .before .before .before .before .before .before .before .before .before .before .args .count; entries = c .before .before .before .before .before .before .before .before .before .before .before .before .before .before .pre .lexicon .entries; numbers = c .before .before .find-entries .ensures .numbers }
 
 add-boundary-2 : tie.Need-add-boundary-2
-add-boundary-2 c = search needs
+add-boundary-2 c = omega (arith, low c)
 
 add-tos : tie.Need-add-tos
-add-tos c = search needs
+add-tos c = omega (arith, low c)
 
 slice-aggregate-lay-entries : tie.Need-slice-aggregate-lay-entries
-slice-aggregate-lay-entries c = search needs
+slice-aggregate-lay-entries c = sym (c .before .before .before .before .find-entries .kept .1 .1 .1 .1 .0)
 
 lay-entries-requires : tie.Need-lay-entries-requires
 lay-entries-requires c κs =
@@ -63,22 +70,22 @@ lay-entries-requires c κs =
     }
 
 cast-froms : tie.Need-cast-froms
-cast-froms c = search needs
+cast-froms c = omega (arith, stored c .0, stored c .1, stored c .2)
 
 mul-froms : tie.Need-mul-froms
-mul-froms c = search needs
+mul-froms c = omega (arith, stored c .0, stored c .1, stored c .2)
 
 slice-write-froms : tie.Need-slice-write-froms
-slice-write-froms c = omega (arith, low (c .before .before .before .before .before .before .before .before .before .before .before .before .before .before .before .before .before), c .before .before .before .before .before .before .before .before .before .before .before .before .before .before .before .before .before .before .before .before .before .before .before .before .before .before .before .before .before .before .before .before .pre .standing .few, c .before .before .before .before .before .before .before .before .before .before .before .before .before .before .before .before .before .before .before .before .before .before .before .before .before .before .before .before .before .before .before .before .pre .standing .room .froms, c .before .before .before .before .before .before .before .before .before .before .before .before .before .before .before .before .before .before .before .before .before .before .before .before .before .before .before .before .before .before .before .before .pre .standing .room .tos, c .before .before .before .before .before .before .before .before .before .before .lay-entries .ensures .placed .few, c .before .before .before .before .before .before .before .before .before .before .lay-entries .ensures .placed .inside)
+slice-write-froms c = omega (arith, stored c .0, c .before .before .before .before .before .before .before .before .before .before .before .before .before .before .before .before .before .before .before .before .before .before .before .before .before .before .before .before .before .before .before .before .pre .standing .room .froms)
 
 cast-tos : tie.Need-cast-tos
-cast-tos c = search needs
+cast-tos c = omega (arith, stored c .0, stored c .1, stored c .2)
 
 mul-tos : tie.Need-mul-tos
-mul-tos c = search needs
+mul-tos c = omega (arith, stored c .0, stored c .1, stored c .2)
 
 slice-write-tos : tie.Need-slice-write-tos
-slice-write-tos c = omega (arith, low (c .before .before .before .before .before .before .before .before .before .before .before .before .before .before .before .before .before), c .before .before .before .before .before .before .before .before .before .before .before .before .before .before .before .before .before .before .before .before .before .before .before .before .before .before .before .before .before .before .before .before .pre .standing .few, c .before .before .before .before .before .before .before .before .before .before .before .before .before .before .before .before .before .before .before .before .before .before .before .before .before .before .before .before .before .before .before .before .pre .standing .room .froms, c .before .before .before .before .before .before .before .before .before .before .before .before .before .before .before .before .before .before .before .before .before .before .before .before .before .before .before .before .before .before .before .before .pre .standing .room .tos, c .before .before .before .before .before .before .before .before .before .before .lay-entries .ensures .placed .few, c .before .before .before .before .before .before .before .before .before .before .lay-entries .ensures .placed .inside)
+slice-write-tos c = omega (arith, stored c .0, c .before .before .before .before .before .before .before .before .before .before .before .before .before .before .before .before .before .before .before .before .before .before .before .before .before .before .before .before .before .before .before .before .pre .standing .room .tos)
 
 same-length : tie.Need-same-length
 same-length c = search needs
