@@ -1,6 +1,6 @@
 //! A book: any bytes at all, accepted with its contents or refused by the first rule it breaks.
 use super::bits;
-use super::check;
+use super::compare;
 use super::order::{self, MAX_TYPES};
 
 const MAX_BYTES: usize = 65535;
@@ -141,7 +141,7 @@ fn all_exponents(part: &[u8]) -> bool {
 fn name_used(book: &[u8], names: &[u16], types: usize, body: &[u8]) -> bool {
     names[..types]
         .iter()
-        .any(|&at| check::same(body, body_at(book, at as usize)))
+        .any(|&at| compare::same(body, body_at(book, at as usize)))
 }
 
 /// The rules for a basic type: its layout, a name used before, one too many.

@@ -1,7 +1,7 @@
 //! A line: any bytes at all. Its words are found where they stand, and it is refused for a byte, a word, a word without an entry or
 //! too many simple types, in this order.
 use super::book::{body_at, type_part, word_part, MAX_ENTRIES, MAX_WORD};
-use super::check;
+use super::compare;
 
 pub const MAX_WORDS: usize = 24;
 const MAX_SIMPLES: usize = 512;
@@ -71,7 +71,7 @@ fn split(line: &[u8], starts: &mut [usize], ends: &mut [usize]) -> Words {
 
 /// Whether the entry whose record stands at an offset is a word's.
 fn belongs(book: &[u8], at: usize, word: &[u8]) -> bool {
-    check::same(word_part(body_at(book, at)), word)
+    compare::same(word_part(body_at(book, at)), word)
 }
 
 /// Finds a word's entries: their numbers, in the book's order, are written to the front of `found`, and how many there are is
