@@ -1,5 +1,5 @@
 // Bytes compared eight at a time, each eight of them as one number. Fewer than eight are compared one by one.
-use crate::layout::wide;
+use crate::layout::two_bytes;
 ghost use mathlib.Core.Path.{_≡_};
 ghost use mathlib.Core.Bool.{true};
 ghost use Prim.Native.Nat.{_+_, _≤_, _<_};
@@ -47,19 +47,5 @@ fn four_bytes(bytes: &[u8], at: usize) -> usize
     requires { ⌜ at + 3 < length (now bytes) ⌝ }
     ensures { λ r. ⌜ ReadsNumber 4 (now (bytes .entry)) at r ⌝ }
 {
-    two(bytes, at) + 65536 * two(bytes, at + 2)
-}
-
-fn two(bytes: &[u8], at: usize) -> usize
-    requires { ⌜ at + 1 < length (now bytes) ⌝ }
-    ensures { λ r. ⌜ ReadsNumber 2 (now (bytes .entry)) at r ⌝ }
-{
-    one(bytes, at) + 256 * one(bytes, at + 1)
-}
-
-fn one(bytes: &[u8], at: usize) -> usize
-    requires { ⌜ at < length (now bytes) ⌝ }
-    ensures { λ r. ⌜ ReadsNumber 1 (now (bytes .entry)) at r ⌝ }
-{
-    wide(bytes[at])
+    two_bytes(bytes, at) + 65536 * two_bytes(bytes, at + 2)
 }

@@ -4,6 +4,7 @@ ghost use mathlib.Core.Path.{_≡_};
 ghost use mathlib.Core.Bool.{true};
 ghost use Prim.Native.Nat.{_+_, _≤_, _<_};
 ghost use lib.ListN.{length};
+ghost use Rattle.book.specs.Compare.{ReadsNumber};
 ghost use Rattle.book.specs.Format.{twoBytes, bodyAt, nextAt, letter, nameByte, isName, wordByte, exponentOf, exponentListed, isEntry, wordOf, typePart, every};
 
 pub const MAX_NAME: usize = 15;
@@ -22,6 +23,7 @@ pub fn wide(byte: u8) -> usize
 pub fn two_bytes(bytes: &[u8], at: usize) -> usize
     requires { ⌜ at + 1 < length (now bytes) ⌝ }
     ensures { λ r. ⌜ r ≡ twoBytes (now (bytes .entry)) at ⌝ }
+    ensures { λ r. ⌜ ReadsNumber 2 (now (bytes .entry)) at r ⌝ }
 {
     wide(bytes[at]) + 256 * wide(bytes[at + 1])
 }

@@ -31,7 +31,7 @@ returns : tie.Need-returns
 returns c =
     let a = c .before .before .before .args in
     let n : a .at + 4 + c .before .two-bytes .result - (a .at + 4) ≡ c .before .two-bytes .result = omega arith in
-    ap (λ (k : ℕ). take k (drop (a .at + 4) (a .book .now))) (n ∙ c .before .two-bytes .ensures)
+    ap (λ (k : ℕ). take k (drop (a .at + 4) (a .book .now))) (n ∙ c .before .two-bytes .ensures .0)
 
 pub body-at-spec : {M : Type 1} → statement M
 body-at-spec =

@@ -1,6 +1,7 @@
 -- `book::layout::two_bytes` meets its contract: each byte is widened as it is.
 use borrow.Author.Needs.{needs}
 use Rattle.book.specs.Format.{twoBytes}
+use Rattle.book.proofs.Comparing.{one-byte, joined}
 use Rattle.book.proofs.layout.two_bytes.Statement.{statement}
 use Rattle.book.proofs.layout.two_bytes.Tie as tie
 
@@ -27,7 +28,10 @@ add-result c = search needs
 
 returns : tie.Need-returns
 unfolding twoBytes
-returns c = cc
+returns c =
+    let low = c .before .before .wide .ensures in
+    let high = c .wide2 .ensures in
+    (cc, joined 1 1 (one-byte (low .0) (low .1)) (one-byte (high .0) (high .1)))
 
 pub two-bytes-spec : {M : Type 1} → statement M
 two-bytes-spec =

@@ -54,21 +54,21 @@ module _ (c : tie.After-body-at) where
 
 -- The kind of the record in each arm, and what the laws of Keeping say of it.
 name-kind : (c : tie.At-match-keys1) → kindAt (bytes (c .before .before .before)) (p (c .before .before .before) .at) ≡ basic-type
-name-kind c = kind-1 _ (sym (c .before .two-bytes .ensures) ∙ c .match .keys1)
+name-kind c = kind-1 _ (sym (c .before .two-bytes .ensures .0) ∙ c .match .keys1)
 
 pair-kind : (c : tie.At-match-keys2) → kindAt (bytes (c .before .before .before)) (p (c .before .before .before) .at) ≡ order-pair
-pair-kind c = kind-2 _ (sym (c .before .two-bytes .ensures) ∙ c .match .keys2)
+pair-kind c = kind-2 _ (sym (c .before .two-bytes .ensures .0) ∙ c .match .keys2)
 
 pair-fits : (c : tie.At-match-keys2) → (length (body (c .before .before)) ≡ 2) × (getD {A = ℕ} (body (c .before .before)) 0 0 < p (c .before .before .before) .types) × (getD {A = ℕ} (body (c .before .before)) 1 0 < p (c .before .before .before) .types)
 pair-fits c = pair-place (bytes (c .before .before .before)) (kept (c .before .before .before)) (p (c .before .before .before)) (sound (c .before .before .before)) (found (c .before .before .before)) (pair-kind c)
 
 entry-kind : (c : tie.At-match-keys3) → kindAt (bytes (c .before .before .before)) (p (c .before .before .before) .at) ≡ entry
-entry-kind c = kind-3 _ (sym (c .before .two-bytes .ensures) ∙ c .match .keys3)
+entry-kind c = kind-3 _ (sym (c .before .two-bytes .ensures .0) ∙ c .match .keys3)
 
 target-kind : (c : tie.At-match-rest) → kindAt (bytes (c .before .before .before)) (p (c .before .before .before) .at) ≡ target
 target-kind c =
     let none = c .match .rest in
-    kind-left (bytes (c .before .before .before)) (kept (c .before .before .before)) (p (c .before .before .before)) (sound (c .before .before .before)) (found (c .before .before .before)) _ (c .before .two-bytes .ensures) (none .0 .0 .1) (none .0 .1) (none .1)
+    kind-left (bytes (c .before .before .before)) (kept (c .before .before .before)) (p (c .before .before .before)) (sound (c .before .before .before)) (found (c .before .before .before)) _ (c .before .two-bytes .ensures .0) (none .0 .0 .1) (none .0 .1) (none .1)
 
 returns : tie.Need-returns
 returns c =
