@@ -6,7 +6,7 @@ use super::rows::{self, Row};
 /// Puts v into the row where the flag says so.
 fn put_where(words: &mut [u64; rows::ROW_WORDS], v: usize, flag: bool) {
     if flag {
-        words[v / 64] = bits::with(words[v / 64], (v % 64) as u8);
+        rows::put_in(words, v);
     }
 }
 

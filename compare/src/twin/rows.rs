@@ -27,10 +27,16 @@ pub fn empty() -> Row {
     }
 }
 
+/// Puts v into a row where it stands.
+#[inline]
+pub fn put_in(words: &mut [u64; ROW_WORDS], v: usize) {
+    words[v / 64] = bits::with(words[v / 64], (v % 64) as u8);
+}
+
 /// The row with v put in.
 #[inline]
 pub fn put(mut row: Row, v: usize) -> Row {
-    row.words[v / 64] = bits::with(row.words[v / 64], (v % 64) as u8);
+    put_in(&mut row.words, v);
     row
 }
 

@@ -4,7 +4,8 @@ ghost use mathlib.Core.Path.{_≡_};
 ghost use mathlib.Core.Logic.{_↔_, _⊎_};
 ghost use mathlib.Core.Bool.{true};
 ghost use Prim.Native.Nat.{_<_, _≤_};
-ghost use Rattle.chart.specs.Rows.{InRow, HasRow, RowSays, NextMember, Stored, rowBits};
+ghost use lib.ListN.{length};
+ghost use Rattle.chart.specs.Rows.{InRow, HasRow, RowSays, NextMember, Stored, rowBits, rowWords};
 
 // How many words a row has, and how many members it has room for.
 pub const ROW_WORDS: usize = 9;
@@ -25,13 +26,21 @@ pub fn empty() -> Row
     }
 }
 
+// Puts v into a row where it stands: a row that is handed on for each member is copied each time.
+pub fn put_in(words: &mut [u64], v: usize)
+    requires { ⌜ (v < rowBits) × (length (now words) ≡ rowWords) ⌝ }
+    ensures { λ _. ⌜ RowSays (now (words .exit)) 0 (λ k. InRow (now (words .entry)) 0 k ⊎ (k ≡ v)) ⌝ }
+{
+    words[v / 64] = bits::with(words[v / 64], (v % 64) as u8);
+}
+
 // The row with v put in.
 pub fn put(row: Row, v: usize) -> Row
     requires { ⌜ v < rowBits ⌝ }
     ensures { λ r. ⌜ RowSays (r .words) 0 (λ k. InRow (row .words) 0 k ⊎ (k ≡ v)) ⌝ }
 {
     let mut words = row.words;
-    words[v / 64] = bits::with(words[v / 64], (v % 64) as u8);
+    put_in(&mut words, v);
     Row { words }
 }
 

@@ -11,13 +11,13 @@ ghost use Rattle.chart.specs.Rows.{InRow, HasRow, RowSays, rowBits, rowWords};
 ghost use Rattle.chart.specs.Chart.{Gathered, Only};
 ghost use Rattle.choice.specs.Sets.{Among, Meets, RowsThere, LinksTo, NodeHeld, NodesHeld, BackLink, BackPart, PlacesHeld, PlacesUpTo, OutPart, OutsThere, SomePart};
 
-// Puts v into the row where the flag says so. The row is changed where it stands: a row that is handed on would be copied each time.
+// Puts v into the row where the flag says so.
 fn put_where(words: &mut [u64], v: usize, flag: bool)
     requires { ⌜ (v < rowBits) × (length (now words) ≡ rowWords) ⌝ }
     ensures { λ _. ⌜ RowSays (now (words .exit)) 0 (λ k. InRow (now (words .entry)) 0 k ⊎ ((k ≡ v) × (flag ≡ true))) ⌝ }
 {
     if flag {
-        words[v / 64] = bits::with(words[v / 64], (v % 64) as u8);
+        rows::put_in(words, v);
     }
 }
 
