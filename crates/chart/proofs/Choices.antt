@@ -59,16 +59,12 @@ module _ {Le : Relation} {g : Graph} where
   completable-here b v (onward (ended h) c) = by-choice (completes c v)
   completable-here b v (onward (more l t) c) = absurd (omega (arith, l .simple))
 
+  -- P is finished from a boundary exactly when some choice completes it.
   completable-of-finishes : {P : PregroupType} {u end : ℕ} → Boundary g u → Boundary g end → Finishes Le g P u end → Completable Le g P u end
   completable-of-finishes b last (finishes p v) = completable-here b v (path-onward last p)
 
   finishes-of-completable : {P : PregroupType} {u end : ℕ} → Completable Le g P u end → Finishes Le g P u end
   finishes-of-completable (by-choice (completes c v)) = finishes (path-of-choice c) v
-
-  -- P is finished from a boundary exactly when some choice completes it.
-  pub finishes-iff-completable :
-      {P : PregroupType} {u end : ℕ} → Boundary g u → Boundary g end → Finishes Le g P u end ↔ Completable Le g P u end
-  finishes-iff-completable b last = (completable-of-finishes b last, finishes-of-completable)
 
 -- Two entries from one node are the same.
 pub data SameEntry (T : PregroupType) (b : ℕ) : PregroupType → ℕ → Type 0 where

@@ -7,7 +7,7 @@ use mathlib.Core.Path.{_≡_, refl, sym, ap, _∙_, subst}
 use mathlib.Core.Logic.{_↔_, _⊎_, inl, inr}
 use mathlib.Core.List.{List, [], _∷_, _++_, map, map-append, append-assoc, append-nil}
 use lib.ListN.{getD, length, take, set, length-set}
-use lib.Seq.{take-all, take-suc-set, take-set-le, getD-take, getD-set-same, getD-set-other, length-take-le}
+use lib.Seq.{take-all, take-suc-set, getD-take, getD-set-same, getD-set-other, length-take-le}
 use Rattle.pregroup.specs.Types.{Simple, PregroupType}
 use Rattle.pregroup.specs.Order.{Relation}
 use Rattle.pregroup.specs.Vanish.{Vanish, empty}
@@ -46,9 +46,6 @@ map-at f (x ∷ l) zero h = refl
 map-at f (x ∷ l) (suc i) h = map-at f l i (omega arith)
 
 module _ (g : Graph) (picked : List ℕ) (n u : ℕ) (room : n < length picked) where
-  chosen-kept : chosen g (set picked n u) n ≡ chosen g picked n
-  chosen-kept = ap (map (labelOf g)) (take-set-le n picked n u (omega arith))
-
   chosen-more : chosen g (set picked n u) (n + 1) ≡ chosen g picked n ++ (labelOf g u ∷ [])
   chosen-more =
       ap (λ (k : ℕ). map (labelOf g) (take k (set picked n u))) (add-one n) ∙ ap (map (labelOf g)) (take-suc-set picked n u room)

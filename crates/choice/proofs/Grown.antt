@@ -5,7 +5,7 @@ use mathlib.Core.Path.{_≡_, refl, sym, subst}
 use mathlib.Core.Logic.{_↔_, _⊎_, inl, inr, Iff·trans}
 use mathlib.Core.List.{List, [], _∷_, _++_}
 use lib.ListN.{getD, length, take, length-append, List·getD-append}
-use lib.Seq.{take-append-le, getD-at}
+use lib.Seq.{take-append-le}
 use Rattle.pregroup.specs.Types.{Simple, PregroupType, plain}
 use Rattle.pregroup.specs.Order.{Relation}
 use Rattle.chart.specs.Rows.{RowSays}
@@ -46,9 +46,6 @@ module _ (Le : Relation) (g : Graph) (P : PregroupType) (x : Simple) (end n : �
 
   simple-same : (i : ℕ) → i < n → simpleAt (P ++ (x ∷ [])) i ≡ simpleAt P i
   simple-same i h = List·getD-append P (x ∷ []) (plain 0) i (omega arith)
-
-  simple-last : simpleAt (P ++ (x ∷ [])) n ≡ x
-  simple-last = getD-at P x [] (plain 0) n long
 
   stretch-same : (i j : ℕ) → j ≤ n → Stretch Le P i j ↔ Stretch Le (P ++ (x ∷ [])) i j
   stretch-same i j h = (

@@ -95,11 +95,3 @@ pub first-linking-written :
     {le : Test} {Le : Relation} {s : Basic} {X : PregroupType} {before after : List ℕ} {at : ℕ} → Decides le Le
     → (first : FirstLinked Le s X before after at) → firstLinking le s X ≡ some (first .partners)
 first-linking-written {s = s} {X = X} decides first = first-linking-greedy decides s X (first .whole) (first .greedy)
-
--- So the partners that `firstLinking` gives stand in the list, and everything else is as before.
-pub first-linking-stands :
-    {le : Test} {Le : Relation} {s : Basic} {X : PregroupType} {P before after : List ℕ} {at : ℕ} → Decides le Le → firstLinking le s X ≡ some P
-    → FirstLinked Le s X before after at → after ≡ take at before ++ (P ++ drop (at + length X) before)
-first-linking-stands {P = P} decides gives first =
-    let same : first .partners ≡ P = cc (first-linking-written decides first) in
-    rw same at (first .written)

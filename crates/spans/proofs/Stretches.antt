@@ -44,10 +44,6 @@ module _ (bases exponents : List ℕ) where
       ∙ ap (λ (l : PregroupType). getD l i d) (take-string (suc i) n h)
       ∙ getD-at (stringOf bases exponents i) (heldAt bases exponents i) [] d i (length-string i)
 
-  -- A stretch is the same in every string that reaches so far.
-  pub slice-string : (i k m n : ℕ) → k ≤ m → k ≤ n → slice i k (stringOf bases exponents m) ≡ slice i k (stringOf bases exponents n)
-  slice-string i k m n h g = ap (drop i) (take-string k m h ∙ sym (take-string k n g))
-
 -- The string goes by its own simple types only: those behind it may change.
 pub string-agrees :
     (bases exponents bases′ exponents′ : List ℕ) (n : ℕ) → ((i : ℕ) → i < n → heldAt bases exponents i ≡ heldAt bases′ exponents′ i)

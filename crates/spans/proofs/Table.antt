@@ -11,7 +11,7 @@ use Rattle.pregroup.specs.Types.{PregroupType, plain}
 use Rattle.pregroup.specs.Order.{Relation}
 use Rattle.pregroup.specs.Vanish.{Contracts, Vanish, empty}
 use Rattle.chart.specs.Rows.{RowSays, Stored}
-use Rattle.chart.specs.Chart.{Gathered, itself, within}
+use Rattle.chart.specs.Chart.{Gathered, Only, itself, within}
 use Rattle.spans.specs.Spans.{stringOf, ContractsAt, Span, Right, MemberPart}
 use Rattle.chart.proofs.RowLaws.{less-or-not}
 use Rattle.spans.proofs.Stretches.{length-string, take-string, string-at, LastLink, closes, last-link, last-closed}
@@ -59,7 +59,7 @@ module _ {Le : Relation} (X : PregroupType) (rows : List ℕ) (k : ℕ) (right :
             (closes i (inside .ordered) (omega (arith, reached .ordered)) (fits-iff i (omega (arith, reached .ordered)) .0 (p .joined .fits)) between (inside .vanishes));
       }
 
-  part-of-link : (v : ℕ) → LastLink Le X v k → Gathered (λ u. u ≡ suc k) (MemberPart Fits rows k) v
+  part-of-link : (v : ℕ) → LastLink Le X v k → Gathered (Only (suc k)) (MemberPart Fits rows k) v
   part-of-link v (closes i h g c u w) =
       let e : suc i - 1 ≡ i = omega arith in
       within (suc i) (record {
@@ -68,21 +68,21 @@ module _ {Le : Relation} (X : PregroupType) (rows : List ℕ) (k : ℕ) (right :
         joined = rw e (record { fits = fits-iff i g .1 c; behind = right i (omega arith) v .1 (record { ordered = h; vanishes = w }) });
       })
 
-  pub gathered-spans : (v : ℕ) → Gathered (λ u. u ≡ suc k) (MemberPart Fits rows k) v ↔ Span Le X (suc k) v
+  pub gathered-spans : (v : ℕ) → Gathered (Only (suc k)) (MemberPart Fits rows k) v ↔ Span Le X (suc k) v
   gathered-spans v = (forth, back)
     where
-      forth : Gathered (λ u. u ≡ suc k) (MemberPart Fits rows k) v → Span Le X (suc k) v
+      forth : Gathered (Only (suc k)) (MemberPart Fits rows k) v → Span Le X (suc k) v
       forth (itself e) = rw e (empty-span Le X (suc k))
       forth (within j p) = span-of-part v j p
 
-      back : Span Le X (suc k) v → Gathered (λ u. u ≡ suc k) (MemberPart Fits rows k) v
+      back : Span Le X (suc k) v → Gathered (Only (suc k)) (MemberPart Fits rows k) v
       back s =
           ⊎-elim (λ (h : v < suc k). part-of-link v (last-link X v k (omega arith) b (s .vanishes)))
           (λ (h : suc k ≤ v). itself (omega (arith, s .ordered))) (less-or-not v (suc k))
 
   -- One row more.
   pub right-extends :
-      (rows′ words : List ℕ) → Stored rows rows′ words (suc k) → RowSays words 0 (Gathered (λ u. u ≡ suc k) (MemberPart Fits rows k))
+      (rows′ words : List ℕ) → Stored rows rows′ words (suc k) → RowSays words 0 (Gathered (Only (suc k)) (MemberPart Fits rows k))
       → Right Le X rows′ (suc k)
   right-extends rows′ words stored says j h v =
       ⊎-elim (λ (g : j < suc k). Iff·trans (stored .others j (λ e. omega arith) v) (right j (omega arith) v))
@@ -98,7 +98,7 @@ module _ {Le : Relation} (bases exponents : List ℕ) where
 
   pub string-extends :
       (rows rows′ words : List ℕ) (k : ℕ) → Right Le (stringOf bases exponents k) rows k
-      → RowSays words 0 (Gathered (λ u. u ≡ suc k) (MemberPart (ContractsAt Le bases exponents k) rows k)) → Stored rows rows′ words (k + 1)
+      → RowSays words 0 (Gathered (Only (suc k)) (MemberPart (ContractsAt Le bases exponents k) rows k)) → Stored rows rows′ words (k + 1)
       → Right Le (stringOf bases exponents (k + 1)) rows′ (k + 1)
   string-extends rows rows′ words k right says stored =
       let X = stringOf bases exponents (suc k) in

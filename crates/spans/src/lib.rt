@@ -10,7 +10,7 @@ ghost use mathlib.Core.Path.{_≡_};
 ghost use mathlib.Core.Logic.{_⊎_};
 ghost use Rattle.pregroup.specs.Held.{InRows};
 ghost use Rattle.chart.specs.Rows.{InRow, HasRow, RowSays};
-ghost use Rattle.chart.specs.Chart.{Gathered};
+ghost use Rattle.chart.specs.Chart.{Gathered, Only};
 ghost use Rattle.spans.specs.Spans.{stringOf, ContractsAt, Right, StringThere, Bounded, Joined, MemberPart};
 
 // How many simple types a string has at most: 24 words of at most 12.
@@ -45,7 +45,7 @@ fn join_row(
 fn next_row(order: &[u64], bases: &[u8], exponents: &[u8], rows: &[u64], k: usize) -> Row
     requires { ⌜ StringThere (now bases) (now exponents) (k + 1) ⌝ }
     requires { ⌜ HasRow (now rows) k × Bounded (now rows) k ⌝ }
-    ensures { λ r. ⌜ RowSays (r .words) 0 (Gathered (λ u. u ≡ suc k)
+    ensures { λ r. ⌜ RowSays (r .words) 0 (Gathered (Only (suc k))
         (MemberPart (ContractsAt (InRows (now (order .entry))) (now (bases .entry)) (now (exponents .entry)) k) (now (rows .entry)) k)) ⌝ }
 {
     let mut row = rows::put(rows::empty(), k + 1);

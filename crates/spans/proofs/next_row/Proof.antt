@@ -1,7 +1,7 @@
 -- `spans::next_row` meets its contract: its loop is the walk of proofs/Walking.antt over row k.
 use Prim.Native.Nat.{suc, _-_}
 use native.Mathlib.Omega.{arith}
-use mathlib.Core.Path.{_≡_}
+use Rattle.chart.specs.Chart.{Only}
 use Rattle.pregroup.specs.Held.{InRows}
 use Rattle.chart.specs.Rows.{rowBits}
 use Rattle.spans.specs.Spans.{ContractsAt}
@@ -11,7 +11,7 @@ use Rattle.spans.proofs.next_row.Statement.{statement}
 use Rattle.spans.proofs.next_row.Tie as tie
 
 abbrev Inv-loop : tie.InvT-loop
-Inv-loop order bases exponents rows k row₀ j₀ row j = Walking (λ u. u ≡ suc k) (ContractsAt (InRows order) bases exponents k) rows k (row .words) j
+Inv-loop order bases exponents rows k row₀ j₀ row j = Walking (Only (suc k)) (ContractsAt (InRows order) bases exponents k) rows k (row .words) j
 
 abbrev μ-loop : tie.MeasureT-loop
 μ-loop order bases exponents rows k row₀ j₀ row j = rowBits - j
