@@ -1,0 +1,47 @@
+-- Document 01, "The book's bytes": the limits of books and lines, and the sizes that follow from them. `src/limits.rt` has the same figures.
+use Prim.Native.Nat.{ℕ, _+_, _*_, _/_}
+
+-- Bytes, basic types and entries of a book.
+abbrev pub maxBook : ℕ
+maxBook = 65535
+
+abbrev pub maxTypes : ℕ
+maxTypes = 64
+
+abbrev pub maxEntries : ℕ
+maxEntries = 1024
+
+-- Bytes of a name and of a word, simple types of an entry.
+abbrev pub maxName : ℕ
+maxName = 15
+
+abbrev pub maxWord : ℕ
+maxWord = 31
+
+abbrev pub maxEntrySimples : ℕ
+maxEntrySimples = 12
+
+-- Words of a line, and simple types of all entries of all its words.
+abbrev pub maxWords : ℕ
+maxWords = 24
+
+abbrev pub maxLineSimples : ℕ
+maxLineSimples = 512
+
+-- Simple types of a choice, and with the target behind it.
+abbrev pub maxString : ℕ
+maxString = maxWords * maxEntrySimples
+
+abbrev pub maxPlaces : ℕ
+maxPlaces = maxString + 1
+
+-- Nodes of a line's graph: a boundary for each word and one behind the last, the simple types, the target and the end.
+abbrev pub maxNodes : ℕ
+maxNodes = maxWords + maxLineSimples + 3
+
+-- Words of 64 bits that hold a set of nodes, and the members that they have room for.
+abbrev pub rowWords : ℕ
+rowWords = (maxNodes + 63) / 64
+
+abbrev pub rowBits : ℕ
+rowBits = 64 * rowWords

@@ -1,0 +1,33 @@
+// The limits of books and lines, and the sizes of lists that follow from them. `specs/Limits` has the same figures for contracts.
+
+// How many bytes a book has at most, and how many basic types and entries.
+pub const MAX_BOOK: usize = 65535;
+
+pub const MAX_TYPES: usize = 64;
+
+pub const MAX_ENTRIES: usize = 1024;
+
+// How many bytes a name and a word have at most, and how many simple types an entry.
+pub const MAX_NAME: usize = 15;
+
+pub const MAX_WORD: usize = 31;
+
+pub const MAX_ENTRY_SIMPLES: usize = 12;
+
+// How many words a line has at most, and how many simple types all entries of its words have together.
+pub const MAX_WORDS: usize = 24;
+
+pub const MAX_LINE_SIMPLES: usize = 512;
+
+// How many simple types a choice has at most, and how many with the target behind it.
+pub const MAX_STRING: usize = MAX_WORDS * MAX_ENTRY_SIMPLES;
+
+pub const MAX_PLACES: usize = MAX_STRING + 1;
+
+// How many nodes a line's graph has at most: a boundary for each word and one behind the last, the simple types, the target and the end.
+pub const MAX_NODES: usize = MAX_WORDS + MAX_LINE_SIMPLES + 3;
+
+// How many words of 64 bits a set of nodes takes, and how many members it has room for.
+pub const ROW_WORDS: usize = (MAX_NODES + 63) / 64;
+
+pub const ROW_BITS: usize = 64 * ROW_WORDS;
