@@ -1,2 +1,3 @@
--- The values of an answer.
+-- The values of an answer, and the first linking as it is written.
 pub mod Entries
+pub mod Links

@@ -1,5 +1,7 @@
 // How an answer's values are written into the lent buffer of 16-bit numbers: first the number of words and the numbers of their entries,
 // then the number of partners. The partners themselves are written where they are found.
+pub mod links;
+
 ghost use Prim.Native.Nat.{_+_, _<_};
 ghost use mathlib.Core.Path.{_≡_};
 ghost use mathlib.Core.List.{_∷_, _++_};

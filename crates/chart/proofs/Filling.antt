@@ -9,10 +9,12 @@ use lib.ListN.{getD, length}
 use Rattle.pregroup.specs.Types.{Simple}
 use Rattle.pregroup.specs.Order.{Relation}
 use Rattle.pregroup.specs.Vanish.{Contracts}
-use Rattle.chart.specs.Rows.{rowBits, InRow, HasRow, RowSays, Stored}
-use Rattle.chart.specs.Graph.{Graph, labelOf, Labelled, EntersBy, by, Upward, VanishTo}
-use Rattle.chart.specs.Chart.{FilledFrom, Fillable, Gathered, Only, itself, within, SlotPart, SlotsThere, LinkPart, NodeThere, LinksThere}
-use Rattle.chart.proofs.RowLaws.{less-or-not, same-or-not}
+use Rattle.figures.specs.Limits.{rowBits}
+use Rattle.bits.specs.Rows.{InRow, HasRow, RowSays, Stored}
+use Rattle.graph.specs.Graph.{Graph, labelOf, Labelled, EntersBy, by, Upward, VanishTo}
+use Rattle.chart.specs.Chart.{FilledFrom, Fillable, SlotPart, SlotsThere, LinkPart, NodeThere, LinksThere}
+use Rattle.bits.specs.Gathered.{Gathered, Only, itself, within}
+use Rattle.bits.proofs.Cases.{less-or-not, same-or-not}
 use Rattle.chart.proofs.Recurrence.{Van, same, pass, join, van-iff-vanish}
 
 module _ {g : Graph} (up : Upward g) where

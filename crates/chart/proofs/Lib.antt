@@ -1,8 +1,3 @@
--- The laws of rows, the recurrence that fills them, and the theorems on completion and on the first choice.
-pub mod RowLaws
-pub mod Gathering
+-- The recurrence that fills the chart's rows.
 pub mod Recurrence
 pub mod Filling
-pub mod Completion
-pub mod Choices
-pub mod Prefixes

@@ -6,7 +6,7 @@ use mathlib.Core.List.{[], _∷_, _++_}
 use Rattle.pregroup.specs.Types.{Simple, PregroupType}
 use Rattle.pregroup.specs.Order.{Relation}
 use Rattle.pregroup.specs.Vanish.{Contracts, Vanish, empty, link}
-use Rattle.chart.specs.Graph.{Graph, Labelled, Enters, Path, here, take, enter, VanishTo, along}
+use Rattle.graph.specs.Graph.{Graph, Labelled, Enters, Path, here, take, enter, VanishTo, along}
 
 pub data Van (Le : Relation) (g : Graph) : ℕ → ℕ → Type 0 where
   same : {u : ℕ} → Van Le g u u

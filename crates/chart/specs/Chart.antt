@@ -1,14 +1,13 @@
 -- What the chart's rows hold: row u has the nodes to which some path from u spells a string that vanishes. The functions that make one row
 -- go by what the rows behind it hold.
 use Prim.Native.Nat.{ℕ, _≤_, _<_}
-use mathlib.Core.Path.{_≡_}
 use mathlib.Core.List.{List}
 use lib.ListN.{getD, length}
 use Rattle.pregroup.specs.Order.{Relation}
 use Rattle.pregroup.specs.Vanish.{Contracts}
 use Rattle.pregroup.specs.Held.{held}
-use Rattle.chart.specs.Rows.{InRow, HasRow, RowSays}
-use Rattle.chart.specs.Graph.{Graph, Upward, VanishTo}
+use Rattle.bits.specs.Rows.{InRow, HasRow, RowSays}
+use Rattle.graph.specs.Graph.{Graph, Upward, VanishTo}
 
 -- The rows of the nodes from `from` on are filled.
 abbrev pub FilledFrom : Relation → Graph → List ℕ → ℕ → Type 0
@@ -18,15 +17,6 @@ FilledFrom Le g rows from = (u : ℕ) → from ≤ u → u < g .count → RowSay
 pub record Fillable (g : Graph) (rows : List ℕ) : Type 0 where
   pub upward : Upward g
   pub room : (u : ℕ) → u < g .count → HasRow rows u
-
--- v starts, or is in one of the parts.
-pub data Gathered (Start : ℕ → Type 0) (Part : ℕ → ℕ → Type 0) (v : ℕ) : Type 0 where
-  itself : Start v → Gathered Start Part v
-  within : (m : ℕ) → Part m v → Gathered Start Part v
-
--- A start of one number.
-abbrev pub Only : ℕ → ℕ → Type 0
-Only u v = v ≡ u
 
 -- The part of a slot: what the node that it enters has.
 pub record SlotPart (enters rows : List ℕ) (from to s v : ℕ) : Type 0 where

@@ -1,15 +1,17 @@
 // Which stretches of a line vanish. A line is a graph whose nodes are numbered from left to right; for each node the chart holds, as a row of
 // bits, the nodes to which some path spells a string that vanishes.
-pub mod rows;
-
-use rows::Row;
+use bits::rows;
+use bits::rows::Row;
+use figures::limits::ROW_BITS;
 ghost use mathlib.Core.Logic.{_⊎_};
 ghost use Prim.Native.Nat.{_<_};
 ghost use lib.ListN.{getD};
 ghost use Rattle.pregroup.specs.Held.{InRows};
-ghost use Rattle.chart.specs.Rows.{InRow, HasRow, RowSays, rowBits};
-ghost use Rattle.chart.specs.Graph.{graph};
-ghost use Rattle.chart.specs.Chart.{FilledFrom, Fillable, Gathered, Only, SlotPart, SlotsThere, Joined, LinkPart, NodeThere, LinksThere};
+ghost use Rattle.figures.specs.Limits.{rowBits};
+ghost use Rattle.bits.specs.Rows.{InRow, HasRow, RowSays};
+ghost use Rattle.graph.specs.Graph.{graph};
+ghost use Rattle.chart.specs.Chart.{FilledFrom, Fillable, SlotPart, SlotsThere, Joined, LinkPart, NodeThere, LinksThere};
+ghost use Rattle.bits.specs.Gathered.{Gathered, Only};
 
 // The row of boundary u: itself, and what the rows of the nodes have that its slots enter.
 fn boundary_row(enters: &[u16], rows: &[u64], u: usize, from: usize, to: usize) -> Row
@@ -69,7 +71,7 @@ fn simple_row(
     let behind = nexts[u] as usize;
     let mut row = rows::put(rows::empty(), u);
     let mut y = rows::next_member(rows, behind, 0);
-    while y < rows::ROW_BITS {
+    while y < ROW_BITS {
         row = join_row(order, bases, exponents, nexts, rows, row, u, y);
         y = rows::next_member(rows, behind, y + 1);
     }

@@ -11,12 +11,12 @@ use lib.Seq.{take-all, take-suc-set, getD-take, getD-set-same, getD-set-other, l
 use Rattle.pregroup.specs.Types.{Simple, PregroupType}
 use Rattle.pregroup.specs.Order.{Relation}
 use Rattle.pregroup.specs.Vanish.{Vanish, empty}
-use Rattle.chart.specs.Rows.{InRow}
-use Rattle.chart.specs.Graph.{Graph, labelOf, Labelled, EntersBy, by, Path, here, take as takes-node, enter, VanishTo, along}
-use Rattle.chart.specs.Completion.{Finishes, finishes, Boundary, Entry, ended, more, Choice, done, choose, Scanned, ends, takes}
-use Rattle.chart.specs.Prefixes.{simpleAt, Stretch, Leaving, whole, linked}
-use Rattle.chart.proofs.RowLaws.{less-or-not, same-or-not}
-use Rattle.chart.proofs.Choices.{scanned-is-first}
+use Rattle.bits.specs.Rows.{InRow}
+use Rattle.graph.specs.Graph.{Graph, labelOf, Labelled, EntersBy, by, Path, here, take as takes-node, enter, VanishTo, along, Boundary, Spells, ended, more}
+use Rattle.choice.specs.Completion.{Finishes, finishes, SlotChoice, done, choose, Scanned, ends, takes}
+use Rattle.choice.specs.Prefixes.{atPlace, Stretch, Leaving, whole, linked}
+use Rattle.bits.proofs.Cases.{less-or-not, same-or-not}
+use Rattle.choice.proofs.Choices.{scanned-is-first}
 use Rattle.choice.specs.Sets.{Among, OutPart, SomePart, NodeHeld, Growable, Grew, Searchable, FirstSlot, Started}
 use Rattle.choice.specs.Grown.{chosen, Grown}
 use Rattle.choice.specs.First.{Roomy, Choosable, Chose}
@@ -24,11 +24,11 @@ use Rattle.choice.proofs.Grown.{some-iff-finished, grown-more}
 
 -- The rest of a scan from a node on: the rest of its entry, and the slots behind it.
 pub data Rest (Le : Relation) (g : Graph) (end : ℕ) (P : PregroupType) (u : ℕ) (slots : List ℕ) : Type 0 where
-  rest : {T : PregroupType} {b : ℕ} → Entry g u T b → Scanned Le g end (P ++ T) b slots → Rest Le g end P u slots
+  rest : {T : PregroupType} {b : ℕ} → Spells g u T b → Scanned Le g end (P ++ T) b slots → Rest Le g end P u slots
 
 -- The rest of a choice from a node on.
 pub data Ahead (g : Graph) (u : ℕ) (slots : List ℕ) : PregroupType → ℕ → Type 0 where
-  ahead : {T X : PregroupType} {b end : ℕ} → Entry g u T b → Choice g b slots X end → Ahead g u slots (T ++ X) end
+  ahead : {T X : PregroupType} {b end : ℕ} → Spells g u T b → SlotChoice g b slots X end → Ahead g u slots (T ++ X) end
 
 pub record Choosing (Le : Relation) (g : Graph) (picked slots backs outs comps : List ℕ) (end u words places : ℕ) : Type 0 where
   pub below : u ≤ end
@@ -37,10 +37,10 @@ pub record Choosing (Le : Relation) (g : Graph) (picked slots backs outs comps :
   pub nodes : (i : ℕ) → i < places → getD picked i 0 < g .count
   pub finished : Finishes Le g (chosen g picked places) u end
   pub scan : (more : List ℕ) → Rest Le g end (chosen g picked places) u more → Scanned Le g end [] 0 (take words slots ++ more)
-  pub spell : (more : List ℕ) (X : PregroupType) → Ahead g u more X end → Choice g 0 (take words slots ++ more) (chosen g picked places ++ X) end
+  pub spell : (more : List ℕ) (X : PregroupType) → Ahead g u more X end → SlotChoice g 0 (take words slots ++ more) (chosen g picked places ++ X) end
 
 -- One node more is picked.
-map-at : (f : ℕ → Simple) (l : List ℕ) (i : ℕ) → i < length l → simpleAt (map f l) i ≡ f (getD l i 0)
+map-at : (f : ℕ → Simple) (l : List ℕ) (i : ℕ) → i < length l → atPlace (map f l) i ≡ f (getD l i 0)
 map-at f [] i h = absurd (omega arith)
 map-at f (x ∷ l) zero h = refl
 map-at f (x ∷ l) (suc i) h = map-at f l i (omega arith)
@@ -51,11 +51,11 @@ module _ (g : Graph) (picked : List ℕ) (n u : ℕ) (room : n < length picked) 
       ap (λ (k : ℕ). map (labelOf g) (take k (set picked n u))) (add-one n) ∙ ap (map (labelOf g)) (take-suc-set picked n u room)
       ∙ map-append (labelOf g) (take n picked) (u ∷ [])
 
-  label-at : (i : ℕ) → i ≤ n → labelOf g (getD (set picked n u) i 0) ≡ simpleAt (chosen g picked n ++ (labelOf g u ∷ [])) i
+  label-at : (i : ℕ) → i ≤ n → labelOf g (getD (set picked n u) i 0) ≡ atPlace (chosen g picked n ++ (labelOf g u ∷ [])) i
   label-at i h =
       let long : length (take (n + 1) (set picked n u)) ≡ n + 1 = length-take-le (n + 1) (set picked n u) (omega (arith, length-set picked n u)) in
       ap (labelOf g) (sym (getD-take (n + 1) (set picked n u) i 0 (omega arith)))
-      ∙ sym (map-at (labelOf g) (take (n + 1) (set picked n u)) i (omega arith)) ∙ ap (λ (P : PregroupType). simpleAt P i) chosen-more
+      ∙ sym (map-at (labelOf g) (take (n + 1) (set picked n u)) i (omega arith)) ∙ ap (λ (P : PregroupType). atPlace P i) chosen-more
 
   picked-node : (count : ℕ) → u < count → ((i : ℕ) → i < n → getD picked i 0 < count) → (i : ℕ) → i ≤ n → (i ≡ n) ⊎ (i ≡ n → ⊥) → getD (set picked n u) i 0 < count
   picked-node count h before i l (inl e) = rw (e, getD-set-same picked n u 0 room) h
@@ -288,18 +288,18 @@ module _ (Le : Relation) (g : Graph) (rows picked slots backs outs comps backs�
         );
   }
 
-  first-scan : (b : ℕ) {T : PregroupType} (after : List ℕ) → Entry g 0 T b → Scanned Le g end T b after → Scanned Le g end [] 0 after
+  first-scan : (b : ℕ) {T : PregroupType} (after : List ℕ) → Spells g 0 T b → Scanned Le g end T b after → Scanned Le g end [] 0 after
   first-scan b after (ended h) s = s
   first-scan b after (more l t) s = absurd (omega (arith, l .simple, pre .begins))
 
   start-scan : (after : List ℕ) → Rest Le g end [] 0 after → Scanned Le g end [] 0 after
   start-scan after (rest {b} t s) = first-scan b after t s
 
-  first-spell : (b : ℕ) {T X : PregroupType} (after : List ℕ) → Entry g 0 T b → Choice g b after X end → Choice g 0 after (T ++ X) end
+  first-spell : (b : ℕ) {T X : PregroupType} (after : List ℕ) → Spells g 0 T b → SlotChoice g b after X end → SlotChoice g 0 after (T ++ X) end
   first-spell b after (ended h) c = c
   first-spell b after (more l t) c = absurd (omega (arith, l .simple, pre .begins))
 
-  start-spell : {X : PregroupType} (after : List ℕ) → Ahead g 0 after X end → Choice g 0 after X end
+  start-spell : {X : PregroupType} (after : List ℕ) → Ahead g 0 after X end → SlotChoice g 0 after X end
   start-spell after (ahead {b} t c) = first-spell b after t c
 
   pub start-choosing : Choosing Le g picked slots backs′ outs′ comps′ end 0 0 0

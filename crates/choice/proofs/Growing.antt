@@ -6,8 +6,8 @@ use mathlib.Core.Logic.{Iff·trans}
 use mathlib.Core.List.{List}
 use lib.ListN.{getD, length}
 use Rattle.pregroup.specs.Order.{Relation}
-use Rattle.chart.specs.Rows.{RowSays, Stored}
-use Rattle.chart.specs.Chart.{Gathered, Only, itself, within}
+use Rattle.bits.specs.Rows.{RowSays, Stored}
+use Rattle.bits.specs.Gathered.{Gathered, Only, itself, within}
 use Rattle.choice.specs.Sets.{Among, Meets, meets, LinksTo, BackPart, OutPart, OutsThere, SomePart, ReachesLink, reaches, Grew, Growable}
 
 module _ (Le : Relation) (bases exponents nexts rows picked : List ℕ) (count j : ℕ) (backs outs comps : List ℕ)

@@ -8,15 +8,16 @@ use lib.ListN.{getD, length, take, length-append, List·getD-append}
 use lib.Seq.{take-append-le}
 use Rattle.pregroup.specs.Types.{Simple, PregroupType, plain}
 use Rattle.pregroup.specs.Order.{Relation}
-use Rattle.chart.specs.Rows.{RowSays}
-use Rattle.chart.specs.Graph.{Graph, labelOf, Labelled, Upward}
-use Rattle.chart.specs.Chart.{FilledFrom, Gathered, Only, itself, within}
-use Rattle.chart.specs.Completion.{Finishes, Reaches, reaches as comes-to}
-use Rattle.chart.specs.Prefixes.{simpleAt, Stretch, LinkedStretch, Leaving, whole, linked}
-use Rattle.chart.proofs.RowLaws.{same-or-not}
+use Rattle.bits.specs.Rows.{RowSays}
+use Rattle.graph.specs.Graph.{Graph, labelOf, Labelled, Upward}
+use Rattle.chart.specs.Chart.{FilledFrom}
+use Rattle.bits.specs.Gathered.{Gathered, Only, itself, within}
+use Rattle.choice.specs.Completion.{Finishes, Reaches, reaches as comes-to}
+use Rattle.choice.specs.Prefixes.{atPlace, Stretch, LinkedStretch, Leaving, whole, linked}
+use Rattle.bits.proofs.Cases.{same-or-not}
 use Rattle.chart.proofs.Recurrence.{van-iff-vanish}
 use Rattle.chart.proofs.Filling.{van-within, contracts-at}
-use Rattle.chart.proofs.Prefixes.{stretch-step, finishes-iff-finished}
+use Rattle.choice.proofs.Prefixes.{stretch-step, finishes-iff-finished}
 use Rattle.choice.specs.Sets.{Among, BackPart, OutPart, SomePart, some, ReachesLink, reaches, Grew}
 use Rattle.choice.specs.Grown.{Grown}
 
@@ -44,7 +45,7 @@ module _ (Le : Relation) (g : Graph) (P : PregroupType) (x : Simple) (end n : �
   prefix-same : (j : ℕ) → j ≤ n → take j (P ++ (x ∷ [])) ≡ take j P
   prefix-same j h = take-append-le j P (x ∷ []) (omega arith)
 
-  simple-same : (i : ℕ) → i < n → simpleAt (P ++ (x ∷ [])) i ≡ simpleAt P i
+  simple-same : (i : ℕ) → i < n → atPlace (P ++ (x ∷ [])) i ≡ atPlace P i
   simple-same i h = List·getD-append P (x ∷ []) (plain 0) i (omega arith)
 
   stretch-same : (i j : ℕ) → j ≤ n → Stretch Le P i j ↔ Stretch Le (P ++ (x ∷ [])) i j
@@ -64,7 +65,7 @@ module _ (Le : Relation) (g : Graph) (P : PregroupType) (x : Simple) (end n : �
 -- One simple type more.
 module _ (Le : Relation) (g : Graph) (rows picked : List ℕ) (P : PregroupType) (x : Simple) (end n : ℕ) (backs outs comps backs′ outs′ comps′ : List ℕ)
     (up : Upward g) (filled : FilledFrom Le g rows 0) (grown : Grown Le g P end n backs outs comps)
-    (labels : (i : ℕ) → i ≤ n → labelOf g (getD picked i 0) ≡ simpleAt (P ++ (x ∷ [])) i)
+    (labels : (i : ℕ) → i ≤ n → labelOf g (getD picked i 0) ≡ atPlace (P ++ (x ∷ [])) i)
     (more : Grew Le (g .bases) (g .exponents) (g .nexts) rows picked (g .count) n backs outs comps backs′ outs′ comps′) where
   longer : length (P ++ (x ∷ [])) ≡ n + 1
   longer = omega (arith, length-append P (x ∷ []), grown .long)
@@ -116,11 +117,11 @@ module _ (Le : Relation) (g : Graph) (rows picked : List ℕ) (P : PregroupType)
       let back : n + 1 - 1 ≡ n = omega arith in
       let l : Labelled g u (labelOf g u) (getD (g .nexts) u 0) = record { simple = b .holds .simple; label = refl; next = refl } in
       let f = grown .finished n (omega arith) (getD (g .nexts) u 0) .0 (b .holds .behind) in
-      let r : Reaches Le g (simpleAt (P ++ (x ∷ [])) n) (take n P) y end =
+      let r : Reaches Le g (atPlace (P ++ (x ∷ [])) n) (take n P) y end =
       comes-to (filled y (omega arith) h u .0 a) l (contracts-at (labels n (omega arith)) refl (b .holds .contracts)) (f .holds) in
       linked (omega arith) (rw (back, prefix-same Le g P x end n (grown .long) n (omega arith)) r)
 
-  link-of-reaches : (y : ℕ) → y < g .count → Reaches Le g (simpleAt (P ++ (x ∷ [])) n) (take n P) y end → ReachesLink Le (g .bases) (g .exponents) (g .nexts) rows comps (g .count) n (getD picked n 0) y
+  link-of-reaches : (y : ℕ) → y < g .count → Reaches Le g (atPlace (P ++ (x ∷ [])) n) (take n P) y end → ReachesLink Le (g .bases) (g .exponents) (g .nexts) rows comps (g .count) n (getD picked n 0) y
   link-of-reaches y h (comes-to {m = u} {k} v l c f) =
       let small = van-within up h (van-iff-vanish .1 v) in
       let next = up .nexts-up u small (l .simple) in

@@ -6,8 +6,9 @@ use mathlib.Core.Path.{_≡_}
 use mathlib.Core.Logic.{_⊎_, inl, inr, ⊎-elim, Iff·trans}
 use mathlib.Core.List.{List}
 use lib.ListN.{getD}
-use Rattle.chart.specs.Rows.{rowBits, InRow, RowSays, NextMember, Stored}
-use Rattle.chart.proofs.RowLaws.{less-or-not, same-or-not}
+use Rattle.figures.specs.Limits.{rowBits}
+use Rattle.bits.specs.Rows.{InRow, RowSays, NextMember, Stored}
+use Rattle.bits.proofs.Cases.{less-or-not, same-or-not}
 use Rattle.choice.specs.Sets.{Among, OutPart, SomePart, some, FirstSlot, Started}
 
 -- No slot from `from` to before s is one from whose node the prefix is finished.

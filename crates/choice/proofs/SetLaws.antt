@@ -10,9 +10,11 @@ use Rattle.bits.specs.Bits.{Has, Members}
 use Rattle.bits.proofs.BitLaws.{empty-has-none}
 use Rattle.bits.proofs.Trailing.{trailing-lowest}
 use lib.Count.{trailingZeros}
-use Rattle.chart.specs.Rows.{rowWords, InRow, RowSays}
-use Rattle.chart.proofs.Gathering.{Below}
-use Rattle.chart.proofs.RowLaws.{less-or-not, same-or-not, word-of-row, row-of-word}
+use Rattle.figures.specs.Limits.{rowWords}
+use Rattle.bits.specs.Rows.{InRow, RowSays}
+use Rattle.bits.proofs.Gathering.{Below}
+use Rattle.bits.proofs.Cases.{less-or-not, same-or-not}
+use Rattle.bits.proofs.RowLaws.{word-of-row, row-of-word}
 use Rattle.choice.specs.Sets.{Among, Meets, meets, SomePart, some}
 
 -- A row filled node by node.

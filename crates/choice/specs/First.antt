@@ -4,10 +4,10 @@ use mathlib.Core.Path.{_≡_}
 use mathlib.Core.List.{List, []}
 use lib.ListN.{length, getD, take}
 use Rattle.pregroup.specs.Order.{Relation}
-use Rattle.chart.specs.Rows.{HasRow}
-use Rattle.chart.specs.Graph.{Graph, Upward, VanishTo}
+use Rattle.bits.specs.Rows.{HasRow}
+use Rattle.graph.specs.Graph.{Graph, Upward, VanishTo, Boundary}
 use Rattle.chart.specs.Chart.{FilledFrom}
-use Rattle.chart.specs.Completion.{Boundary, Choice, FirstChoice, Scanned}
+use Rattle.choice.specs.Completion.{SlotChoice, FirstChoice, Scanned}
 use Rattle.choice.specs.Grown.{chosen}
 
 -- The buffers have room for as many places, words and rows as there are nodes.
@@ -32,6 +32,6 @@ pub record Choosable (Le : Relation) (g : Graph) (rows : List ℕ) (end : ℕ) :
 pub record Chose (Le : Relation) (g : Graph) (picked slots : List ℕ) (end words places : ℕ) : Type 0 where
   pub scanned : Scanned Le g end [] 0 (take words slots)
   pub first : FirstChoice Le g [] 0 (take words slots) end
-  pub spelled : Choice g 0 (take words slots) (chosen g picked places) end
+  pub spelled : SlotChoice g 0 (take words slots) (chosen g picked places) end
   pub nodes : (i : ℕ) → i < places → getD picked i 0 < g .count
   pub few : places + words ≤ end

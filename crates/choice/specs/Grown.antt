@@ -5,10 +5,10 @@ use mathlib.Core.List.{List, map}
 use lib.ListN.{length, take}
 use Rattle.pregroup.specs.Types.{PregroupType}
 use Rattle.pregroup.specs.Order.{Relation}
-use Rattle.chart.specs.Rows.{RowSays}
-use Rattle.chart.specs.Graph.{Graph, labelOf}
-use Rattle.chart.specs.Completion.{Finishes}
-use Rattle.chart.specs.Prefixes.{Stretch, Leaving}
+use Rattle.bits.specs.Rows.{RowSays}
+use Rattle.graph.specs.Graph.{Graph, labelOf}
+use Rattle.choice.specs.Completion.{Finishes}
+use Rattle.choice.specs.Prefixes.{Stretch, Leaving}
 use Rattle.choice.specs.Sets.{Among}
 
 -- The string that the first n picked nodes spell.

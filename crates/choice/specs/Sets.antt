@@ -7,8 +7,9 @@ use Rattle.pregroup.specs.Types.{Simple}
 use Rattle.pregroup.specs.Order.{Relation}
 use Rattle.pregroup.specs.Vanish.{Contracts}
 use Rattle.pregroup.specs.Held.{held}
-use Rattle.chart.specs.Rows.{rowBits, InRow, HasRow, RowSays}
-use Rattle.chart.specs.Chart.{Gathered, Only}
+use Rattle.figures.specs.Limits.{rowBits}
+use Rattle.bits.specs.Rows.{InRow, HasRow, RowSays}
+use Rattle.bits.specs.Gathered.{Gathered, Only}
 
 -- The simple type of a node.
 abbrev pub heldAt : List ℕ → List ℕ → ℕ → Simple

@@ -1,9 +1,10 @@
 // The first choice of a line: entry by entry, by the rows of the chart and by three rows for each simple type that is chosen.
 mod sets;
 
-use chart::rows;
+use bits::rows;
+use figures::limits::ROW_BITS;
 ghost use Rattle.pregroup.specs.Held.{InRows};
-ghost use Rattle.chart.specs.Graph.{graph};
+ghost use Rattle.graph.specs.Graph.{graph};
 ghost use Rattle.choice.specs.First.{Roomy, Choosable, Chose};
 ghost use Rattle.choice.specs.Sets.{Started, Startable, Grew, Growable, FirstSlot, Searchable};
 
@@ -80,7 +81,7 @@ fn first_slot(
     'search: while s < to {
         let node = enters[s] as usize;
         let mut m = rows::next_member(backs, n, 0);
-        while m < rows::ROW_BITS {
+        while m < ROW_BITS {
             if rows::member(outs, m, node) {
                 break 'search;
             }

@@ -1,14 +1,17 @@
 // Sets of nodes and of places, gathered from rows.
-use chart::rows;
-use chart::rows::Row;
+use bits::rows;
+use bits::rows::Row;
+use figures::limits::ROW_BITS;
+use figures::limits::ROW_WORDS;
 ghost use mathlib.Core.Path.{_≡_};
 ghost use mathlib.Core.Logic.{_↔_, _⊎_};
 ghost use mathlib.Core.Bool.{true};
 ghost use Prim.Native.Nat.{_+_, _<_, _≤_};
 ghost use lib.ListN.{length};
 ghost use Rattle.pregroup.specs.Held.{InRows};
-ghost use Rattle.chart.specs.Rows.{InRow, HasRow, RowSays, rowBits, rowWords};
-ghost use Rattle.chart.specs.Chart.{Gathered, Only};
+ghost use Rattle.figures.specs.Limits.{rowBits, rowWords};
+ghost use Rattle.bits.specs.Rows.{InRow, HasRow, RowSays};
+ghost use Rattle.bits.specs.Gathered.{Gathered, Only};
 ghost use Rattle.choice.specs.Sets.{Among, Meets, RowsThere, LinksTo, NodeHeld, NodesHeld, BackLink, BackPart, PlacesHeld, PlacesUpTo, OutPart, OutsThere, SomePart};
 
 // Puts v into the row where the flag says so.
@@ -26,7 +29,7 @@ pub(crate) fn column(rows: &[u64], count: usize, v: usize) -> Row
     requires { ⌜ RowsThere (now rows) count ⌝ }
     ensures { λ r. ⌜ RowSays (r .words) 0 (Among count (λ y. InRow (now (rows .entry)) y v)) ⌝ }
 {
-    let mut words = [0u64; rows::ROW_WORDS];
+    let mut words = [0u64; ROW_WORDS];
     let mut y = 0;
     while y < count {
         put_where(&mut words, y, rows::member(rows, y, v));
@@ -41,9 +44,9 @@ fn meets(rows: &[u64], u: usize, set: Row) -> bool
     ensures { λ r. ⌜ (r ≡ true) ↔ Meets (now (rows .entry)) u (set .words) ⌝ }
 {
     let words = set.words;
-    let at = rows::ROW_WORDS * u;
+    let at = ROW_WORDS * u;
     let mut k = 0;
-    while k < rows::ROW_WORDS {
+    while k < ROW_WORDS {
         if bits::both(rows[at + k], words[k]) != 0 {
             return true;
         }
@@ -57,7 +60,7 @@ pub(crate) fn reaching(rows: &[u64], count: usize, set: Row) -> Row
     requires { ⌜ RowsThere (now rows) count ⌝ }
     ensures { λ r. ⌜ RowSays (r .words) 0 (Among count (λ y. Meets (now (rows .entry)) y (set .words))) ⌝ }
 {
-    let mut words = [0u64; rows::ROW_WORDS];
+    let mut words = [0u64; ROW_WORDS];
     let mut y = 0;
     while y < count {
         put_where(&mut words, y, meets(rows, y, set));
@@ -108,7 +111,7 @@ pub(crate) fn link_targets(
     ensures { λ r. ⌜ RowSays (r .words) 0 (Among count
         (LinksTo (InRows (now (order .entry))) (now (bases .entry)) (now (exponents .entry)) (now (nexts .entry)) (now (comps .entry)) j p)) ⌝ }
 {
-    let mut words = [0u64; rows::ROW_WORDS];
+    let mut words = [0u64; ROW_WORDS];
     let mut u = 0;
     while u < count {
         put_where(
@@ -167,7 +170,7 @@ pub(crate) fn back_row(
 {
     let mut row = rows::put(rows::empty(), j + 1);
     let mut m = rows::next_member(backs, j, 1);
-    while m < rows::ROW_BITS {
+    while m < ROW_BITS {
         row = back_join(order, bases, exponents, picked, backs, row, j, m);
         m = rows::next_member(backs, j, m + 1);
     }
@@ -182,7 +185,7 @@ pub(crate) fn finished_row(backs: &[u64], outs: &[u64], j: usize) -> Row
 {
     let mut row = rows::empty();
     let mut m = rows::next_member(backs, j, 0);
-    while m < rows::ROW_BITS {
+    while m < ROW_BITS {
         row = rows::unite(row, outs, m);
         m = rows::next_member(backs, j, m + 1);
     }

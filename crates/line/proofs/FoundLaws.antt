@@ -13,7 +13,7 @@ use Rattle.linking.specs.Reading.{NumberedEntry}
 use Rattle.book.specs.Format.{Bytes, bodyAt, typePart, sameBytes, wordOf}
 use Rattle.book.proofs.Layouts.{entry-shape}
 use Rattle.line.specs.LineFaults.{simplesIn}
-use Rattle.line.specs.LookUp.{Entries, entryAt, entriesAt, FoundEntries, Held, Tallied}
+use Rattle.line.specs.LookUp.{Entries, entryAt, entriesAt, FoundEntries, Tallyable, Tallied}
 use Rattle.line.proofs.LookUpLaws.{simples-length, left, left-same, left-other, left-end}
 
 -- The search for a word's entries.
@@ -96,7 +96,7 @@ module _ (bytes : Bytes) (offsets : List ℕ) (found : List ℕ) (n : ℕ) where
   pub tally-start : Tallying 0 0
   tally-start = record { inside = omega arith; total = omega arith; small = omega arith }
 
-  module _ (held : Held bytes offsets found n) (sum k : ℕ) (t : Tallying sum k) where
+  module _ (held : Tallyable bytes offsets found n) (sum k : ℕ) (t : Tallying sum k) where
     -- The record of the k-th.
     abbrev body : Bytes
     body = bodyAt bytes (getD {A = ℕ} offsets (getD {A = ℕ} found k 0) 0)

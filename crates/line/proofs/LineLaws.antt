@@ -13,12 +13,12 @@ use lib.Seq.{drop-cons, getD-at}
 use borrow.Author.Tests.{lt-ltb, le-ltb}
 use Rattle.linking.specs.Reading.{NumberedEntry, Words}
 use Rattle.book.specs.Format.{Bytes, Book}
-use Rattle.line.specs.Words.{Word, wordsOf}
+use Rattle.line.specs.LineWords.{Word, wordsOf}
 use Rattle.line.specs.LineFaults.{maxSimples, entriesFrom, entriesOf, entriesOfLine, byteFault, wordFault, entryFault, isEmpty, simplesIn, simplesOfWords, passed, stopped, lineCheck}
 use Rattle.line.specs.Split.{wordAt, wordsKept, SplitInto, Stopped, at-byte, at-word}
 use Rattle.line.specs.LookUp.{entriesKept, entriesAt, FoundEntries, Tallied, Missing, no-entry, too-many, LookedUp, LineSays}
-use Rattle.line.specs.declared.Words.{Words as Split}
-use Rattle.line.specs.declared.Words.the-variants.{Found, Refused}
+use Rattle.line.specs.declared.CheckedLine.{CheckedLine as Split}
+use Rattle.line.specs.declared.CheckedLine.the-variants.{Found, Refused}
 use Rattle.line.proofs.FoundLaws.{found-length}
 
 pub kept-length : (line : Bytes) (starts ends : List ℕ) (n : ℕ) → length (wordsKept line starts ends n) ≡ n

@@ -14,7 +14,7 @@ use Rattle.pregroup.specs.Types.{PregroupType}
 use Rattle.linking.specs.Reading.{NumberedEntry, Words, Choice, take, empty as empty-choice, Ascending, empty, more, AllAscending}
 use Rattle.book.specs.Format.{Bytes, Book, Entry, maxSimples as maxType}
 use Rattle.book.proofs.Accepted.{AllShort}
-use Rattle.line.specs.Words.{Word, wordsOf}
+use Rattle.line.specs.LineWords.{Word, wordsOf}
 use Rattle.line.specs.LineFaults.{maxSimples, sameWord, entriesFrom, entriesOf, entriesOfLine, byteFault, wordFault, entryFault, isEmpty, simplesOfWords, LineCheck, passed, stopped, orElse, lineCheck}
 
 -- Every entry's number is n or more.

@@ -10,7 +10,7 @@ use lib.ListN.{length, getD, take, drop, length-drop, drop-of-length-le}
 use lib.Seq.{drop-cons, take-suc, getD-drop, length-take-le}
 use borrow.Author.Tests.{eq-eqb, ne-eqb}
 use Rattle.book.specs.Format.{Bytes, between}
-use Rattle.line.specs.Words.{Word, isSpace, before, Parts, partsFrom, wordsFrom}
+use Rattle.line.specs.LineWords.{Word, isSpace, before, Parts, partsFrom, wordsFrom}
 use Rattle.line.specs.LineFaults.{byteFault}
 use Rattle.line.specs.Split.{wordAt}
 

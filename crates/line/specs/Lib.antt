@@ -1,5 +1,5 @@
 -- A line: its words, what it is refused for before it is read (11 to 14), and its words' entries.
-pub mod Words
+pub mod LineWords
 pub mod LineFaults
 pub mod Split
 pub mod LookUp

@@ -8,7 +8,7 @@ use lib.Dec.{leb, ltb}
 use lib.ListN.{length}
 use Rattle.book.specs.Format.{Bytes, Book, Entry, between, sameBytes, maxWord}
 use Rattle.linking.specs.Reading.{NumberedEntry, Words}
-use Rattle.line.specs.Words.{Word, wordsOf}
+use Rattle.line.specs.LineWords.{Word, wordsOf}
 
 -- The figures of the paper.
 abbrev pub maxWords : ℕ

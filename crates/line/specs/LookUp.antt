@@ -9,10 +9,10 @@ use Rattle.linking.specs.Reading.{NumberedEntry}
 use Rattle.book.specs.Format.{Bytes, Book, Entry, bodyAt, entryOf, isEntry}
 use Rattle.book.specs.Kept.{bodiesAt, Whole}
 use Rattle.line.specs.LineFaults.{entriesFrom, simplesIn, maxSimples, entriesOfLine, entryFault, simplesOfWords, passed, stopped, lineCheck}
-use Rattle.line.specs.Words.{wordsOf}
+use Rattle.line.specs.LineWords.{wordsOf}
 use Rattle.line.specs.Split.{SplitInto}
-use Rattle.line.specs.declared.Words.{Words}
-use Rattle.line.specs.declared.Words.the-variants.{Found, Refused}
+use Rattle.line.specs.declared.CheckedLine.{CheckedLine}
+use Rattle.line.specs.declared.CheckedLine.the-variants.{Found, Refused}
 
 -- The entries whose records start at the kept offsets, and that each of these is an entry's.
 abbrev pub entriesKept : Bytes → List ℕ → ℕ → List Entry
@@ -37,7 +37,7 @@ pub record Numbers (count : ℕ) (found : List ℕ) (n : ℕ) : Type 0 where
   pub low : (k : ℕ) → k < n → getD {A = ℕ} found k 0 < count
 
 -- The same, however many entries are kept.
-pub record Held (bytes : Bytes) (offsets : List ℕ) (found : List ℕ) (n : ℕ) : Type 0 where
+pub record Tallyable (bytes : Bytes) (offsets : List ℕ) (found : List ℕ) (n : ℕ) : Type 0 where
   pub count : ℕ
   pub entries : Entries bytes offsets count
   pub numbers : Numbers count found n
@@ -53,7 +53,7 @@ pub record Tallied (bytes : Bytes) (offsets : List ℕ) (found : List ℕ) (n su
   pub small : sum ≤ 12288
 
 -- What the check of a line says, against a book whose entries are kept.
-abbrev pub LineSays : Book → Bytes → List ℕ → List ℕ → Words → Type 0
+abbrev pub LineSays : Book → Bytes → List ℕ → List ℕ → CheckedLine → Type 0
 LineSays B line starts ends (Found count) = SplitInto line starts ends count × (lineCheck B line ≡ passed (entriesOfLine B line)) × (simplesOfWords (entriesOfLine B line) ≤ maxSimples)
 LineSays B line starts ends (Refused number value) = lineCheck B line ≡ stopped number value
 
@@ -63,6 +63,6 @@ pub data Missing (B : Book) (line : Bytes) : ℕ → ℕ → Type 0 where
   too-many : entryFault B (wordsOf line) ≡ none → maxSimples < simplesOfWords (entriesOfLine B line) → Missing B line 14 0
 
 -- The look-up of words that are split off, in a book: all have entries and not too many simple types, or one of 13 and 14 is broken.
-abbrev pub LookedUp : Book → Bytes → ℕ → Words → Type 0
+abbrev pub LookedUp : Book → Bytes → ℕ → CheckedLine → Type 0
 LookedUp B line words (Found count) = (count ≡ words) × (entryFault B (wordsOf line) ≡ none) × (simplesOfWords (entriesOfLine B line) ≤ maxSimples)
 LookedUp B line words (Refused number value) = Missing B line number value

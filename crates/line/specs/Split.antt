@@ -5,10 +5,10 @@ use mathlib.Core.List.{List, [], _∷_, _++_}
 use mathlib.Core.Option.{none, some}
 use lib.ListN.{length, getD, take, drop}
 use Rattle.book.specs.Format.{Bytes, maxWord}
-use Rattle.line.specs.Words.{Word, wordsFrom, wordsOf}
+use Rattle.line.specs.LineWords.{Word, wordsFrom, wordsOf}
 use Rattle.line.specs.LineFaults.{maxWords, byteFault, wordFault}
-use Rattle.line.specs.declared.Words.{Words}
-use Rattle.line.specs.declared.Words.the-variants.{Found, Refused}
+use Rattle.line.specs.declared.CheckedLine.{CheckedLine}
+use Rattle.line.specs.declared.CheckedLine.the-variants.{Found, Refused}
 
 -- The word that starts at `at` and ends before `end`.
 abbrev pub wordAt : Bytes → ℕ → ℕ → Word
@@ -51,6 +51,6 @@ pub data Stopped (line : Bytes) : ℕ → ℕ → Type 0 where
   at-byte : {value : ℕ} → byteFault 0 line ≡ some value → Stopped line 11 value
   at-word : {value : ℕ} → byteFault 0 line ≡ none → wordFault 0 (wordsOf line) ≡ some value → Stopped line 12 value
 
-abbrev pub SplitSays : Bytes → List ℕ → List ℕ → Words → Type 0
+abbrev pub SplitSays : Bytes → List ℕ → List ℕ → CheckedLine → Type 0
 SplitSays line starts ends (Found count) = SplitInto line starts ends count
 SplitSays line starts ends (Refused number value) = Stopped line number value

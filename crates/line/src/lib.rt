@@ -4,7 +4,7 @@ pub mod lookup;
 pub mod split;
 
 // What splitting a line gives: how many words it has, or the number that it is refused with and the value returned with it.
-pub enum Words {
+pub enum CheckedLine {
     Found(usize),
     Refused { number: u32, value: usize },
 }

@@ -1,5 +1,5 @@
 // The look-up of a line's words in a book, and refusals 13 and 14. Words are compared where they stand.
-use crate::Words;
+use crate::CheckedLine;
 use crate::split::split;
 use book::compare::same;
 use book::layout::body_at;
@@ -14,7 +14,7 @@ ghost use lib.ListN.{length};
 ghost use Rattle.book.specs.Format.{Book, bodyAt, nextAt, isEntry, wordOf};
 ghost use Rattle.line.specs.LineFaults.{maxWords, sameWord};
 ghost use Rattle.line.specs.Split.{SplitInto};
-ghost use Rattle.line.specs.LookUp.{entriesKept, Entries, FoundEntries, Held, Tallied, LookedUp, LineSays};
+ghost use Rattle.line.specs.LookUp.{entriesKept, Entries, FoundEntries, Tallyable, Tallied, LookedUp, LineSays};
 
 pub const MAX_SIMPLES: usize = 512;
 
@@ -51,7 +51,7 @@ pub fn find_entries(
 
 // How many simple types the first n entries found have together.
 pub fn tally_found(book: &[u8], offsets: &[u16], found: &[u16], n: usize) -> usize
-    requires { ⌜ Held (now book) (now offsets) (now found) n ⌝ }
+    requires { ⌜ Tallyable (now book) (now offsets) (now found) n ⌝ }
     ensures { λ r. ⌜ Tallied (now (book .entry)) (now (offsets .entry)) (now (found .entry)) n r ⌝ }
 {
     let mut sum = 0;
@@ -73,7 +73,7 @@ fn look_up(
     starts: &[usize],
     ends: &[usize],
     words: usize,
-) -> Words
+) -> CheckedLine
     requires { ⌜ Entries (now book) (now offsets) count × SplitInto (now line) (now starts) (now ends) words × (maxWords ≤ length (now starts)) × (maxWords ≤ length (now ends)) ⌝ }
     ensures { λ r. ⌜ ((B : Book) → B .entries ≡ entriesKept (now (book .entry)) (now (offsets .entry)) count → LookedUp B (now (line .entry)) words r) ⌝ }
 {
@@ -85,7 +85,7 @@ fn look_up(
         let end = ends[k];
         let n = find_entries(book, offsets, count, &line[start..end], &mut found);
         if n == 0 {
-            return Words::Refused {
+            return CheckedLine::Refused {
                 number: 13,
                 value: start,
             };
@@ -94,12 +94,12 @@ fn look_up(
         k += 1;
     }
     if MAX_SIMPLES < sum {
-        return Words::Refused {
+        return CheckedLine::Refused {
             number: 14,
             value: 0,
         };
     }
-    Words::Found(words)
+    CheckedLine::Found(words)
 }
 
 // Checks a line against a book whose entries are kept: its words, or the refusal 11 to 14 that it gets.
@@ -110,13 +110,13 @@ pub fn check_line(
     line: &[u8],
     starts: &mut [usize],
     ends: &mut [usize],
-) -> Words
+) -> CheckedLine
     requires { ⌜ Entries (now book) (now offsets) count × (maxWords ≤ length (now starts)) × (maxWords ≤ length (now ends)) ⌝ }
     ensures { λ r. ⌜ ((B : Book) → B .entries ≡ entriesKept (now (book .entry)) (now (offsets .entry)) count → LineSays B (now (line .entry)) (now (starts .exit)) (now (ends .exit)) r) ⌝ }
 {
     let found = split(line, starts, ends);
     match found {
-        Words::Refused { number, value } => Words::Refused { number, value },
-        Words::Found(words) => look_up(book, offsets, count, line, starts, ends, words),
+        CheckedLine::Refused { number, value } => CheckedLine::Refused { number, value },
+        CheckedLine::Found(words) => look_up(book, offsets, count, line, starts, ends, words),
     }
 }

@@ -1,5 +1,5 @@
 // The words of a line, and refusals 11 and 12.
-use crate::Words;
+use crate::CheckedLine;
 use book::layout::MAX_WORD;
 ghost use mathlib.Core.Path.{_≡_};
 ghost use mathlib.Core.Bool.{cond};
@@ -68,13 +68,13 @@ fn end_of_word(line: &[u8], at: usize) -> usize
 }
 
 // Finds the words of a line and keeps where each starts and ends. There are places for 24 words.
-pub fn split(line: &[u8], starts: &mut [usize], ends: &mut [usize]) -> Words
+pub fn split(line: &[u8], starts: &mut [usize], ends: &mut [usize]) -> CheckedLine
     requires { ⌜ (maxWords ≤ length (now starts)) × (maxWords ≤ length (now ends)) ⌝ }
     ensures { λ r. ⌜ SplitSays (now (line .entry)) (now (starts .exit)) (now (ends .exit)) r ⌝ }
 {
     let bad = bad_byte(line);
     if bad < line.len() {
-        return Words::Refused {
+        return CheckedLine::Refused {
             number: 11,
             value: bad,
         };
@@ -84,13 +84,13 @@ pub fn split(line: &[u8], starts: &mut [usize], ends: &mut [usize]) -> Words
     while at < line.len() {
         let end = end_of_word(line, at);
         if MAX_WORD < end - at {
-            return Words::Refused {
+            return CheckedLine::Refused {
                 number: 12,
                 value: at,
             };
         }
         if MAX_WORDS <= count {
-            return Words::Refused {
+            return CheckedLine::Refused {
                 number: 12,
                 value: at,
             };
@@ -100,5 +100,5 @@ pub fn split(line: &[u8], starts: &mut [usize], ends: &mut [usize]) -> Words
         count += 1;
         at = skip_spaces(line, end);
     }
-    Words::Found(count)
+    CheckedLine::Found(count)
 }

@@ -4,7 +4,7 @@ use Prim.Native.Nat.{ℕ, zero, suc, _+_, _%_}
 use native.Mathlib.Numerals.{add-one}
 use mathlib.Core.Path.{_≡_, refl, sym, ap, _∙_}
 use mathlib.Core.Logic.{_↔_}
-use mathlib.Core.Bool.{Bool, true, false, false≢true}
+use mathlib.Core.Bool.{Bool, true, false}
 use borrow.Author.Tests.{eq-eqb, ne-eqb}
 use lib.IntN.{ℤ, pos, negℤ, sucℤ, _+ℤ_, _-ℤ_, sucℤ-+ℤ, -ℤ-+ℤ-cancel}
 use Rattle.pregroup.specs.Types.{even}
@@ -47,10 +47,6 @@ module _ (Le : Relation) (a b x y : ℕ) where
   pub held-odd : y ≡ x + 1 → (x % 2 ≡ 0 → ⊥) → Le b a ↔ Contracts Le (held a x) (held b y)
   unfolding even
   held-odd follows h = held-turned false follows (ne-eqb (x % 2) 0 h)
-
--- A `false` that is right to say no.
-pub false-iff : {A : Type 0} → (A → ⊥) → (false ≡ true) ↔ A
-false-iff never = (λ h. absurd (false≢true h), λ a. absurd (never a))
 
 -- A held simple type is plain exactly when its raised exponent is the bias.
 pub held-plain : (x : ℕ) → (pos x -ℤ pos bias ≡ pos 0) ↔ (x ≡ bias)

@@ -17,11 +17,11 @@ use Rattle.pregroup.proofs.Switching.{reduces-iff-vanish}
 use Rattle.linking.specs.Linking.{firstLinking}
 use Rattle.linking.specs.Reading.{Words, firstReading}
 use Rattle.line.proofs.Passed.{AllKnown}
-use Rattle.chart.specs.Graph.{Graph, labelOf, EntersBy, VanishTo, along}
-use Rattle.chart.specs.Completion.{Finishes, finishes, Boundary, Completes, completes}
+use Rattle.graph.specs.Graph.{Graph, labelOf, EntersBy, VanishTo, along, Boundary}
+use Rattle.choice.specs.Completion.{Finishes, finishes, Completes, completes}
 use Rattle.choice.specs.Grown.{chosen}
 use Rattle.choice.specs.First.{Chose}
-use Rattle.lattice.specs.Layout.{Laid}
+use Rattle.graph.specs.Layout.{Laid}
 use Rattle.reader.proofs.Selection.{withNumber, withNumbers, lastAnswer, Answered, laid-none, scanned-answers}
 
 take-map : {A B : Type 0} (f : A → B) (n : ℕ) (l : List A) → take n (map f l) ≡ map f (take n l)

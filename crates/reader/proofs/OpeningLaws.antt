@@ -15,11 +15,11 @@ use Rattle.book.specs.Kept.{Store, Opened}
 use Rattle.book.proofs.Checking.{opened-types, opened-order}
 use Rattle.book.proofs.Accepted.{accepted-declares}
 use Rattle.linking.specs.Reading.{Words, firstReading}
-use Rattle.line.specs.Words.{wordsOf}
+use Rattle.line.specs.LineWords.{wordsOf}
 use Rattle.line.specs.LineFaults.{passed, stopped, lineCheck, entriesOf, entriesOfLine}
 use Rattle.line.proofs.LineLaws.{kept-length}
 use Rattle.line.proofs.Passed.{line-passing, line-brief}
-use Rattle.lattice.specs.Lists.{Lists, graphOf, Checked, LaidOut}
+use Rattle.graph.specs.Lists.{Lists, graphOf, Checked, LaidOut}
 use Rattle.reader.specs.declared.LineAnswer.{LineAnswer}
 use Rattle.reader.specs.declared.LineAnswer.the-variants.{Refused}
 use Rattle.reader.specs.Outcome.{Outcome, given, readAgainst, readParsed, outcome}

@@ -20,16 +20,17 @@ use Rattle.linking.proofs.FirstLinking.{first-linking-some, first-linking-none,
 use Rattle.linking.proofs.FirstReading.{first-reading-some}
 use Rattle.line.specs.LineFaults.{maxWords}
 use Rattle.line.proofs.Passed.{choice-brief}
-use Rattle.chart.specs.Graph.{Graph, EntersBy, Upward, VanishTo}
-use Rattle.chart.specs.Completion.{Boundary, Entry, ended, more, Choice, done, choose}
+use Rattle.graph.specs.Graph.{Graph, EntersBy, Upward, VanishTo, Boundary, Spells, ended, more}
+use Rattle.choice.specs.Completion.{SlotChoice, done, choose}
 use Rattle.choice.specs.Grown.{chosen}
-use Rattle.chart.specs.Rows.{rowWords, HasRow, InRow}
+use Rattle.figures.specs.Limits.{rowWords}
+use Rattle.bits.specs.Rows.{HasRow, InRow}
 use Rattle.chart.specs.Chart.{FilledFrom}
 use Rattle.choice.specs.First.{Chose, Choosable, Roomy}
-use Rattle.lattice.specs.Cells.{maxNodes}
-use Rattle.lattice.specs.Layout.{Laid, goal, word}
-use Rattle.spans.specs.Copy.{pickedString}
-use Rattle.spans.proofs.CopyLaws.{picked-string-map}
+use Rattle.graph.specs.Cells.{maxNodes}
+use Rattle.graph.specs.Layout.{Laid, goal, word}
+use Rattle.table.specs.Copy.{pickedString}
+use Rattle.table.proofs.CopyLaws.{picked-string-map}
 use Rattle.answer.specs.Entries.{entryNumbers}
 use Rattle.answer.proofs.ValueLaws.{entry-numbers-length}
 use Rattle.reader.specs.declared.LineAnswer.the-variants.{Read, Refused}
@@ -62,7 +63,7 @@ laid-begins : {g : Graph} {numbers : List ℕ} {t : Basic} {u end : ℕ} {words 
 laid-begins (goal b one entry) = b
 laid-begins (word b slots rest) = b
 
-entry-ends : {g : Graph} {u b : ℕ} {T : PregroupType} → Entry g u T b → Boundary g b
+entry-ends : {g : Graph} {u b : ℕ} {T : PregroupType} → Spells g u T b → Boundary g b
 entry-ends (ended b) = b
 entry-ends (more l t) = entry-ends t
 
@@ -72,11 +73,11 @@ laid-ends (word b slots rest) = laid-ends rest
 
 -- Every slot of a choice is one of the graph's.
 module _ {g : Graph} (up : Upward g) where
-  entry-inside : {u b : ℕ} {T : PregroupType} → u < g .count → Entry g u T b → b < g .count
+  entry-inside : {u b : ℕ} {T : PregroupType} → u < g .count → Spells g u T b → b < g .count
   entry-inside h (ended b) = h
   entry-inside {u} h (more l t) = entry-inside (omega (arith, l .next, up .nexts-up u h (l .simple) .1)) t
 
-  choice-slots : {u end : ℕ} {slots : List ℕ} {X : PregroupType} → u < g .count → Choice g u slots X end → (i : ℕ) → i < length slots → getD slots i 0 < length (g .enters)
+  choice-slots : {u end : ℕ} {slots : List ℕ} {X : PregroupType} → u < g .count → SlotChoice g u slots X end → (i : ℕ) → i < length slots → getD slots i 0 < length (g .enters)
   choice-slots h (done b) i l = absurd (omega arith)
   choice-slots {u} h (choose e t c) zero l = omega (arith, e .before, up .slots-there u h)
   choice-slots {u} h (choose {s} {w} e t c) (suc i) l = choice-slots (entry-inside (up .enters-up u s w h e .1) t) c i (omega arith)

@@ -20,11 +20,11 @@ use Rattle.linking.specs.Reading.{NumberedEntry, Words, Answer, firstEntry, fir
 use Rattle.linking.proofs.Reduction.{linking-iff-reduces}
 use Rattle.linking.proofs.FirstLinking.{first-linking-none}
 use Rattle.line.proofs.Passed.{AllKnown, known}
-use Rattle.chart.specs.Graph.{Graph, EntersBy, by, here, take as take-node, enter}
-use Rattle.chart.specs.Completion.{Finishes, finishes, Boundary, Entry, Choice, done, choose, Completes, completes, Scanned, ends, takes}
-use Rattle.chart.proofs.Completion.{finishes-iff-behind}
-use Rattle.chart.proofs.Choices.{SameEntry, same-entry, entry-same, path-of-choice, scanned-is-first}
-use Rattle.lattice.specs.Layout.{hasNone, slotted, Slots, none as no-slot, slot, Laid, goal, word}
+use Rattle.graph.specs.Graph.{Graph, EntersBy, by, here, take as take-node, enter, Boundary, Spells}
+use Rattle.choice.specs.Completion.{Finishes, finishes, SlotChoice, done, choose, Completes, completes, Scanned, ends, takes}
+use Rattle.choice.proofs.Completion.{finishes-iff-behind}
+use Rattle.choice.proofs.Choices.{SameEntry, same-entry, entry-same, path-of-choice, scanned-is-first}
+use Rattle.graph.specs.Layout.{hasNone, slotted, Slots, none as no-slot, slot, Laid, goal, word}
 
 -- An answer with one entry number more in front.
 abbrev pub withNumber : ℕ → Option Answer → Option Answer
@@ -136,7 +136,7 @@ module _ {le : Test} {Le : Relation} (decides : Decides le Le) (g : Graph) (numb
 
   -- The target's part: P is finished from there exactly when it reduces to the target.
   goal-iff : {u : ℕ} (P : PregroupType) → Boundary g u → getD (g .froms) u 0 + 1 ≡ getD (g .tos) u 0
-      → Entry g (getD (g .enters) (getD (g .froms) u 0) 0) (t ⁽ pos 1 ⁾ ∷ []) end → Finishes Le g P u end ↔ Vanish Le (P ++ (t ⁽ pos 1 ⁾ ∷ []))
+      → Spells g (getD (g .enters) (getD (g .froms) u 0) 0) (t ⁽ pos 1 ⁾ ∷ []) end → Finishes Le g P u end ↔ Vanish Le (P ++ (t ⁽ pos 1 ⁾ ∷ []))
   goal-iff {u} P b one entry =
       let w = getD (g .enters) (getD (g .froms) u 0) 0 in
       let e : EntersBy g u (getD (g .froms) u 0) w = record { boundary = b; from-on = omega arith; before = omega arith; entered = refl } in
@@ -161,7 +161,7 @@ module _ {le : Test} {Le : Relation} (decides : Decides le Le) (g : Graph) (numb
     go-on Y = firstBehind le t words Y
 
     -- A slot whose node does not finish P is of no use.
-    useless : {w : ℕ} (e : NumberedEntry) → Entry g w (e .type) b → (Finishes Le g P w end → ⊥) → firstBehind le t words (P ++ e .type) ≡ none
+    useless : {w : ℕ} (e : NumberedEntry) → Spells g w (e .type) b → (Finishes Le g P w end → ⊥) → firstBehind le t words (P ++ e .type) ≡ none
     useless e k n = rest (P ++ e .type) .1 (λ f. n (finishes-iff-behind last k .1 f))
 
     scan-none : {s to : ℕ} {es : List NumberedEntry} → Slots g numbers b s to es
@@ -187,14 +187,14 @@ module _ {le : Test} {Le : Relation} (decides : Decides le Le) (g : Graph) (numb
 
     scan-first : {s to : ℕ} {es : List NumberedEntry} → Slots g numbers b s to es → (k : ℕ) (T : PregroupType) (c : ℕ) → s ≤ k → k < to
         → ((r : ℕ) → s ≤ r → r < k → Finishes Le g P (getD (g .enters) r 0) end → ⊥) → Finishes Le g P (getD (g .enters) k 0) end
-        → Entry g (getD (g .enters) k 0) T c → Picked k T c es
+        → Spells g (getD (g .enters) k 0) T c → Picked k T c es
     scan-first (no-slot e) k T c h l n f q = absurd (omega arith)
     scan-first {s} (slot {e} {es} m w slots) k T c h l n f q = at (λ i. scan-first slots k T c i l (λ r x y. n r (omega arith) y) f q) (ℕ-discrete k s)
       where
         at : (s + 1 ≤ k → Picked k T c es) → Dec (k ≡ s) → Picked k T c (e ∷ es)
         at later (yes i) =
             let f′ : Finishes Le g P (getD (g .enters) s 0) end = subst (λ (j : ℕ). Finishes Le g P (getD (g .enters) j 0) end) i f in
-            let q′ : Entry g (getD (g .enters) s 0) T c = subst (λ (j : ℕ). Entry g (getD (g .enters) j 0) T c) i q in
+            let q′ : Spells g (getD (g .enters) s 0) T c = subst (λ (j : ℕ). Spells g (getD (g .enters) j 0) T c) i q in
             subst (λ (j : ℕ). Picked j T c (e ∷ es)) (sym i) (picked-here e es m (finishes-iff-behind last w .0 f′) (entry-same w q′))
         at later (no d) =
             let p = later (omega (arith, d)) in
@@ -241,37 +241,37 @@ module _ {le : Test} {Le : Relation} (decides : Decides le Le) (g : Graph) (numb
     pub ns : List ℕ
     pub string : PregroupType
     pub numbers-are : ns ≡ map (λ (s : ℕ). getD numbers s 0) (take (length words) slots)
-    pub spelt : (X : PregroupType) → Choice g u slots X end → (P ++ X ≡ string ++ (t ⁽ pos 1 ⁾ ∷ [])) × (length slots ≡ length words + 1)
+    pub spelt : (X : PregroupType) → SlotChoice g u slots X end → (P ++ X ≡ string ++ (t ⁽ pos 1 ⁾ ∷ [])) × (length slots ≡ length words + 1)
     pub answer : firstBehind le t words P ≡ withNumbers ns (lastAnswer (firstLinking le t string))
 
   -- A choice at the end has no slot.
-  choice-at-end : {v : ℕ} {slots : List ℕ} {X : PregroupType} → v ≡ end → Choice g v slots X end → (slots ≡ []) × (X ≡ [])
+  choice-at-end : {v : ℕ} {slots : List ℕ} {X : PregroupType} → v ≡ end → SlotChoice g v slots X end → (slots ≡ []) × (X ≡ [])
   choice-at-end q (done b) = (refl, refl)
   choice-at-end q (choose {s} {w} e r c) = absurd (closed s w (subst (λ (n : ℕ). EntersBy g n s w) q e))
 
   -- The target's word has one slot, which spells its right adjoint.
   goal-spelt : {u : ℕ} {slots : List ℕ} (P X : PregroupType) → Boundary g u → getD (g .froms) u 0 + 1 ≡ getD (g .tos) u 0
-      → Entry g (getD (g .enters) (getD (g .froms) u 0) 0) (t ⁽ pos 1 ⁾ ∷ []) end → Choice g u slots X end
+      → Spells g (getD (g .enters) (getD (g .froms) u 0) 0) (t ⁽ pos 1 ⁾ ∷ []) end → SlotChoice g u slots X end
       → (P ++ X ≡ P ++ (t ⁽ pos 1 ⁾ ∷ [])) × (length slots ≡ 1)
   goal-spelt P X b only entry (done h) =
       absurd (closed (getD (g .froms) end 0) _ (record { boundary = b; from-on = omega arith; before = omega arith; entered = refl }))
   goal-spelt {u} P X b only entry (choose {s} {w} {b = c} {T} {X = Y} {slots = more} e r k) =
       let first : s ≡ getD (g .froms) u 0 = omega (arith, e .from-on, e .before) in
       let there : w ≡ getD (g .enters) (getD (g .froms) u 0) 0 = e .entered ∙ ap (λ (n : ℕ). getD (g .enters) n 0) first in
-      go (entry-same entry (subst (λ (n : ℕ). Entry g n T c) there r)) k
+      go (entry-same entry (subst (λ (n : ℕ). Spells g n T c) there r)) k
     where
-      go : {T : PregroupType} {c : ℕ} → SameEntry (t ⁽ pos 1 ⁾ ∷ []) end T c → Choice g c more Y end → (P ++ (T ++ Y) ≡ P ++ (t ⁽ pos 1 ⁾ ∷ [])) × (length (s ∷ more) ≡ 1)
+      go : {T : PregroupType} {c : ℕ} → SameEntry (t ⁽ pos 1 ⁾ ∷ []) end T c → SlotChoice g c more Y end → (P ++ (T ++ Y) ≡ P ++ (t ⁽ pos 1 ⁾ ∷ [])) × (length (s ∷ more) ≡ 1)
       go same-entry c =
           let empty = choice-at-end refl c in
           (ap (λ (Z : PregroupType). P ++ (t ⁽ pos 1 ⁾ ∷ Z)) (empty .1), ap (λ (l : List ℕ). length (s ∷ l)) (empty .0))
 
   -- What a word's slot spells, and then the rest.
-  word-spelt : {u s w b n : ℕ} {T X Z : PregroupType} {slots : List ℕ} (P : PregroupType) → EntersBy g u s w → Entry g w T b
-      → ((Y : PregroupType) → Choice g b slots Y end → ((P ++ T) ++ Y ≡ Z) × (length slots ≡ n)) → Choice g u (s ∷ slots) X end → (P ++ X ≡ Z) × (length (s ∷ slots) ≡ n + 1)
+  word-spelt : {u s w b n : ℕ} {T X Z : PregroupType} {slots : List ℕ} (P : PregroupType) → EntersBy g u s w → Spells g w T b
+      → ((Y : PregroupType) → SlotChoice g b slots Y end → ((P ++ T) ++ Y ≡ Z) × (length slots ≡ n)) → SlotChoice g u (s ∷ slots) X end → (P ++ X ≡ Z) × (length (s ∷ slots) ≡ n + 1)
   word-spelt {s} {w} {b} {n} {T} {Z} {slots} P enters entry rest (choose {b = c} {T = R} {X = Y} e r k) =
-      go (entry-same entry (subst (λ (v : ℕ). Entry g v R c) (e .entered ∙ sym (enters .entered)) r)) k
+      go (entry-same entry (subst (λ (v : ℕ). Spells g v R c) (e .entered ∙ sym (enters .entered)) r)) k
     where
-      go : {R : PregroupType} {c : ℕ} → SameEntry T b R c → Choice g c slots Y end → (P ++ (R ++ Y) ≡ Z) × (length (s ∷ slots) ≡ n + 1)
+      go : {R : PregroupType} {c : ℕ} → SameEntry T b R c → SlotChoice g c slots Y end → (P ++ (R ++ Y) ≡ Z) × (length (s ∷ slots) ≡ n + 1)
       go same-entry c = let h = rest Y c in (sym (append-assoc P T Y) ∙ h .0, omega (arith, h .1))
 
   finishes-scanned : {P : PregroupType} {u : ℕ} {slots : List ℕ} → Scanned Le g end P u slots → Finishes Le g P u end
@@ -285,20 +285,20 @@ module _ {le : Test} {Le : Relation} (decides : Decides le Le) (g : Graph) (numb
       (rest : (Q : PregroupType) (others : List ℕ) → Scanned Le g end Q c others → Answered Q c words others) where
     taken-word :
         {P T : PregroupType} {u s w b : ℕ} {slots : List ℕ} → Slots g numbers c (getD (g .froms) u 0) (getD (g .tos) u 0) (slotted false (e ∷ es)) → Boundary g u
-        → EntersBy g u s w → Entry g w T b → ((r v : ℕ) → r < s → EntersBy g u r v → Finishes Le g P v end → ⊥) → Scanned Le g end (P ++ T) b slots
+        → EntersBy g u s w → Spells g w T b → ((r v : ℕ) → r < s → EntersBy g u r v → Finishes Le g P v end → ⊥) → Scanned Le g end (P ++ T) b slots
         → Answered P u ((e ∷ es) ∷ words) (s ∷ slots)
     taken-word {P} {T} {u} {s} {w} {b} {slots} slots-of bound enters entry earlier more =
         let at-slot = enters .entered in
         let f : Finishes Le g P w end = finishes-iff-behind last entry .1 (finishes-scanned more) in
         let p = scan-first c words k P slots-of s T b (enters .from-on) (enters .before)
         (λ r i j h. earlier r (getD (g .enters) r 0) j (record { boundary = bound; from-on = i; before = omega (arith, enters .before); entered = refl }) h)
-        (subst (λ (n : ℕ). Finishes Le g P n end) at-slot f) (subst (λ (n : ℕ). Entry g n T b) at-slot entry) in
+        (subst (λ (n : ℕ). Finishes Le g P n end) at-slot f) (subst (λ (n : ℕ). Spells g n T b) at-slot entry) in
         let a = rest (P ++ T) slots (subst (λ (n : ℕ). Scanned Le g end (P ++ T) n slots) (p .behind) more) in
         record {
           ns = getD numbers s 0 ∷ a .ns;
           string = a .string;
           numbers-are = ap (λ (l : List ℕ). getD numbers s 0 ∷ l) (a .numbers-are);
-          spelt = λ X h. let x = word-spelt P enters (subst (λ (n : ℕ). Entry g w T n) (p .behind) entry) (a .spelt) h in (x .0, omega (arith, x .1));
+          spelt = λ X h. let x = word-spelt P enters (subst (λ (n : ℕ). Spells g w T n) (p .behind) entry) (a .spelt) h in (x .0, omega (arith, x .1));
           answer = behind-word (e ∷ es) words P ∙ p .answer ∙ ap (withNumber (getD numbers s 0)) (a .answer);
         }
 

@@ -12,7 +12,7 @@ use Rattle.linking.specs.Linking.{firstFrom, isSome, mayLink, nearestWithin, pa
 use Rattle.linking.specs.Reading.{Answer, firstEntry, firstBehind, firstReading}
 use Rattle.book.specs.Format.{Bytes, every, twoBytes, kindOf, letter, nameByte, isName, wordByte, exponentOf, simplesOf, isEntry, cutShort, notListed, badLayout, numbersIn, undeclared, exponentsIn, exponentListed, exponentOutside, sameBytes, nameUsed, secondTarget, tooMany, firstFault, bodyFault, recordFault, add, ended, recordsFrom, parse}
 use Rattle.book.proofs.PaperBooks.{typeRecord, pairRecord, entryRecord, targetRecord, join, firstBook, secondBook}
-use Rattle.line.specs.Words.{partsFrom}
+use Rattle.line.specs.LineWords.{partsFrom}
 use Rattle.line.specs.LineFaults.{entriesFrom, byteFault, wordFault, entryFault, simplesIn, simplesOfWords, lineCheck}
 use Rattle.reader.specs.Outcome.{Outcome, valuesOf, given, readAgainst, readParsed, outcome}
 use Rattle.reader.specs.declared.LineAnswer.the-variants.{Read, Refused}

@@ -7,10 +7,10 @@ use lib.ListN.{length, take, drop, set, length-map}
 use lib.Seq.{length-take-le}
 use Rattle.pregroup.specs.Types.{Basic}
 use Rattle.pregroup.specs.Order.{Relation}
-use Rattle.spans.specs.Spans.{heldAt}
-use Rattle.spans.specs.Copy.{pickedString}
-use Rattle.spans.specs.Links.{FirstLinked}
-use Rattle.spans.proofs.CopyLaws.{picked-string-map}
+use Rattle.table.specs.Table.{heldAt}
+use Rattle.table.specs.Copy.{pickedString}
+use Rattle.answer.specs.Links.{FirstLinked}
+use Rattle.table.proofs.CopyLaws.{picked-string-map}
 use Rattle.answer.specs.Entries.{entryNumbers}
 use Rattle.answer.proofs.ValueLaws.{entry-numbers-length, values-written}
 use Rattle.reader.specs.Runs.{WroteAnswer}

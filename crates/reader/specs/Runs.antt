@@ -15,13 +15,13 @@ use Rattle.linking.proofs.Greedy.{GreedyFrom}
 use Rattle.line.specs.LookUp.{entriesKept}
 use Rattle.line.specs.LineFaults.{maxWords}
 use Rattle.line.proofs.Passed.{AllKnown, AllBrief}
-use Rattle.chart.specs.Rows.{HasRow}
-use Rattle.chart.specs.Graph.{Graph, Upward, VanishTo}
+use Rattle.bits.specs.Rows.{HasRow}
+use Rattle.graph.specs.Graph.{Graph, Upward, VanishTo}
 use Rattle.chart.specs.Chart.{FilledFrom}
-use Rattle.lattice.specs.Cells.{maxNodes, Lexicon}
-use Rattle.lattice.specs.Layout.{Laid}
-use Rattle.spans.specs.Spans.{maxString}
-use Rattle.spans.specs.Copy.{pickedString}
+use Rattle.graph.specs.Cells.{maxNodes, Lexicon}
+use Rattle.graph.specs.Layout.{Laid}
+use Rattle.table.specs.Table.{maxString}
+use Rattle.table.specs.Copy.{pickedString}
 use Rattle.answer.specs.Entries.{entryNumbers}
 use Rattle.reader.specs.declared.LineAnswer.{LineAnswer}
 use Rattle.reader.specs.Outcome.{Outcome, valuesOf, given}

@@ -1,19 +1,19 @@
 // Reads a line against a book. What reading any bytes comes to is defined in specs/Outcome, and what is promised of it in specs/Demands.
-mod graph;
+mod run;
 mod writing;
 
 use book::Scan;
 use book::records::scan_book;
-use graph::read_graph;
-use lattice::MAX_NODES;
-use lattice::layout::lay_out;
-use line::Words;
+use graph::MAX_NODES;
+use graph::layout::lay_out;
+use line::CheckedLine;
 use line::lookup::check_line;
 use line::split::MAX_WORDS;
+use run::read_graph;
 ghost use Prim.Native.Nat.{_≤_};
 ghost use lib.ListN.{length};
 ghost use Rattle.line.specs.LineFaults.{maxWords};
-ghost use Rattle.lattice.specs.Lists.{Checked};
+ghost use Rattle.graph.specs.Lists.{Checked};
 ghost use Rattle.reader.specs.Outcome.{outcome};
 ghost use Rattle.reader.specs.Demands.{Promised};
 ghost use Rattle.reader.specs.Runs.{Gives, IsOpen};
@@ -100,8 +100,8 @@ fn read_words(
     let mut ends = [0usize; MAX_WORDS];
     let found = check_line(book, offsets, count, line, &mut starts, &mut ends);
     match found {
-        Words::Refused { number, value } => LineAnswer::Refused { number, value },
-        Words::Found(words) => read_found(
+        CheckedLine::Refused { number, value } => LineAnswer::Refused { number, value },
+        CheckedLine::Found(words) => read_found(
             book,
             offsets,
             count,

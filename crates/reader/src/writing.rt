@@ -2,8 +2,8 @@
 ghost use Prim.Native.Nat.{_+_, _≤_};
 ghost use lib.ListN.{length};
 ghost use Rattle.pregroup.specs.Held.{InRows};
-ghost use Rattle.spans.specs.Copy.{pickedString};
-ghost use Rattle.spans.specs.Links.{FirstLinked};
+ghost use Rattle.table.specs.Copy.{pickedString};
+ghost use Rattle.answer.specs.Links.{FirstLinked};
 ghost use Rattle.reader.specs.Runs.{Linkable, Writable, WroteAnswer};
 
 // Writes the partners of the string of m picked nodes, from `at` on.
@@ -21,10 +21,10 @@ fn write_partners(
     requires { ⌜ at + m ≤ length (now answer) ⌝ }
     ensures { λ _. ⌜ FirstLinked (InRows (now (order .entry))) target (pickedString (now (bases .entry)) (now (exponents .entry)) (now (picked .entry)) m) (now (answer .entry)) (now (answer .exit)) at ⌝ }
 {
-    let mut own_bases = [0u8; spans::MAX_STRING];
-    let mut own_exponents = [0u8; spans::MAX_STRING];
-    let mut table = [0u64; spans::TABLE_WORDS];
-    spans::string::copy_string(
+    let mut own_bases = [0u8; table::MAX_STRING];
+    let mut own_exponents = [0u8; table::MAX_STRING];
+    let mut table = [0u64; table::TABLE_WORDS];
+    table::string::copy_string(
         bases,
         exponents,
         picked,
@@ -32,8 +32,8 @@ fn write_partners(
         &mut own_bases,
         &mut own_exponents,
     );
-    spans::fill_table(order, &own_bases, &own_exponents, m, &mut table);
-    spans::links::first_linking(
+    table::fill_table(order, &own_bases, &own_exponents, m, &mut table);
+    answer::links::first_linking(
         order,
         &own_bases,
         &own_exponents,

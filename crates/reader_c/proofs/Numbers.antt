@@ -13,7 +13,7 @@ use Rattle.book.specs.Check.{bookCheck, answerFor}
 use Rattle.book.specs.declared.BookCheck.{BookCheck}
 use Rattle.book.specs.declared.BookCheck.the-variants.{Accepted, Refused}
 use Rattle.linking.specs.Reading.{Answer}
-use Rattle.line.specs.Words.{wordsOf}
+use Rattle.line.specs.LineWords.{wordsOf}
 use Rattle.line.specs.LineFaults.{LineCheck, passed, stopped, lineCheck, orElse, byteFault, wordFault, entryFault, simplesOfWords, entriesOfLine, maxSimples}
 use Rattle.reader.specs.declared.LineAnswer.{LineAnswer}
 use Rattle.reader.specs.declared.LineAnswer.the-variants.{Read, Refused as RefusedLine}

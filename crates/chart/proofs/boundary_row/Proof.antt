@@ -2,8 +2,9 @@
 use native.Mathlib.Omega.{arith}
 use Prim.Native.Nat.{ℕ, _-_, _≤_}
 use mathlib.Core.Path.{refl}
-use Rattle.chart.specs.Chart.{Only, SlotPart}
-use Rattle.chart.proofs.Gathering.{GatheredTo, gather-starts, gather-one, gather-ends, part-says, alone-says}
+use Rattle.bits.specs.Gathered.{Only}
+use Rattle.chart.specs.Chart.{SlotPart}
+use Rattle.bits.proofs.Gathering.{GatheredTo, gather-starts, gather-one, gather-ends, part-says, alone-says}
 use Rattle.chart.proofs.boundary_row.Statement.{statement}
 use Rattle.chart.proofs.boundary_row.Tie as tie
 

@@ -5,7 +5,7 @@ use mathlib.Core.Path.{_≡_, refl}
 use lib.ListN.{length}
 use Rattle.pregroup.specs.Order.{Relation}
 use Rattle.pregroup.specs.Held.{InRows}
-use Rattle.chart.specs.Graph.{Graph, graph}
+use Rattle.graph.specs.Graph.{Graph, graph}
 use Rattle.chart.specs.Chart.{FilledFrom}
 use Rattle.chart.proofs.Filling.{turn-row, boundary-asks, simple-asks, boundary-turn, simple-turn}
 use Rattle.chart.proofs.fill.Statement.{statement}

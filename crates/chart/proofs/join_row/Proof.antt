@@ -3,7 +3,7 @@ use borrow.Author.Needs.{needs}
 use native.Mathlib.Omega.{arith}
 use mathlib.Core.Path.{sym, _∙_}
 use mathlib.Core.Bool.{true≢false}
-use Rattle.chart.proofs.Gathering.{part-says, none-says}
+use Rattle.bits.proofs.Gathering.{part-says, none-says}
 use Rattle.chart.proofs.join_row.Statement.{statement}
 use Rattle.chart.proofs.join_row.Tie as tie
 

@@ -4,9 +4,11 @@ use Prim.Native.Nat.{ℕ, _+_, _-_, _≤_, _<_}
 use mathlib.Core.Path.{_≡_, refl}
 use lib.ListN.{getD}
 use Rattle.pregroup.specs.Held.{InRows}
-use Rattle.chart.specs.Rows.{rowBits, InRow}
-use Rattle.chart.specs.Chart.{Only, Joined, LinkPart}
-use Rattle.chart.proofs.Gathering.{GatheredTo, gather-starts, gather-one, gather-skip, gather-ends, part-says, alone-says}
+use Rattle.figures.specs.Limits.{rowBits}
+use Rattle.bits.specs.Rows.{InRow}
+use Rattle.bits.specs.Gathered.{Only}
+use Rattle.chart.specs.Chart.{Joined, LinkPart}
+use Rattle.bits.proofs.Gathering.{GatheredTo, gather-starts, gather-one, gather-skip, gather-ends, part-says, alone-says}
 use Rattle.chart.proofs.simple_row.Statement.{statement}
 use Rattle.chart.proofs.simple_row.Tie as tie
 

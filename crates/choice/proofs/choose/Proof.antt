@@ -5,7 +5,7 @@ use mathlib.Core.Path.{_≡_, refl, _∙_}
 use lib.ListN.{length-set}
 use Rattle.pregroup.specs.Order.{Relation}
 use Rattle.pregroup.specs.Held.{InRows}
-use Rattle.chart.specs.Graph.{Graph, graph}
+use Rattle.graph.specs.Graph.{Graph, graph}
 use Rattle.choice.specs.First.{Roomy}
 use Rattle.choice.proofs.Choosing.{Choosing, SameLengths, roomy-same, same-started, start-choosing, searchable, slot-found, slot-up, entered-turn, growable, simple-up, picked-turn, chose}
 use Rattle.choice.proofs.choose.Statement.{statement}

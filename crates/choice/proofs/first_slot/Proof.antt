@@ -4,7 +4,7 @@ use Prim.Native.Nat.{_-_}
 use mathlib.Core.Path.{_≡_, refl, sym, _∙_}
 use mathlib.Core.Bool.{true≢false}
 use lib.ListN.{getD}
-use Rattle.chart.specs.Rows.{rowBits}
+use Rattle.figures.specs.Limits.{rowBits}
 use Rattle.choice.specs.Sets.{some}
 use Rattle.choice.proofs.Searching.{Passed, Tried, try-starts, try-next, none-tried, pass-slot, search-found, search-fails}
 use Rattle.choice.proofs.first_slot.Statement.{statement}

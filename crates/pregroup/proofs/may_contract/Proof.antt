@@ -2,7 +2,8 @@
 use borrow.Author.Needs.{needs}
 use mathlib.Core.Logic.{Iff·trans}
 use Rattle.pregroup.specs.Held.{InRows}
-use Rattle.pregroup.proofs.HeldLaws.{held-apart, held-even, held-odd, false-iff}
+use Rattle.pregroup.proofs.HeldLaws.{held-apart, held-even, held-odd}
+use Rattle.bits.proofs.Cases.{false-iff}
 use Rattle.pregroup.proofs.may_contract.Statement.{statement}
 use Rattle.pregroup.proofs.may_contract.Tie as tie
 

@@ -5,7 +5,7 @@ use mathlib.Core.Path.{_≡_}
 use lib.ListN.{getD, List·getD-eq-default}
 use Rattle.bits.proofs.BitLaws.{empty-has-none}
 use Rattle.pregroup.specs.Held.{InRows}
-use Rattle.pregroup.proofs.HeldLaws.{false-iff}
+use Rattle.bits.proofs.Cases.{false-iff}
 use Rattle.pregroup.proofs.stands_below.Statement.{statement}
 use Rattle.pregroup.proofs.stands_below.Tie as tie
 

@@ -1,6 +1,6 @@
 use borrow.Author.Needs.{needs}
 use native.Mathlib.Omega.{arith}
-use Rattle.lattice.specs.Cells.{maxNodes}
+use Rattle.graph.specs.Cells.{maxNodes}
 use Rattle.book.proofs.Checking.{zeros}
 use Rattle.reader.proofs.OpeningLaws.{line-drawable, line-drawn, gives-outcome}
 use Rattle.reader.proofs.read_found.Statement.{statement}

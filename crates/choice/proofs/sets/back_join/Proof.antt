@@ -4,7 +4,7 @@ use native.Mathlib.Omega.{arith}
 use Prim.Native.Nat.{_-_}
 use mathlib.Core.Path.{sym, _∙_}
 use mathlib.Core.Bool.{true≢false}
-use Rattle.chart.proofs.Gathering.{part-says, none-says}
+use Rattle.bits.proofs.Gathering.{part-says, none-says}
 use Rattle.choice.proofs.sets.back_join.Statement.{statement}
 use Rattle.choice.proofs.sets.back_join.Tie as tie
 

@@ -3,9 +3,10 @@ use native.Mathlib.Omega.{arith}
 use Prim.Native.Nat.{ℕ, _+_, _-_, _≤_, _<_}
 use mathlib.Core.Path.{refl}
 use Rattle.pregroup.specs.Held.{InRows}
-use Rattle.chart.specs.Chart.{Only}
-use Rattle.chart.specs.Rows.{rowBits, InRow}
-use Rattle.chart.proofs.Gathering.{GatheredTo, gather-starts, gather-one, gather-skip, gather-ends, part-says, alone-says}
+use Rattle.bits.specs.Gathered.{Only}
+use Rattle.figures.specs.Limits.{rowBits}
+use Rattle.bits.specs.Rows.{InRow}
+use Rattle.bits.proofs.Gathering.{GatheredTo, gather-starts, gather-one, gather-skip, gather-ends, part-says, alone-says}
 use Rattle.choice.specs.Sets.{BackLink, BackPart}
 use Rattle.choice.proofs.sets.back_row.Statement.{statement}
 use Rattle.choice.proofs.sets.back_row.Tie as tie

@@ -3,8 +3,9 @@ use native.Mathlib.Omega.{arith}
 use Prim.Native.Nat.{_-_, _≤_}
 use mathlib.Core.Path.{_≡_, refl, _∙_}
 use lib.ListN.{length}
-use Rattle.chart.specs.Rows.{InRow, RowSays, rowWords}
-use Rattle.chart.proofs.RowLaws.{empty-says}
+use Rattle.figures.specs.Limits.{rowWords}
+use Rattle.bits.specs.Rows.{InRow, RowSays}
+use Rattle.bits.proofs.RowLaws.{empty-says}
 use Rattle.choice.specs.Sets.{Among}
 use Rattle.choice.proofs.SetLaws.{among-starts, among-one}
 use Rattle.choice.proofs.sets.column.Statement.{statement}

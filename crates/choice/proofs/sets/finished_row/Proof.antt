@@ -1,8 +1,9 @@
 -- `choice::sets::finished_row` meets its contract: each turn joins the row of one member.
 use native.Mathlib.Omega.{arith}
 use Prim.Native.Nat.{_-_, _≤_, _<_}
-use Rattle.chart.specs.Rows.{rowBits, InRow}
-use Rattle.chart.proofs.Gathering.{part-says}
+use Rattle.figures.specs.Limits.{rowBits}
+use Rattle.bits.specs.Rows.{InRow}
+use Rattle.bits.proofs.Gathering.{part-says}
 use Rattle.choice.specs.Sets.{OutPart}
 use Rattle.choice.proofs.SetLaws.{SomeTo, some-starts, some-one, some-ends}
 use Rattle.choice.proofs.sets.finished_row.Statement.{statement}

@@ -3,7 +3,7 @@ use borrow.Author.Needs.{needs}
 use native.Mathlib.Omega.{arith}
 use mathlib.Core.Path.{sym, _∙_}
 use mathlib.Core.Bool.{true≢false}
-use Rattle.pregroup.proofs.HeldLaws.{false-iff}
+use Rattle.bits.proofs.Cases.{false-iff}
 use Rattle.choice.specs.Sets.{LinksTo}
 use Rattle.choice.proofs.sets.links_to.Statement.{statement}
 use Rattle.choice.proofs.sets.links_to.Tie as tie

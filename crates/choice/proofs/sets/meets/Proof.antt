@@ -2,8 +2,8 @@
 use native.Mathlib.Omega.{arith}
 use Prim.Native.Nat.{_*_, _-_, _≤_}
 use mathlib.Core.Path.{_≡_, refl}
-use Rattle.pregroup.proofs.HeldLaws.{false-iff}
-use Rattle.chart.specs.Rows.{rowWords}
+use Rattle.bits.proofs.Cases.{false-iff}
+use Rattle.figures.specs.Limits.{rowWords}
 use Rattle.choice.proofs.SetLaws.{Apart, apart-one, meets-here, meets-never}
 use Rattle.choice.proofs.sets.meets.Statement.{statement}
 use Rattle.choice.proofs.sets.meets.Tie as tie

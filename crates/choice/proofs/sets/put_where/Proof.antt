@@ -2,7 +2,7 @@
 use borrow.Author.Needs.{needs}
 use mathlib.Core.Path.{sym, _∙_}
 use mathlib.Core.Bool.{false≢true}
-use Rattle.chart.proofs.Gathering.{part-says, none-says}
+use Rattle.bits.proofs.Gathering.{part-says, none-says}
 use Rattle.choice.proofs.sets.put_where.Statement.{statement}
 use Rattle.choice.proofs.sets.put_where.Tie as tie
 

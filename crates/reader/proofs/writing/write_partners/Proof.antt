@@ -1,6 +1,6 @@
 use borrow.Author.Needs.{needs}
 use native.Mathlib.Omega.{arith}
-use Rattle.spans.proofs.CopyLaws.{copied-string}
+use Rattle.table.proofs.CopyLaws.{copied-string}
 use Rattle.reader.proofs.writing.write_partners.Statement.{statement}
 use Rattle.reader.proofs.writing.write_partners.Tie as tie
 

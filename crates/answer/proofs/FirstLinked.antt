@@ -1,0 +1,97 @@
+-- What is written is the first linking: the m partners from `at` on link the string greedily, and so are what `firstLinking` gives.
+use Prim.Native.Nat.{ℕ, _+_, _-_, _≤_}
+use native.Mathlib.Omega.{arith}
+use mathlib.Core.Path.{_≡_, sym, ap, ap₂, _∙_}
+use mathlib.Core.Logic.{inl, inr}
+use mathlib.Core.Option.{some}
+use mathlib.Core.List.{List, _++_}
+use lib.ListN.{length, take, drop, length-drop, take-append-drop}
+use lib.Seq.{length-take-le, getD-take, getD-drop, drop-drop, ext-getD}
+use Rattle.pregroup.specs.Types.{Basic, PregroupType}
+use Rattle.pregroup.specs.Order.{Relation}
+use Rattle.pregroup.specs.Vanish.{Reduces}
+use Rattle.pregroup.specs.Tests.{Test, Decides}
+use Rattle.linking.specs.Linking.{partner, firstLinking}
+use Rattle.linking.proofs.Positions.{linking-iff-parted}
+use Rattle.linking.proofs.Reduction.{linking-iff-reduces}
+use Rattle.linking.proofs.Greedy.{ReducesFrom, GreedyFrom, stays, links, greedy-agree, parted-of-greedy, reduces-of-parted}
+use Rattle.linking.proofs.FirstLinking.{first-linking-greedy}
+use Rattle.bits.specs.Rows.{HasRow, RowSays}
+use Rattle.bits.specs.Gathered.{Gathered}
+use Rattle.table.specs.Table.{stringOf, Right, MemberPart}
+use Rattle.answer.specs.Links.{Remains, Kept, LinkedFrom, ReducingThere, FirstLinked}
+use Rattle.table.proofs.Stretches.{length-string}
+use Rattle.answer.proofs.Reducing.{reducing-says}
+
+-- A string that reduces, reduces from its first position on.
+pub reduces-from-start : {Le : Relation} {s : Basic} {X : PregroupType} → Reduces Le s X → ReducesFrom Le s X 1
+reduces-from-start r = let t = linking-iff-reduces .0 r in reduces-of-parted (linking-iff-parted .0 (t .1) .1) (omega arith)
+
+-- The row that the code gathers is what the linking asks.
+pub reducing-there :
+    {Le : Relation} {s : Basic} {bases exponents rows : List ℕ} {m : ℕ} (words : List ℕ) → HasRow words 0 → Right Le (stringOf bases exponents m) rows m
+    → Reduces Le s (stringOf bases exponents m) → RowSays words 0 (Gathered (λ u. ⊥) (MemberPart (Remains Le s bases exponents) rows m))
+    → ReducingThere Le s (stringOf bases exponents m) words 0
+reducing-there {bases = bases} {exponents} {rows} {m} words room right reduces says =
+    let reducing = reducing-says bases exponents rows m right words says in
+    record { room = room; says = reducing; here = reducing 0 .1 (reduces-from-start reduces) }
+
+-- What P holds outside the string does not matter.
+greedy-from-agree :
+    {Le : Relation} {s : Basic} {X : PregroupType} {P Q : List ℕ} {i : ℕ} → GreedyFrom Le s X P i
+    → ((p : ℕ) → i ≤ p → p ≤ length X → partner P p ≡ partner Q p) → GreedyFrom Le s X Q i
+greedy-from-agree {i = i} (stays e t g) same =
+    stays (sym (same i (omega arith) (t .fits)) ∙ e) t (greedy-agree g (λ p h l. same p (omega arith) (omega arith)))
+greedy-from-agree {i = i} (links k l n m u w) same =
+    let a = l .ahead in
+    let b = parted-of-greedy w .unlinked-at in
+    let first = same i (omega arith) (omega arith) in
+    let last = same k (omega arith) (omega arith) in
+    links k (record { ahead = a; forth = sym first ∙ l .forth; back = sym last ∙ l .back; contract = l .contract }) n m
+    (greedy-agree u (λ p h c. same p (omega arith) (omega arith))) (greedy-from-agree w (λ p h c. same p (omega arith) c))
+
+-- Lists that agree outside a part.
+kept-front : (before after : List ℕ) (at m : ℕ) → length after ≡ length before → at + m ≤ length before → Kept before after at (at + m)
+    → take at after ≡ take at before
+kept-front before after at m size space kept =
+    let long = length-take-le at after (omega arith) in
+    let also = length-take-le at before (omega arith) in
+    ext-getD 0 (take at after) (take at before) (omega arith)
+    (λ i h. getD-take at after i 0 (omega arith) ∙ kept i (inl (omega arith)) ∙ sym (getD-take at before i 0 (omega arith)))
+
+kept-back : (before after : List ℕ) (at m : ℕ) → length after ≡ length before → Kept before after at (at + m)
+    → drop (at + m) after ≡ drop (at + m) before
+kept-back before after at m size kept =
+    ext-getD 0 (drop (at + m) after) (drop (at + m) before) (omega (arith, length-drop (at + m) after, length-drop (at + m) before))
+    (λ i h. getD-drop (at + m) after i 0 ∙ kept (at + m + i) (inr (omega arith)) ∙ sym (getD-drop (at + m) before i 0))
+
+kept-parts :
+    (before after : List ℕ) (at m : ℕ) → length after ≡ length before → at + m ≤ length before → Kept before after at (at + m)
+    → after ≡ take at before ++ (take m (drop at after) ++ drop (at + m) before)
+kept-parts before after at m size space kept =
+    sym (take-append-drop at after)
+    ∙ ap₂ _++_ (kept-front before after at m size space kept)
+    (sym (take-append-drop m (drop at after))
+    ∙ ap (λ (l : List ℕ). take m (drop at after) ++ l) (drop-drop m at after ∙ kept-back before after at m size kept))
+
+pub first-linked :
+    {Le : Relation} {s : Basic} (bases exponents before after : List ℕ) (at m : ℕ) → length after ≡ length before → at + m ≤ length before
+    → LinkedFrom Le s bases exponents before after at m 0 → FirstLinked Le s (stringOf bases exponents m) before after at
+first-linked {Le} {s} bases exponents before after at m size space linked =
+    let X = stringOf bases exponents m in
+    let P = take m (drop at after) in
+    let whole : length X ≡ m = length-string bases exponents m in
+    let from : at + 0 ≡ at = omega arith in
+    let kept : Kept before after at (at + m) = rw from at (linked .kept) in
+    record {
+      partners = P;
+      whole = length-take-le m (drop at after) (omega (arith, length-drop at after)) ∙ sym whole;
+      greedy = greedy-from-agree (linked .greedy) (λ p h l. sym (getD-take m (drop at after) (p - 1) 0 (omega arith)));
+      written = rw whole (kept-parts before after at m size space kept);
+    }
+
+-- What is written is what `firstLinking` gives, over any test that decides the order.
+pub first-linking-written :
+    {le : Test} {Le : Relation} {s : Basic} {X : PregroupType} {before after : List ℕ} {at : ℕ} → Decides le Le
+    → (first : FirstLinked Le s X before after at) → firstLinking le s X ≡ some (first .partners)
+first-linking-written {s = s} {X = X} decides first = first-linking-greedy decides s X (first .whole) (first .greedy)

@@ -1,0 +1,109 @@
+-- One step of the linking: what the search for the nearest partner asks, and what follows for the stretches between and behind.
+use Prim.Native.Nat.{ℕ, suc, _+_, _≤_, _<_}
+use native.Mathlib.Omega.{arith}
+use mathlib.Core.Path.{_≡_}
+use mathlib.Core.Logic.{_↔_}
+use mathlib.Core.List.{List}
+use lib.ListN.{length}
+use Rattle.pregroup.specs.Types.{Basic}
+use Rattle.pregroup.specs.Order.{Relation}
+use Rattle.linking.proofs.Greedy.{Stay, VanishBehind, ReducesFrom}
+use Rattle.bits.specs.Rows.{InRow}
+use Rattle.table.specs.Table.{maxString, stringOf, StringThere}
+use Rattle.answer.specs.Links.{Stays, NearestLink, EndsThere, LinkingThere, ReducingThere}
+use Rattle.table.proofs.TableLaws.{right-of-string}
+use Rattle.table.proofs.Stretches.{length-string}
+use Rattle.answer.proofs.Nearest.{Chosen, chosen-within, chosen-from}
+use Rattle.answer.proofs.Reducing.{stays-iff}
+
+-- The nearest partner r of i, before j, with what stands between them and what stands behind r.
+pub record LinkStep (rows ends : List ℕ) (e i j r : ℕ) : Type 0 where
+  pub ahead : i < r
+  pub inside : r < j
+  pub small : r < maxString
+  pub between : InRow rows r (i + 1)
+  pub behind : InRow ends e (r + 1)
+
+pub string-front : {bases exponents : List ℕ} (k j : ℕ) → k ≤ j → StringThere bases exponents j → StringThere bases exponents k
+string-front k j h there = record { few = omega (arith, there .few); base = omega (arith, there .base); exponent = omega (arith, there .exponent) }
+
+module _ {Le : Relation} {bases exponents rows answer : List ℕ} {at j : ℕ} (there : LinkingThere Le bases exponents rows answer at j) where
+  -- What is asked for the whole is there for a stretch within it.
+  pub there-within : (answer′ : List ℕ) (k : ℕ) → k ≤ j → length answer′ ≡ length answer → LinkingThere Le bases exponents rows answer′ at k
+  there-within answer′ k h e = record {
+    string = string-front k j h (there .string);
+    room = omega (arith, there .room);
+    right = right-of-string bases exponents rows k j k h (omega arith) (there .right);
+    space = omega (arith, there .space);
+  }
+
+  pub row-ends-there : EndsThere bases exponents rows rows j
+  row-ends-there = record {
+    room = there .room;
+    reached = λ i h.
+        let inside = there .right j (omega arith) i .0 h .ordered in
+        (string-front i j inside (there .string), omega (arith, there .room));
+  }
+
+  -- The nearest partner within a stretch that vanishes.
+  pub within-chosen :
+      (i r : ℕ) → i < j → InRow rows j i → NearestLink Le bases exponents rows rows j i r → (n : ℕ) → j ≤ n
+      → Chosen Le (stringOf bases exponents n) (VanishBehind Le (stringOf bases exponents n) (suc j)) j i r
+  within-chosen i r h row near n g =
+      chosen-within bases exponents rows i j n r g (omega (arith, there .string .few))
+      (right-of-string bases exponents rows j j n (omega arith) g (there .right)) h row near
+
+  pub within-step :
+      (i r : ℕ) → i < j → InRow rows j i → NearestLink Le bases exponents rows rows j i r → LinkStep rows rows j i j r
+  within-step i r h row near =
+      let chosen = within-chosen i r h row near j (omega arith) in
+      let found = near .found (omega (arith, chosen .inside, there .string .few)) in
+      record {
+        ahead = chosen .ahead;
+        inside = chosen .inside;
+        small = omega (arith, chosen .inside, there .string .few);
+        between = found .1 .closing .between;
+        behind = found .1 .rest;
+      }
+
+-- In a string that reduces to the target from i on.
+module _ {Le : Relation} {s : Basic} {bases exponents rows answer ends : List ℕ} {at m i : ℕ}
+    (there : LinkingThere Le bases exponents rows answer at m) (reducing : ReducingThere Le s (stringOf bases exponents m) ends i) where
+  reduced-inside : (j : ℕ) → InRow ends 0 j → j < m
+  reduced-inside j h = let t = reducing .says j .0 h in omega (arith, t .1, t .2 .fits, length-string bases exponents m)
+
+  pub from-inside : i < m
+  from-inside = reduced-inside i (reducing .here)
+
+  pub reducing-ends-there : EndsThere bases exponents rows ends 0
+  reducing-ends-there = record {
+    room = reducing .room;
+    reached = λ j h.
+        let inside = reduced-inside j h in
+        (string-front j m (omega arith) (there .string), omega (arith, there .room));
+  }
+
+  pub reducing-from : (k : ℕ) → InRow ends 0 k → ReducingThere Le s (stringOf bases exponents m) ends k
+  reducing-from k h = record { room = reducing .room; says = reducing .says; here = h }
+
+  pub from-stays : Stays Le s bases exponents rows m i ↔ Stay Le s (stringOf bases exponents m) (suc i) (suc i)
+  from-stays = stays-iff bases exponents rows m (there .right) i from-inside
+
+  pub from-chosen :
+      (r : ℕ) → (Stays Le s bases exponents rows m i → ⊥) → NearestLink Le bases exponents rows ends 0 i r
+      → Chosen Le (stringOf bases exponents m) (λ p. ReducesFrom Le s (stringOf bases exponents m) (suc p)) m i r
+  from-chosen r moves near =
+      chosen-from bases exponents rows ends i m r (omega (arith, there .string .few)) (there .right) (reducing .says) (reducing .here)
+      (λ t. moves (from-stays .1 t)) near
+
+  pub from-step : (r : ℕ) → (Stays Le s bases exponents rows m i → ⊥) → NearestLink Le bases exponents rows ends 0 i r → LinkStep rows ends 0 i m r
+  from-step r moves near =
+      let chosen = from-chosen r moves near in
+      let found = near .found (omega (arith, chosen .inside, there .string .few)) in
+      record {
+        ahead = chosen .ahead;
+        inside = chosen .inside;
+        small = omega (arith, chosen .inside, there .string .few);
+        between = found .1 .closing .between;
+        behind = found .1 .rest;
+      }

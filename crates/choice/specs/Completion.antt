@@ -1,0 +1,63 @@
+-- How a line is finished once its first words are settled: P is the string that the chosen entries spell so far. A choice is a list of
+-- slots, one for each boundary that is passed; entries of a word stand in the order of its slots, so an earlier choice is one with a
+-- smaller slot at the first difference.
+use Prim.Native.Nat.{ℕ, _<_}
+use mathlib.Core.Path.{_≡_}
+use mathlib.Core.List.{List, [], _∷_, _++_}
+use lib.ListN.{getD}
+use Rattle.pregroup.specs.Types.{Simple, PregroupType}
+use Rattle.pregroup.specs.Order.{Relation}
+use Rattle.pregroup.specs.Vanish.{Contracts, Vanish}
+use Rattle.graph.specs.Graph.{Graph, Labelled, EntersBy, Path, VanishTo, Boundary, Spells}
+
+-- Some path from y to `end` spells an X such that P X vanishes.
+pub data Finishes (Le : Relation) (g : Graph) (P : PregroupType) (y end : ℕ) : Type 0 where
+  finishes : {X : PregroupType} → Path g y X end → Vanish Le (P ++ X) → Finishes Le g P y end
+
+-- From y one comes by what vanishes to a node that p could contract with, and behind it L is finished.
+pub data Reaches (Le : Relation) (g : Graph) (p : Simple) (L : PregroupType) (y end : ℕ) : Type 0 where
+  reaches : {m k : ℕ} {z : Simple} → VanishTo Le g y m → Labelled g m z k → Contracts Le p z → Finishes Le g L k end → Reaches Le g p L y end
+
+-- How P is finished, by the innermost link that crosses to what follows: there is none, and both vanish; or P is L p R, R vanishes and p is
+-- linked.
+pub data Completion (Le : Relation) (g : Graph) : PregroupType → ℕ → ℕ → Type 0 where
+  settled : {P : PregroupType} {y end : ℕ} → Vanish Le P → VanishTo Le g y end → Completion Le g P y end
+  closes : {L R : PregroupType} {y end : ℕ} {p : Simple} → Vanish Le R → Reaches Le g p L y end → Completion Le g (L ++ (p ∷ R)) y end
+
+-- SlotChoice g u slots X v: from the boundary u to the boundary v, by the entries of the slots, which spell X.
+pub data SlotChoice (g : Graph) : ℕ → List ℕ → PregroupType → ℕ → Type 0 where
+  done : {v : ℕ} → Boundary g v → SlotChoice g v [] [] v
+  choose :
+      {u s w b v : ℕ} {T X : PregroupType} {slots : List ℕ} → EntersBy g u s w → Spells g w T b → SlotChoice g b slots X v
+      → SlotChoice g u (s ∷ slots) (T ++ X) v
+
+-- The slots complete P from u on: what they spell, behind P, vanishes.
+pub data Completes (Le : Relation) (g : Graph) (P : PregroupType) (u : ℕ) (slots : List ℕ) (end : ℕ) : Type 0 where
+  completes : {X : PregroupType} → SlotChoice g u slots X end → Vanish Le (P ++ X) → Completes Le g P u slots end
+
+-- Some choice from u on completes P ..
+pub data Completable (Le : Relation) (g : Graph) (P : PregroupType) (u end : ℕ) : Type 0 where
+  by-choice : {slots : List ℕ} → Completes Le g P u slots end → Completable Le g P u end
+
+-- .. that takes the slot s first.
+pub data CompletableBy (Le : Relation) (g : Graph) (P : PregroupType) (u s end : ℕ) : Type 0 where
+  by-slot : {slots : List ℕ} → Completes Le g P u (s ∷ slots) end → CompletableBy Le g P u s end
+
+-- The first choice is the same as the other or has a smaller slot at the first difference.
+pub data NotAfter : List ℕ → List ℕ → Type 0 where
+  same : {slots : List ℕ} → NotAfter slots slots
+  smaller : {s t : ℕ} {slots others : List ℕ} → s < t → NotAfter (s ∷ slots) (t ∷ others)
+  later : {s : ℕ} {slots others : List ℕ} → NotAfter slots others → NotAfter (s ∷ slots) (s ∷ others)
+
+-- Of all choices that complete P from u on, the first.
+pub record FirstChoice (Le : Relation) (g : Graph) (P : PregroupType) (u : ℕ) (slots : List ℕ) (end : ℕ) : Type 0 where
+  pub reads : Completes Le g P u slots end
+  pub first : (others : List ℕ) → Completes Le g P u others end → NotAfter slots others
+
+-- Slot by slot: at each boundary the first slot from whose first node P is finished, until the end.
+pub data Scanned (Le : Relation) (g : Graph) (end : ℕ) : PregroupType → ℕ → List ℕ → Type 0 where
+  ends : {P : PregroupType} → Vanish Le P → Scanned Le g end P end []
+  takes :
+      {P T : PregroupType} {u s w b : ℕ} {slots : List ℕ} → EntersBy g u s w → Spells g w T b
+      → ((r v : ℕ) → r < s → EntersBy g u r v → Finishes Le g P v end → ⊥) → Scanned Le g end (P ++ T) b slots
+      → Scanned Le g end P u (s ∷ slots)

@@ -1,0 +1,259 @@
+-- Entries laid one behind another: steps follow each other, an entry without a slot changes nothing, and one with a slot has the next one.
+use Prim.Native.Nat.{ℕ, zero, suc, _+_, _/_, _%_, _≤_, _<_}
+use native.Mathlib.Omega.{arith}
+use native.Mathlib.Decide.{decLt}
+use mathlib.Core.Path.{_≡_, refl, sym, ap, subst, _∙_}
+use mathlib.Core.Bool.{Bool, true, false, _&&_, _||_, true≢false, false≢true}
+use mathlib.Core.List.{List, [], _∷_}
+use lib.Dec.{eqb}
+use lib.ListN.{length, getD, set, length-set}
+use lib.Seq.{getD-set-same}
+use borrow.Author.Tests.{ne-eqb}
+use Rattle.linking.specs.Reading.{NumberedEntry}
+use Rattle.book.specs.Format.{Bytes, simplesOf, bodyAt, typePart}
+use Rattle.book.proofs.Layouts.{entry-shape}
+use Rattle.line.specs.LineFaults.{simplesIn}
+use Rattle.line.specs.LookUp.{entryAt, entriesAt}
+use Rattle.line.proofs.LookUpLaws.{simples-length}
+use Rattle.line.proofs.FoundLaws.{onward, onward-next, onward-end}
+use Rattle.graph.specs.Graph.{Graph, Boundary, Spells}
+use Rattle.graph.specs.Layout.{hasNone, slotted, Slots, slot}
+use Rattle.graph.specs.Cells.{maxNodes, Cells, cells, nodes, cellsGraph, Continues, Typed, Placed, Lays, SlotFits, EntriesFit}
+use Rattle.graph.specs.declared.Place.{Place}
+use Rattle.graph.proofs.TypeLaws.{SameNode, entry-later, continues-back, kept-here, same-set}
+
+some-long : (n : ℕ) → eqb (suc n) 0 ≡ false
+some-long n = ne-eqb (suc n) 0 (λ e. omega arith)
+
+-- A type is empty where its bytes are none.
+none-empty : (part : Bytes) → length part % 2 ≡ 0 → hasNone (simplesOf part) ≡ eqb (length part) 0
+unfolding simplesOf
+none-empty [] h = refl
+none-empty (number ∷ []) h = absurd (omega arith)
+none-empty (number ∷ exponent ∷ rest) h = sym (some-long (suc (length rest)))
+
+-- Which entries get a slot.
+slotted-passed : (seen : Bool) (e : NumberedEntry) (es : List NumberedEntry) → hasNone (e .type) && seen ≡ true → slotted seen (e ∷ es) ≡ slotted seen es
+unfolding slotted
+slotted-passed seen e es h = go (hasNone (e .type)) seen h
+  where
+    go : (empty seen : Bool) → empty && seen ≡ true
+        → (elim empty [ true ↦ elim seen [ true ↦ slotted true es | false ↦ e ∷ slotted true es ] | false ↦ e ∷ slotted seen es ]) ≡ slotted seen es
+    go true true h = refl
+    go true false h = absurd (false≢true h)
+    go false seen h = absurd (false≢true h)
+
+slotted-taken :
+    (seen : Bool) (e : NumberedEntry) (es : List NumberedEntry) → hasNone (e .type) && seen ≡ false
+    → slotted seen (e ∷ es) ≡ e ∷ slotted (hasNone (e .type) || seen) es
+unfolding slotted
+slotted-taken seen e es h = go (hasNone (e .type)) seen h
+  where
+    go : (empty seen : Bool) → empty && seen ≡ false
+        → (elim empty [ true ↦ elim seen [ true ↦ slotted true es | false ↦ e ∷ slotted true es ] | false ↦ e ∷ slotted seen es ]) ≡ e ∷ slotted (empty || seen) es
+    go true true h = absurd (true≢false h)
+    go true false h = refl
+    go false seen h = refl
+
+simples-cons : (e : NumberedEntry) (es : List NumberedEntry) → simplesIn (e ∷ es) ≡ length (e .type) + simplesIn es
+unfolding simplesIn
+simples-cons e es = refl
+
+-- Nothing is laid.
+pub lays-same :
+    (b : ℕ) (p : Place) (c : Cells) (es es′ : List NumberedEntry) → Placed b p c → slotted (p .seen) es ≡ slotted (p .seen) es′ → simplesIn es ≡ simplesIn es′
+    → Lays b p c p c es es′
+lays-same b p c es es′ placed e f =
+    record {
+      slots = λ g numbers k boundary to s. rw e s;
+      kept = kept-here _ _ c;
+      placed = placed;
+      count = ap (λ (m : ℕ). p .node + m) (sym f);
+      node-on = omega arith;
+      slot-on = omega arith;
+      entered = λ y h i. absurd (omega arith);
+    }
+
+-- One step behind another.
+pub lays-then :
+    {b : ℕ} {p p′ p″ : Place} {c c′ c″ : Cells} {es es′ es″ : List NumberedEntry} → Lays b p c p′ c′ es es′ → Lays b p′ c′ p″ c″ es′ es″
+    → Lays b p c p″ c″ es es″
+lays-then {b} {p} {p′} {p″} {c} {c′} {c″} {es} {es′} {es″} l l′ =
+    record {
+      slots = λ g numbers k boundary to s.
+          l .slots g numbers (continues-back (l′ .kept) k (l′ .node-on) (l′ .slot-on)) boundary to (l′ .slots g numbers k boundary to s);
+      kept = continues-back (l .kept) (l′ .kept) (l .node-on) (l .slot-on);
+      placed = l′ .placed;
+      count = l′ .count ∙ l .count;
+      node-on = omega (arith, l .node-on, l′ .node-on);
+      slot-on = omega (arith, l .slot-on, l′ .slot-on);
+      entered = each;
+    }
+  where
+    each : (y : ℕ) → p .slot ≤ y → y < p″ .slot → (p .node ≤ getD {A = ℕ} (c″ .enters) y 0) × (getD {A = ℕ} (c″ .enters) y 0 ≤ b)
+    each y h i = go (decLt y (p′ .slot))
+      where
+        go : Dec (y < p′ .slot) → (p .node ≤ getD {A = ℕ} (c″ .enters) y 0) × (getD {A = ℕ} (c″ .enters) y 0 ≤ b)
+        go (yes before) = rw (l′ .kept .enters y before) (l .entered y h before)
+        go (no behind) = let e = l′ .entered y (omega (arith, behind)) i in (omega (arith, e .0, l .node-on), e .1)
+
+module _ (part : Bytes) (number b : ℕ) (p : Place) (c : Cells) (f : SlotFits part number b p c) where
+  abbrev entry : NumberedEntry
+  entry = record { number = number; type = simplesOf part }
+
+  pub slot-passed : eqb (length part) 0 && p .seen ≡ true → (rest : List NumberedEntry) → Lays b p c p c (entry ∷ rest) rest
+  slot-passed h rest =
+      let e = simples-cons entry rest in
+      let n : length (simplesOf part) ≡ 0 = simples-length part (f .pairs) ∙ none-long (length part) (p .seen) h in
+      lays-same b p c (entry ∷ rest) rest (f .placed) (slotted-passed (p .seen) entry rest (rw (none-empty part (f .pairs)) h)) (omega arith)
+    where
+      none-long : (n : ℕ) (seen : Bool) → eqb n 0 && seen ≡ true → n / 2 ≡ 0
+      none-long zero seen h = omega arith
+      none-long (suc n) seen h =
+          let e : false && seen ≡ true = rw (some-long n) at h in
+          absurd (false≢true e)
+
+  module _ (taken : eqb (length part) 0 && p .seen ≡ false) (bases exponents nexts : List ℕ)
+      (bases-length : length bases ≡ length (c .bases)) (exponents-length : length exponents ≡ length (c .exponents)) (nexts-length : length nexts ≡ length (c .nexts))
+      (first : ℕ) (t : Typed part (p .node) b (nodes (c .bases) (c .exponents) (c .nexts)) (nodes bases exponents nexts) first) where
+    abbrev p′ : Place
+    p′ = record { node = p .node + length part / 2; slot = p .slot + 1; seen = eqb (length part) 0 || p .seen }
+
+    abbrev c′ : Cells
+    c′ = cells bases exponents nexts (set (c .enters) (p .slot) first) (set (c .numbers) (p .slot) number)
+
+    -- There is a slot left: an empty type takes the one that the word has to spare.
+    room : (p .slot < p .node + length part / 2) × (p′ .seen ≡ false → p .slot + 1 < p .node + length part / 2)
+    room = go (length part) (p .seen) taken (f .pairs) (f .placed .spare)
+      where
+        go : (n : ℕ) (seen : Bool) → eqb n 0 && seen ≡ false → n % 2 ≡ 0 → (seen ≡ false → p .slot < p .node)
+            → (p .slot < p .node + n / 2) × (eqb n 0 || seen ≡ false → p .slot + 1 < p .node + n / 2)
+        go zero true h even spare = absurd (true≢false h)
+        go zero false h even spare = (omega (arith, spare refl), λ e. absurd (true≢false e))
+        go (suc n) seen h even spare = (omega (arith, f .placed .few), λ e. omega (arith, spare (rw (some-long n) at e)))
+
+    place : p .slot < maxNodes
+    place = omega (arith, room .0, f .fits, f .placed .small)
+
+    here : getD {A = ℕ} (c′ .enters) (p .slot) 0 ≡ first
+    here = getD-set-same (c .enters) (p .slot) first 0 (omega (arith, place, f .placed .enters-room))
+
+    placed′ : Placed b p′ c′
+    placed′ =
+        record {
+          few = omega (arith, room .0);
+          spare = λ e. room .1 e;
+          inside = f .fits;
+          small = f .placed .small;
+          bases-room = omega (arith, f .placed .bases-room);
+          exponents-room = omega (arith, f .placed .exponents-room);
+          nexts-room = omega (arith, f .placed .nexts-room);
+          enters-room = omega (arith, f .placed .enters-room, length-set (c .enters) (p .slot) first);
+          numbers-room = omega (arith, f .placed .numbers-room, length-set (c .numbers) (p .slot) number);
+          up = t .up;
+        }
+
+    each : (y : ℕ) → p .slot ≤ y → y < p .slot + 1 → (p .node ≤ getD {A = ℕ} (c′ .enters) y 0) × (getD {A = ℕ} (c′ .enters) y 0 ≤ b)
+    each y h i = let e : y ≡ p .slot = omega arith in rw (e, here) (t .low, t .high)
+
+    slots′ : (rest : List NumberedEntry) (g : Graph) (numbers : List ℕ) → Continues (p′ .node) (p′ .slot) c′ g numbers → Boundary g b → (to : ℕ)
+        → Slots g numbers b (p′ .slot) to (slotted (p′ .seen) rest) → Slots g numbers b (p .slot) to (slotted (p .seen) (entry ∷ rest))
+    slots′ rest g numbers k boundary to s =
+        let empty = none-empty part (f .pairs) in
+        let order : slotted (p .seen) (entry ∷ rest) ≡ entry ∷ slotted (p′ .seen) rest =
+        slotted-taken (p .seen) entry rest (rw empty taken) ∙ ap (λ (z : Bool). entry ∷ slotted (z || p .seen) rest) empty in
+        let enters : getD {A = ℕ} (g .enters) (p .slot) 0 ≡ first = k .enters (p .slot) (omega arith) ∙ here in
+        let number′ : getD {A = ℕ} numbers (p .slot) 0 ≡ number =
+        k .numbers (p .slot) (omega arith) ∙ getD-set-same (c .numbers) (p .slot) number 0 (omega (arith, place, f .placed .numbers-room)) in
+        let spelt : Spells g first (simplesOf part) b = entry-later (t .spelt) (λ x q. node x (t .up x q .0)) boundary in
+        rw order (slot {e = entry} number′ (rw enters spelt) s)
+      where
+        node : (x : ℕ) → x < p′ .node → SameNode (cellsGraph (nodes bases exponents nexts)) g x
+        node x h = record { base = k .bases x h; exponent = k .exponents x h; next = k .nexts x h }
+
+    pub slot-taken : (rest : List NumberedEntry) → Lays b p c p′ c′ (entry ∷ rest) rest
+    slot-taken rest =
+        record {
+          slots = slots′ rest;
+          kept = record {
+            bases = t .kept .bases;
+            exponents = t .kept .exponents;
+            nexts = t .kept .nexts;
+            enters = same-set (p .slot) (c .enters) (c .enters) (p .slot) first (omega arith) (λ y h. refl);
+            numbers = same-set (p .slot) (c .numbers) (c .numbers) (p .slot) number (omega arith) (λ y h. refl);
+          };
+          placed = placed′;
+          count =
+              let e = simples-cons entry rest in
+              let n = simples-length part (f .pairs) in
+              omega (arith, e, n);
+          node-on = omega arith;
+          slot-on = omega arith;
+          entered = each;
+        }
+
+-- The loop over the entries found.
+module _ (bytes : Bytes) (offsets found : List ℕ) (n b : ℕ) (p : Place) (c : Cells) where
+  -- How it stands before the k-th.
+  pub record Entering (place : Place) (c′ : Cells) (k : ℕ) : Type 0 where
+    pub inside : k ≤ n
+    pub lays : Lays b p c place c′ (entriesAt bytes offsets found n) (onward bytes offsets found n k)
+    pub bases-length : length (c′ .bases) ≡ length (c .bases)
+    pub exponents-length : length (c′ .exponents) ≡ length (c .exponents)
+    pub nexts-length : length (c′ .nexts) ≡ length (c .nexts)
+    pub enters-length : length (c′ .enters) ≡ length (c .enters)
+    pub numbers-length : length (c′ .numbers) ≡ length (c .numbers)
+
+  module _ (f : EntriesFit bytes offsets found n b p c) where
+    pub entering-start : Entering p c 0
+    entering-start =
+        record {
+          inside = omega arith;
+          lays = lays-same b p c (entriesAt bytes offsets found n) (entriesAt bytes offsets found n) (f .placed) refl refl;
+          bases-length = refl;
+          exponents-length = refl;
+          nexts-length = refl;
+          enters-length = refl;
+          numbers-length = refl;
+        }
+
+    pub entering-end : (place : Place) (c′ : Cells) (k : ℕ) → Entering place c′ k → n ≤ k → Lays b p c place c′ (entriesAt bytes offsets found n) []
+    entering-end place c′ k s h = rw (onward-end bytes offsets found n (f .named .room) k h) at (s .lays)
+
+    -- The k-th, by its number and the bytes of its type.
+    module _ (place : Place) (c′ : Cells) (k : ℕ) (s : Entering place c′ k) (h : k < n) (number : ℕ) (named : number ≡ getD {A = ℕ} found k 0)
+        (part : Bytes) (here : part ≡ typePart (bodyAt bytes (getD {A = ℕ} offsets number 0))) where
+      abbrev k-th : NumberedEntry
+      k-th = record { number = number; type = simplesOf part }
+
+      abbrev behind : List NumberedEntry
+      behind = onward bytes offsets found n (k + 1)
+
+      low : number < f .count
+      low = rw named (f .named .low k h)
+
+      pairs : length part % 2 ≡ 0
+      pairs = rw here (entry-shape (bodyAt bytes (getD {A = ℕ} offsets number 0)) (f .lexicon .entries .layouts number low) .pairs)
+
+      -- The entries left are this one and those behind it.
+      left-here : onward bytes offsets found n k ≡ k-th ∷ behind
+      left-here =
+          onward-next bytes offsets found n (f .named .room) k h ∙ ap (λ (m : ℕ). entryAt bytes offsets m ∷ behind) (sym named)
+          ∙ ap (λ (q : Bytes). record { number = number; type = simplesOf q } ∷ behind) (sym here)
+
+      pub entering-fits : SlotFits part number b place c′
+      entering-fits =
+          let sum = ap simplesIn left-here ∙ simples-cons k-th behind in
+          let long = simples-length part pairs in
+          record {
+            pairs = pairs;
+            listed = rw here (f .lexicon .listed number low);
+            fits = omega (arith, sum, long, s .lays .count, f .fits);
+            low = omega (arith, low, f .lexicon .entries .few);
+            placed = s .lays .placed;
+          }
+
+      pub entering-next : (place′ : Place) (c″ : Cells) → ((rest : List NumberedEntry) → Lays b place c′ place′ c″ (k-th ∷ rest) rest)
+          → Lays b p c place′ c″ (entriesAt bytes offsets found n) behind
+      entering-next place′ c″ l =
+          lays-then (s .lays) (subst (λ (es : List NumberedEntry). Lays b place c′ place′ c″ es behind) (sym left-here) (l behind))

@@ -1,0 +1,328 @@
+-- All words of a line laid, the target behind them, and the whole line laid out.
+use Prim.Native.Nat.{ℕ, _+_, _≤_, _<_}
+use native.Mathlib.Omega.{arith}
+use native.Mathlib.Decide.{ℕ-discrete}
+use mathlib.Core.Path.{_≡_, refl, sym, ap, ap₂, subst, _∙_}
+use mathlib.Core.Bool.{false}
+use mathlib.Core.List.{List, [], _∷_, map}
+use lib.IntN.{ℤ, pos, _-ℤ_}
+use lib.ListN.{length, getD, drop, set, length-set, length-map}
+use lib.Seq.{getD-set-same, getD-set-other}
+use Rattle.pregroup.specs.Types.{Basic, _⁽_⁾}
+use Rattle.pregroup.specs.Held.{bias}
+use Rattle.linking.specs.Reading.{NumberedEntry, Words}
+use Rattle.book.specs.Format.{Bytes, Book, Entry, exponentOf}
+use Rattle.line.specs.LineWords.{Word, wordsOf}
+use Rattle.line.specs.LineFaults.{simplesOfWords, entriesFrom, entriesOfLine}
+use Rattle.line.specs.LookUp.{entriesKept}
+use Rattle.line.specs.Split.{wordAt}
+use Rattle.line.proofs.LineLaws.{simples-cons, words-length, words-at, none-left}
+use Rattle.graph.specs.Graph.{Labelled, Upward, Spells, ended, more}
+use Rattle.graph.specs.Layout.{Laid, goal}
+use Rattle.graph.specs.Cells.{maxNodes, cells, Edges, entriesOfWord}
+use Rattle.graph.specs.Lists.{Lists, lists, graphOf, Follows, Standing, Lined, entriesOfWords, WordFits, WordsFit, Ended, LineFits, LaidOut}
+use Rattle.graph.specs.declared.Place.{Place}
+use Rattle.graph.proofs.TypeLaws.{same-set, no-edge}
+use Rattle.graph.proofs.WordLaws.{lined-then, lined-here, from-here, to-here, enters-more, tos-more}
+
+-- The laws of a split line hold for any book.
+abbrev any-book : Book
+any-book = record { names = []; pairs = []; entries = []; target = 0 }
+
+-- The loop over the words.
+module _ (bytes : Bytes) (offsets : List ℕ) (count : ℕ) (line : Bytes) (starts ends : List ℕ) (words : ℕ) (p : Place) (l : Lists) where
+  -- The words from the k-th on.
+  abbrev words-from : ℕ → Words
+  words-from k = entriesOfWords bytes offsets count (drop k (wordsOf line))
+
+  -- How it stands before the k-th word.
+  pub record Lining (place : Place) (l′ : Lists) (k : ℕ) : Type 0 where
+    pub inside : k ≤ words
+    pub lined : Lined p l place l′ (words-from 0) (words-from k)
+    pub bases-length : length (l′ .cells .bases) ≡ length (l .cells .bases)
+    pub exponents-length : length (l′ .cells .exponents) ≡ length (l .cells .exponents)
+    pub nexts-length : length (l′ .cells .nexts) ≡ length (l .cells .nexts)
+    pub froms-length : length (l′ .froms) ≡ length (l .froms)
+    pub tos-length : length (l′ .tos) ≡ length (l .tos)
+    pub enters-length : length (l′ .cells .enters) ≡ length (l .cells .enters)
+    pub numbers-length : length (l′ .cells .numbers) ≡ length (l .cells .numbers)
+
+  module _ (n : WordsFit bytes offsets count line starts ends words p l) where
+    pub lining-start : Lining p l 0
+    lining-start =
+        record {
+          inside = omega arith;
+          lined = lined-here p l (words-from 0) (n .standing);
+          bases-length = refl;
+          exponents-length = refl;
+          nexts-length = refl;
+          froms-length = refl;
+          tos-length = refl;
+          enters-length = refl;
+          numbers-length = refl;
+        }
+
+    pub lining-end : (place : Place) (l′ : Lists) (k : ℕ) → Lining place l′ k → words ≤ k → Lined p l place l′ (words-from 0) []
+    lining-end place l′ k s h =
+        subst (λ (ws : List Word). Lined p l place l′ (words-from 0) (entriesOfWords bytes offsets count ws))
+        (none-left any-book line starts ends words (n .split) k h) (s .lined)
+
+    module _ (place : Place) (l′ : Lists) (k : ℕ) (s : Lining place l′ k) (h : k < words) where
+      abbrev here : Bytes
+      here = wordAt line (getD {A = ℕ} starts k 0) (getD {A = ℕ} ends k 0) .bytes
+
+      abbrev es : List NumberedEntry
+      es = entriesOfWord bytes offsets count here
+
+      words-here : words-from k ≡ es ∷ words-from (k + 1)
+      words-here = ap (entriesOfWords bytes offsets count) (words-at any-book line starts ends words (n .split) k h)
+
+      all-words : length (words-from 0) ≡ words
+      all-words = length-map (wordsOf line) (λ (w : Word). entriesOfWord bytes offsets count (w .bytes)) ∙ words-length any-book line starts ends words (n .split)
+
+      pub lining-fits : WordFits bytes offsets count here place l′
+      lining-fits =
+          let simples = ap simplesOfWords words-here ∙ simples-cons es (words-from (k + 1)) in
+          let long = ap length words-here in
+          record {
+            lexicon = n .lexicon;
+            standing = s .lined .standing;
+            numbers-room = omega (arith, n .numbers-room, s .numbers-length);
+            fits = omega (arith, n .fits, s .lined .count, all-words, simples, long);
+          }
+
+      pub lining-next : (place′ : Place) (l″ : Lists) → ((rest : Words) → Lined place l′ place′ l″ (es ∷ rest) rest)
+          → Lined p l place′ l″ (words-from 0) (words-from (k + 1))
+      lining-next place′ l″ t =
+          lined-then (s .lined) (subst (λ (ws : Words). Lined place l′ place′ l″ ws (words-from (k + 1))) (sym words-here) (t (words-from (k + 1))))
+
+-- Lists that are filled up to a last boundary are a graph that goes up.
+pub standing-upward : (p : Place) (l : Lists) → Standing p l → p .node + 1 < maxNodes → Upward (graphOf (p .node + 1) l)
+standing-upward p l s h =
+    record {
+      few = omega arith;
+      nexts-up = λ u a q. let e = s .nexts-up u q in (e .1, omega (arith, e .2));
+      enters-up = λ u y v a q.
+          let e = s .enters-up u y (q .from-on) (q .before) in
+          (omega (arith, e .0, q .entered), omega (arith, e .1, q .entered));
+      slots-there = λ u a. omega (arith, s .tos-low u, s .few, s .room .enters);
+      bases-there = omega (arith, s .room .bases);
+      exponents-there = omega (arith, s .room .exponents);
+      nexts-there = omega (arith, s .room .nexts);
+      froms-there = omega (arith, s .room .froms);
+      tos-there = omega (arith, s .room .tos);
+    }
+
+-- The target behind the last word.
+module _ (target : Basic) (p : Place) (l : Lists) (s : Standing p l) (fits : p .node + 3 < maxNodes)
+    (raised : ℕ) (right : pos raised -ℤ pos bias ≡ exponentOf 1) where
+  abbrev adjoint : ℕ
+  adjoint = p .node + 1
+
+  abbrev end : ℕ
+  end = p .node + 2
+
+  abbrev p′ : Place
+  p′ = record { node = end; slot = p .slot + 1; seen = false }
+
+  abbrev enters′ : List ℕ
+  enters′ = set (l .cells .enters) (p .slot) adjoint
+
+  abbrev nexts′ : List ℕ
+  nexts′ = set (l .cells .nexts) adjoint end
+
+  abbrev l′ : Lists
+  l′ =
+      lists
+      (set (l .cells .bases) adjoint target)
+      (set (l .cells .exponents) adjoint raised)
+      nexts′
+      (set (l .froms) (p .node) (p .slot))
+      (set (l .tos) (p .node) (p .slot + 1))
+      enters′
+      (l .cells .numbers)
+
+  enters-here : getD {A = ℕ} enters′ (p .slot) 0 ≡ adjoint
+  enters-here = getD-set-same (l .cells .enters) (p .slot) adjoint 0 (omega (arith, s .few, s .room .enters))
+
+  nexts-here : getD {A = ℕ} nexts′ adjoint 0 ≡ end
+  nexts-here = getD-set-same (l .cells .nexts) adjoint end 0 (omega (arith, s .room .nexts))
+
+  entered : (y : ℕ) → p .slot ≤ y → y < p .slot + 1 → (p .node < getD {A = ℕ} enters′ y 0) × (getD {A = ℕ} enters′ y 0 ≤ end)
+  entered y h i = let e : y ≡ p .slot = omega arith in rw (e, enters-here) (omega arith, omega arith)
+
+  up′ : Edges nexts′ end end
+  up′ x h = go (ℕ-discrete x adjoint)
+    where
+      go : Dec (x ≡ adjoint) → (x < end) × (x < getD {A = ℕ} nexts′ x 0) × (getD {A = ℕ} nexts′ x 0 ≤ end)
+      go (yes e) = rw (e, nexts-here) (omega arith, omega arith, omega arith)
+      go (no d) =
+          let same = getD-set-other (l .cells .nexts) adjoint x end 0 d in
+          let e = s .nexts-up x (omega arith) in
+          (omega (arith, e .0), omega (arith, e .1), omega (arith, e .2))
+
+  kept : (y : ℕ) → y < p .slot → getD {A = ℕ} enters′ y 0 ≡ getD {A = ℕ} (l .cells .enters) y 0
+  kept = same-set (p .slot) (l .cells .enters) (l .cells .enters) (p .slot) adjoint (omega arith) (λ y h. refl)
+
+  standing′ : Standing p′ l′
+  standing′ =
+      record {
+        few = omega (arith, s .few);
+        room = record {
+          bases = omega (arith, s .room .bases, length-set (l .cells .bases) adjoint target);
+          exponents = omega (arith, s .room .exponents, length-set (l .cells .exponents) adjoint raised);
+          nexts = omega (arith, s .room .nexts, length-set (l .cells .nexts) adjoint end);
+          froms = omega (arith, s .room .froms, length-set (l .froms) (p .node) (p .slot));
+          tos = omega (arith, s .room .tos, length-set (l .tos) (p .node) (p .slot + 1));
+          enters = omega (arith, s .room .enters, length-set (l .cells .enters) (p .slot) adjoint);
+        };
+        nexts-up = up′;
+        enters-up = enters-more p l s end (p .slot + 1) (omega arith) (omega arith) (omega arith) enters′ kept entered;
+        tos-low = tos-more p l s end (p .slot + 1) (omega arith) (omega arith) (omega arith) enters′ kept entered;
+      }
+
+  upward′ : Upward (graphOf (p .node + 3) l′)
+  upward′ =
+      let e : end + 1 ≡ p .node + 3 = omega arith in
+      rw e at (standing-upward p′ l′ standing′ (omega arith))
+
+  spelt : Spells (graphOf (p .node + 3) l′) adjoint (target ⁽ pos 1 ⁾ ∷ []) end
+  unfolding exponentOf
+  spelt = more labelled (ended (no-edge nexts′ end end up′ end (omega arith)))
+    where
+      labelled : Labelled (graphOf (p .node + 3) l′) adjoint (target ⁽ pos 1 ⁾) end
+      labelled =
+          record {
+            simple = omega (arith, nexts-here);
+            label =
+                ap₂ (λ (a : ℕ) (z : ℤ). a ⁽ z ⁾)
+                (sym (getD-set-same (l .cells .bases) adjoint target 0 (omega (arith, s .room .bases))))
+                (sym right ∙ ap (λ (m : ℕ). pos m -ℤ pos bias) (sym (getD-set-same (l .cells .exponents) adjoint raised 0 (omega (arith, s .room .exponents)))));
+            next = sym nexts-here;
+          }
+
+  pub goal-ended : Ended target p l l′ (p .node + 3)
+  goal-ended =
+      let from = from-here p l s end (p .slot + 1) (omega arith) (omega arith) (omega arith) enters′ kept entered in
+      let to = to-here p l s end (p .slot + 1) (omega arith) (omega arith) (omega arith) enters′ kept entered in
+      let boundary =
+      getD-set-other (l .cells .nexts) adjoint (p .node) end 0 (omega arith)
+      ∙ no-edge (l .cells .nexts) (p .node) (p .node) (s .nexts-up) (p .node) (omega arith) in
+      let entry : Spells (graphOf (p .node + 3) l′) (getD {A = ℕ} enters′ (getD {A = ℕ} (l′ .froms) (p .node) 0) 0) (target ⁽ pos 1 ⁾ ∷ []) end =
+      rw (from, enters-here) spelt in
+      record {
+        nodes = refl;
+        kept = record {
+          cells = record {
+            bases = same-set (p .node) (l .cells .bases) (l .cells .bases) adjoint target (omega arith) (λ x h. refl);
+            exponents = same-set (p .node) (l .cells .exponents) (l .cells .exponents) adjoint raised (omega arith) (λ x h. refl);
+            nexts = same-set (p .node) (l .cells .nexts) (l .cells .nexts) adjoint end (omega arith) (λ x h. refl);
+            enters = kept;
+            numbers = λ y h. refl;
+          };
+          froms = same-set (p .node) (l .froms) (l .froms) (p .node) (p .slot) (omega arith) (λ x h. refl);
+          tos = same-set (p .node) (l .tos) (l .tos) (p .node) (p .slot + 1) (omega arith) (λ x h. refl);
+        };
+        upward = upward′;
+        laid = λ numbers. goal boundary (omega (arith, from, to)) entry;
+      }
+
+-- The whole line.
+module _ (bytes : Bytes) (offsets : List ℕ) (count : ℕ) (line : Bytes) (starts ends : List ℕ) (words : ℕ) (l : Lists)
+    (n : LineFits bytes offsets count line starts ends words l) where
+  abbrev kept-book : Book
+  kept-book = record { names = []; pairs = []; entries = entriesKept bytes offsets count; target = 0 }
+
+  abbrev first : Place
+  first = record { node = 0; slot = 0; seen = false }
+
+  abbrev all : Words
+  all = entriesOfWords bytes offsets count (wordsOf line)
+
+  empty-standing : Standing first l
+  empty-standing =
+      record {
+        few = omega arith;
+        room = n .room;
+        nexts-up = λ x h. let e = n .empty .nexts x in absurd (omega arith);
+        enters-up = λ x y h i. let e = n .empty .tos x in absurd (omega arith);
+        tos-low = λ x. let e = n .empty .tos x in omega arith;
+      }
+
+  pub out-words-fit : WordsFit bytes offsets count line starts ends words first l
+  out-words-fit =
+      let c = n .checked kept-book refl in
+      record {
+        lexicon = n .lexicon;
+        split = c .0;
+        starts-room = n .starts-room;
+        ends-room = n .ends-room;
+        standing = empty-standing;
+        numbers-room = n .numbers-room;
+        fits = omega (arith, c .2, c .0 .few);
+      }
+
+  module _ (last : Place) (l′ : Lists) (t : Lined first l last l′ all []) where
+    bounded : last .node ≤ 536
+    unfolding simplesOfWords
+    bounded =
+        let c = n .checked kept-book refl in
+        let long : length all ≡ words =
+        length-map (wordsOf line) (λ (w : Word). entriesOfWord bytes offsets count (w .bytes)) ∙ words-length kept-book line starts ends words (c .0) in
+        omega (arith, c .2, c .0 .few, t .count, long)
+
+    -- The target needs no entry numbers.
+    abbrev without : Lists → Lists
+    without m = lists (m .cells .bases) (m .cells .exponents) (m .cells .nexts) (m .froms) (m .tos) (m .cells .enters) []
+
+    pub out-standing : Standing last (without l′) × (last .node + 3 < maxNodes)
+    out-standing =
+        let s = t .standing in (
+          record {
+            few = s .few;
+            room = record {
+              bases = s .room .bases;
+              exponents = s .room .exponents;
+              nexts = s .room .nexts;
+              froms = s .room .froms;
+              tos = s .room .tos;
+              enters = s .room .enters;
+            };
+            nexts-up = s .nexts-up;
+            enters-up = s .enters-up;
+            tos-low = s .tos-low;
+          },
+          omega (arith, bounded),
+        )
+
+    module _ (target : Basic) (l″ : Lists) (same : l″ .cells .numbers ≡ l′ .cells .numbers) (nodes : ℕ)
+        (e : Ended target last (without l′) (without l″) nodes) where
+      follows : Follows last l′ (graphOf nodes l″) (l″ .cells .numbers)
+      follows =
+          record {
+            cells = record {
+              bases = e .kept .cells .bases;
+              exponents = e .kept .cells .exponents;
+              nexts = e .kept .cells .nexts;
+              enters = e .kept .cells .enters;
+              numbers = λ y h. ap (λ (m : List ℕ). getD {A = ℕ} m y 0) same;
+            };
+            froms = e .kept .froms;
+            tos = e .kept .tos;
+          }
+
+      laid′ : Laid (graphOf nodes l″) (l″ .cells .numbers) target 0 all (last .node + 2)
+      laid′ = t .laid (graphOf nodes l″) (l″ .cells .numbers) follows target (last .node + 2) (e .laid (l″ .cells .numbers))
+
+      pub out-laid : LaidOut bytes offsets count line target l″ nodes
+      out-laid =
+          record {
+            few = omega (arith, bounded, e .nodes);
+            some-nodes = omega (arith, e .nodes);
+            upward = e .upward;
+            laid = λ B kept end last-node.
+                let same-end : last .node + 2 ≡ end = omega (arith, e .nodes) in
+                let same-words : all ≡ entriesOfLine B line =
+                ap (λ (es : List Entry). map (λ (w : Word). entriesFrom 0 es (w .bytes)) (wordsOf line)) (sym kept) in
+                rw (same-end, same-words) at laid′;
+          }

@@ -1,0 +1,200 @@
+-- A type laid from its last simple type to its first: what is behind is spelt already, and a store before it does not disturb it.
+use Prim.Native.Nat.{ℕ, zero, suc, _+_, _-_, _*_, _/_, _%_, _≤_, _<_}
+use native.Mathlib.Omega.{arith}
+use native.Mathlib.Decide.{ℕ-discrete}
+use mathlib.Core.Path.{_≡_, refl, sym, ap, ap₂, _∙_}
+use mathlib.Core.Bool.{true}
+use mathlib.Core.List.{List, _∷_}
+use lib.IntN.{ℤ, pos, _-ℤ_}
+use lib.ListN.{length, getD, drop, set, length-set, drop-of-length-le}
+use lib.Seq.{getD-set-same, getD-set-other}
+use Rattle.pregroup.specs.Types.{PregroupType, _⁽_⁾}
+use Rattle.pregroup.specs.Held.{bias, held}
+use Rattle.book.specs.Format.{Bytes, simplesOf, exponentOf, exponentListed}
+use Rattle.book.proofs.Simples.{simpleAt, simples-step}
+use Rattle.graph.specs.Graph.{Graph, Labelled, labelOf, Boundary, Spells, ended, more}
+use Rattle.graph.specs.Cells.{maxNodes, Cells, cells, cellsGraph, Same, Continues, Kept, Edges, TypeFits, Typed}
+use Rattle.graph.proofs.RaiseLaws.{listed-at}
+
+-- Another graph has the same simple type on a node.
+pub record SameNode (g h : Graph) (x : ℕ) : Type 0 where
+  pub base : getD {A = ℕ} (h .bases) x 0 ≡ getD {A = ℕ} (g .bases) x 0
+  pub exponent : getD {A = ℕ} (h .exponents) x 0 ≡ getD {A = ℕ} (g .exponents) x 0
+  pub next : getD {A = ℕ} (h .nexts) x 0 ≡ getD {A = ℕ} (g .nexts) x 0
+
+-- An entry is spelt by every graph that has the same simple types, and the boundary.
+pub entry-later :
+    {g h : Graph} {u v : ℕ} {T : PregroupType} → Spells g u T v
+    → ((x : ℕ) → 0 < getD {A = ℕ} (g .nexts) x 0 → SameNode g h x) → Boundary h v → Spells h u T v
+entry-later (ended b) same boundary = ended boundary
+entry-later {g} {h} (more {u = u} {n = n} {x = x} l e) same boundary =
+    let s = same u (l .simple) in
+    let nx = s .next in
+    let label : x ≡ labelOf h u = l .label ∙ ap₂ held (sym (s .base)) (sym (s .exponent)) in
+    let labelled : Labelled h u x n = record { simple = omega (arith, l .simple); label = label; next = l .next ∙ sym nx } in
+    more labelled (entry-later e same boundary)
+
+-- What continues later cells continues these.
+pub continues-back :
+    {n s n′ s′ : ℕ} {c c′ : Cells} {g : Graph} {ns : List ℕ} → Kept n s c c′ → Continues n′ s′ c′ g ns → n ≤ n′ → s ≤ s′ → Continues n s c g ns
+continues-back k k′ h i =
+    record {
+      bases = λ x a. k′ .bases x (omega arith) ∙ k .bases x a;
+      exponents = λ x a. k′ .exponents x (omega arith) ∙ k .exponents x a;
+      nexts = λ x a. k′ .nexts x (omega arith) ∙ k .nexts x a;
+      enters = λ y a. k′ .enters y (omega arith) ∙ k .enters y a;
+      numbers = λ y a. k′ .numbers y (omega arith) ∙ k .numbers y a;
+    }
+
+pub kept-here : (n s : ℕ) (c : Cells) → Kept n s c c
+kept-here n s c = record { bases = λ x h. refl; exponents = λ x h. refl; nexts = λ x h. refl; enters = λ y h. refl; numbers = λ y h. refl }
+
+-- What continues the cells far continues them less far.
+pub continues-less : {n s n′ s′ : ℕ} {c : Cells} {g : Graph} {ns : List ℕ} → Continues n′ s′ c g ns → n ≤ n′ → s ≤ s′ → Continues n s c g ns
+continues-less {n} {s} {c = c} k h i = continues-back (kept-here n s c) k h i
+
+-- A store behind what is kept.
+pub same-set : (n : ℕ) (l₀ l : List ℕ) (i v : ℕ) → n ≤ i → Same n l₀ l → Same n l₀ (set l i v)
+same-set n l₀ l i v h s x a = getD-set-other l i x v 0 (omega arith) ∙ s x a
+
+-- From n on there are only boundaries.
+pub no-edge : (nexts : List ℕ) (n b : ℕ) → Edges nexts n b → (x : ℕ) → n ≤ x → getD {A = ℕ} nexts x 0 ≡ 0
+no-edge nexts n b up x h = none (getD {A = ℕ} nexts x 0) (λ p. up x p .0)
+  where
+    none : (m : ℕ) → (0 < m → x < n) → m ≡ 0
+    none zero f = refl
+    none (suc m) f = let g = f (omega arith) in absurd (omega arith)
+
+-- How the loop stands: the simple types from byte i of the part on are laid, and begin at `first`.
+pub record Typing (part : Bytes) (node b : ℕ) (c₀ c : Cells) (first i : ℕ) : Type 0 where
+  pub even : i % 2 ≡ 0
+  pub inside : i ≤ length part
+  pub kept : Kept (node + i / 2) 0 c₀ c
+  pub up : Edges (c .nexts) (node + length part / 2) b
+  pub spelt : Spells (cellsGraph c) first (simplesOf (drop i part)) b
+  pub low : node + i / 2 ≤ first
+  pub high : first ≤ b
+  pub bases-length : length (c .bases) ≡ length (c₀ .bases)
+  pub exponents-length : length (c .exponents) ≡ length (c₀ .exponents)
+  pub nexts-length : length (c .nexts) ≡ length (c₀ .nexts)
+
+module _ (part : Bytes) (node b : ℕ) (c₀ : Cells) (t : TypeFits part node b c₀) where
+  no-next : (x : ℕ) → node ≤ x → getD {A = ℕ} (c₀ .nexts) x 0 ≡ 0
+  no-next x h = no-edge (c₀ .nexts) node b (t .up) x h
+
+  pub typing-start : Typing part node b c₀ c₀ b (length part)
+  unfolding simplesOf
+  typing-start =
+      record {
+        even = t .pairs;
+        inside = omega arith;
+        kept = kept-here _ _ c₀;
+        up = λ x p. let e = t .up x p in (omega (arith, e .0), e .1, e .2);
+        spelt = rw (drop-of-length-le part {i = length part} (omega arith)) (ended (no-next b (omega (arith, t .fits))));
+        low = t .fits;
+        high = omega arith;
+        bases-length = refl;
+        exponents-length = refl;
+        nexts-length = refl;
+      }
+
+  pub typing-end : (c : Cells) (first i : ℕ) → Typing part node b c₀ c first i → i ≤ 0 → Typed part node b c₀ c first
+  typing-end c first i laying h =
+      let e : i ≡ 0 = omega arith in
+      let s : Typing part node b c₀ c first 0 = rw e at laying in
+      record {
+        kept = continues-less (s .kept) (omega arith) (omega arith);
+        up = s .up;
+        spelt = s .spelt;
+        low = omega (arith, s .low);
+        high = s .high;
+      }
+
+  module _ (c : Cells) (first i : ℕ) (s : Typing part node b c₀ c first i) (some-left : 0 < i) where
+    abbrev at : ℕ
+    at = node + (i - 2) / 2
+
+    two : 2 ≤ i
+    two = omega (arith, s .even)
+
+    pub type-inside : (i - 2 + 1 < length part) × (at < maxNodes) × (at < first) × (first < maxNodes)
+    type-inside = (omega (arith, two, s .inside), omega (arith, two, s .inside, t .fits, t .small), omega (arith, two, s .low), omega (arith, s .high, t .small))
+
+    pub type-listed : exponentListed (exponentOf (getD {A = ℕ} part (i - 2 + 1) 0)) ≡ true
+    type-listed =
+        let e : 2 * ((i - 2) / 2) + 1 ≡ i - 2 + 1 = omega (arith, two, s .even) in
+        rw e at (listed-at part (t .pairs) (t .listed) ((i - 2) / 2) (omega (arith, e, type-inside .0)))
+
+    module _ (raised : ℕ) (right : pos raised -ℤ pos bias ≡ exponentOf (getD {A = ℕ} part (i - 2 + 1) 0)) where
+      abbrev base : ℕ
+      base = getD {A = ℕ} part (i - 2) 0
+
+      abbrev c′ : Cells
+      c′ = cells (set (c .bases) at base) (set (c .exponents) at raised) (set (c .nexts) at first) (c .enters) (c .numbers)
+
+      free : getD {A = ℕ} (c .nexts) at 0 ≡ 0
+      free = s .kept .nexts at (omega (arith, two)) ∙ no-next at (omega arith)
+
+      nexts-here : getD {A = ℕ} (set (c .nexts) at first) at 0 ≡ first
+      nexts-here = getD-set-same (c .nexts) at first 0 (omega (arith, type-inside .1, s .nexts-length, t .nexts-room))
+
+      others : (x : ℕ) → 0 < getD {A = ℕ} (c .nexts) x 0 → SameNode (cellsGraph c) (cellsGraph c′) x
+      others x p = go (ℕ-discrete x at)
+        where
+          go : Dec (x ≡ at) → SameNode (cellsGraph c) (cellsGraph c′) x
+          go (yes e) = let z : getD {A = ℕ} (c .nexts) x 0 ≡ 0 = ap (λ (k : ℕ). getD {A = ℕ} (c .nexts) k 0) e ∙ free in absurd (omega arith)
+          go (no d) =
+              record {
+                base = getD-set-other (c .bases) at x base 0 d;
+                exponent = getD-set-other (c .exponents) at x raised 0 d;
+                next = getD-set-other (c .nexts) at x first 0 d;
+              }
+
+      up′ : Edges (set (c .nexts) at first) (node + length part / 2) b
+      up′ x p = go (ℕ-discrete x at)
+        where
+          go : Dec (x ≡ at) → (x < node + length part / 2) × (x < getD {A = ℕ} (set (c .nexts) at first) x 0) × (getD {A = ℕ} (set (c .nexts) at first) x 0 ≤ b)
+          go (yes e) = rw (e, nexts-here) (omega (arith, two, s .inside), type-inside .2, s .high)
+          go (no d) =
+              let same = getD-set-other (c .nexts) at x first 0 d in
+              rw same (s .up x (rw same at p))
+
+      boundary : Boundary (cellsGraph c′) b
+      boundary = no-edge (set (c .nexts) at first) (node + length part / 2) b up′ b (t .fits)
+
+      labelled : Labelled (cellsGraph c′) at (simpleAt part (i - 2)) first
+      labelled =
+          record {
+            simple = omega (arith, nexts-here, type-inside .2);
+            label =
+                ap₂ (λ (a : ℕ) (z : ℤ). a ⁽ z ⁾)
+                (sym (getD-set-same (c .bases) at base 0 (omega (arith, type-inside .1, s .bases-length, t .bases-room))))
+                (sym right ∙ ap (λ (m : ℕ). pos m -ℤ pos bias) (sym (getD-set-same (c .exponents) at raised 0 (omega (arith, type-inside .1, s .exponents-length, t .exponents-room)))));
+            next = sym nexts-here;
+          }
+
+      step : simplesOf (drop (i - 2) part) ≡ simpleAt part (i - 2) ∷ simplesOf (drop i part)
+      step =
+          let e : i - 2 + 2 ≡ i = omega (arith, two) in
+          simples-step part (i - 2) (type-inside .0) ∙ ap (λ (k : ℕ). simpleAt part (i - 2) ∷ simplesOf (drop k part)) e
+
+      pub typing-next : Typing part node b c₀ c′ at (i - 2)
+      typing-next =
+          record {
+            even = omega (arith, two, s .even);
+            inside = omega (arith, s .inside);
+            kept = record {
+              bases = same-set at (c₀ .bases) (c .bases) at base (omega arith) (λ x h. s .kept .bases x (omega (arith, two)));
+              exponents = same-set at (c₀ .exponents) (c .exponents) at raised (omega arith) (λ x h. s .kept .exponents x (omega (arith, two)));
+              nexts = same-set at (c₀ .nexts) (c .nexts) at first (omega arith) (λ x h. s .kept .nexts x (omega (arith, two)));
+              enters = s .kept .enters;
+              numbers = s .kept .numbers;
+            };
+            up = up′;
+            spelt = rw step (more labelled (entry-later (s .spelt) others boundary));
+            low = omega arith;
+            high = omega (arith, type-inside .2, s .high);
+            bases-length = length-set (c .bases) at base ∙ s .bases-length;
+            exponents-length = length-set (c .exponents) at raised ∙ s .exponents-length;
+            nexts-length = length-set (c .nexts) at first ∙ s .nexts-length;
+          }

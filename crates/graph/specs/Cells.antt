@@ -1,0 +1,128 @@
+-- What the code writes while it lays out the entries of one word, from left to right: simple types on nodes, and entries in slots. All that
+-- is laid is said of every graph that agrees with the lists as far as they are filled, so later stores cannot disturb it.
+use Prim.Native.Nat.{ℕ, _+_, _/_, _%_, _≤_, _<_}
+use mathlib.Core.Path.{_≡_}
+use mathlib.Core.Bool.{true, false}
+use mathlib.Core.List.{List, []}
+use lib.ListN.{length, getD}
+use Rattle.linking.specs.Reading.{NumberedEntry}
+use Rattle.book.specs.Format.{Bytes, bodyAt, typePart, simplesOf, every, exponents, exponentListed}
+use Rattle.line.specs.LineFaults.{entriesFrom, simplesIn}
+use Rattle.line.specs.LookUp.{entriesKept, Entries, entriesAt, Numbers}
+use Rattle.graph.specs.Graph.{Graph, graph, Boundary, Spells}
+use Rattle.graph.specs.Layout.{Slots, slotted}
+use Rattle.graph.specs.declared.Place.{Place}
+
+-- Room in each list: 24 boundaries and 512 simple types, then the last boundary, the target and the end make 539 nodes.
+abbrev pub maxNodes : ℕ
+maxNodes = 540
+
+-- The lists of nodes and slots.
+pub record Cells : Type 0 where
+  pub bases : List ℕ
+  pub exponents : List ℕ
+  pub nexts : List ℕ
+  pub enters : List ℕ
+  pub numbers : List ℕ
+
+abbrev pub cells : List ℕ → List ℕ → List ℕ → List ℕ → List ℕ → Cells
+cells b e x i n = record { bases = b; exponents = e; nexts = x; enters = i; numbers = n }
+
+-- The nodes alone, for what has nothing to do with slots.
+abbrev pub nodes : List ℕ → List ℕ → List ℕ → Cells
+nodes b e x = cells b e x [] []
+
+abbrev pub cellsGraph : Cells → Graph
+cellsGraph c = graph 0 (c .bases) (c .exponents) (c .nexts) [] [] (c .enters)
+
+-- The same below n.
+abbrev pub Same : ℕ → List ℕ → List ℕ → Type 0
+Same n l l′ = (x : ℕ) → x < n → getD {A = ℕ} l′ x 0 ≡ getD {A = ℕ} l x 0
+
+-- A graph and its entry numbers are as the cells say, on the nodes below n and the slots below s.
+pub record Continues (n s : ℕ) (c : Cells) (g : Graph) (ns : List ℕ) : Type 0 where
+  pub bases : Same n (c .bases) (g .bases)
+  pub exponents : Same n (c .exponents) (g .exponents)
+  pub nexts : Same n (c .nexts) (g .nexts)
+  pub enters : Same s (c .enters) (g .enters)
+  pub numbers : Same s (c .numbers) ns
+
+abbrev pub Kept : ℕ → ℕ → Cells → Cells → Type 0
+Kept n s c c′ = Continues n s c (cellsGraph c′) (c′ .numbers)
+
+-- Simple types stand below n alone, and each leads up, to b at most.
+abbrev pub Edges : List ℕ → ℕ → ℕ → Type 0
+Edges nexts n b =
+    (x : ℕ) → 0 < getD {A = ℕ} nexts x 0 → (x < n) × (x < getD {A = ℕ} nexts x 0) × (getD {A = ℕ} nexts x 0 ≤ b)
+
+-- All exponents of a type are from −8 to 8.
+abbrev pub Listed : Bytes → Type 0
+Listed part = every exponentListed (exponents (simplesOf part)) ≡ true
+
+-- A type can be laid from a node on, before the boundary b.
+pub record TypeFits (part : Bytes) (node b : ℕ) (c : Cells) : Type 0 where
+  pub pairs : length part % 2 ≡ 0
+  pub listed : Listed part
+  pub fits : node + length part / 2 ≤ b
+  pub small : b < maxNodes
+  pub bases-room : maxNodes ≤ length (c .bases)
+  pub exponents-room : maxNodes ≤ length (c .exponents)
+  pub nexts-room : maxNodes ≤ length (c .nexts)
+  pub up : Edges (c .nexts) node b
+
+-- It is laid: from `first` on it is spelt up to b.
+pub record Typed (part : Bytes) (node b : ℕ) (c c′ : Cells) (first : ℕ) : Type 0 where
+  pub kept : Kept node 0 c c′
+  pub up : Edges (c′ .nexts) (node + length part / 2) b
+  pub spelt : Spells (cellsGraph c′) first (simplesOf part) b
+  pub low : node ≤ first
+  pub high : first ≤ b
+
+-- A place within a word before the boundary b. Each slot but that of an empty type has a node of its own, so slots are no more than nodes.
+pub record Placed (b : ℕ) (p : Place) (c : Cells) : Type 0 where
+  pub few : p .slot ≤ p .node
+  pub spare : p .seen ≡ false → p .slot < p .node
+  pub inside : p .node ≤ b
+  pub small : b < maxNodes
+  pub bases-room : maxNodes ≤ length (c .bases)
+  pub exponents-room : maxNodes ≤ length (c .exponents)
+  pub nexts-room : maxNodes ≤ length (c .nexts)
+  pub enters-room : maxNodes ≤ length (c .enters)
+  pub numbers-room : maxNodes ≤ length (c .numbers)
+  pub up : Edges (c .nexts) (p .node) b
+
+-- Entries are laid from one place to the next: es were to come at p, and es′ are at p′.
+pub record Lays (b : ℕ) (p : Place) (c : Cells) (p′ : Place) (c′ : Cells) (es es′ : List NumberedEntry) : Type 0 where
+  pub slots : (g : Graph) (numbers : List ℕ) → Continues (p′ .node) (p′ .slot) c′ g numbers → Boundary g b → (to : ℕ)
+      → Slots g numbers b (p′ .slot) to (slotted (p′ .seen) es′) → Slots g numbers b (p .slot) to (slotted (p .seen) es)
+  pub kept : Kept (p .node) (p .slot) c c′
+  pub placed : Placed b p′ c′
+  pub count : p′ .node + simplesIn es′ ≡ p .node + simplesIn es
+  pub node-on : p .node ≤ p′ .node
+  pub slot-on : p .slot ≤ p′ .slot
+  pub entered : (y : ℕ) → p .slot ≤ y → y < p′ .slot → (p .node ≤ getD {A = ℕ} (c′ .enters) y 0) × (getD {A = ℕ} (c′ .enters) y 0 ≤ b)
+
+-- An entry's type can be laid from the place p on.
+pub record SlotFits (part : Bytes) (number b : ℕ) (p : Place) (c : Cells) : Type 0 where
+  pub pairs : length part % 2 ≡ 0
+  pub listed : Listed part
+  pub fits : p .node + length part / 2 ≤ b
+  pub low : number ≤ 1024
+  pub placed : Placed b p c
+
+-- The entries that are kept of a book, with exponents from −8 to 8.
+pub record Lexicon (bytes : Bytes) (offsets : List ℕ) (count : ℕ) : Type 0 where
+  pub entries : Entries bytes offsets count
+  pub listed : (i : ℕ) → i < count → Listed (typePart (bodyAt bytes (getD {A = ℕ} offsets i 0)))
+
+-- The entries of a word.
+abbrev pub entriesOfWord : Bytes → List ℕ → ℕ → Bytes → List NumberedEntry
+entriesOfWord bytes offsets count word = entriesFrom 0 (entriesKept bytes offsets count) word
+
+-- The first n entries found can be laid from the place p on, before the boundary b.
+pub record EntriesFit (bytes : Bytes) (offsets found : List ℕ) (n b : ℕ) (p : Place) (c : Cells) : Type 0 where
+  pub count : ℕ
+  pub lexicon : Lexicon bytes offsets count
+  pub named : Numbers count found n
+  pub placed : Placed b p c
+  pub fits : p .node + simplesIn (entriesAt bytes offsets found n) ≤ b

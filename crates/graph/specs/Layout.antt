@@ -1,0 +1,39 @@
+-- A line's words laid out as a graph: each word's entries as the slots of a boundary, in the book's order, and the target's right adjoint as a
+-- last word of one entry. A second empty entry of a word fares as the first did, so only the first one has a slot.
+use Prim.Native.Nat.{ℕ, _+_}
+use mathlib.Core.Path.{_≡_}
+use mathlib.Core.Bool.{Bool, true, false}
+use mathlib.Core.List.{List, [], _∷_}
+use lib.IntN.{pos}
+use lib.ListN.{getD}
+use Rattle.pregroup.specs.Types.{Basic, PregroupType, _⁽_⁾}
+use Rattle.linking.specs.Reading.{NumberedEntry, Words}
+use Rattle.graph.specs.Graph.{Graph, Boundary, Spells}
+
+abbrev pub hasNone : PregroupType → Bool
+hasNone [] = true
+hasNone (x ∷ X) = false
+
+-- The entries that get a slot: all but those with the empty type behind the first such one. The Bool says whether there was one before.
+unfoldable pub slotted : Bool → List NumberedEntry → List NumberedEntry
+slotted seen [] = []
+slotted seen (e ∷ entries) = elim (hasNone (e .type)) [
+  | true ↦ elim seen [ true ↦ slotted true entries | false ↦ e ∷ slotted true entries ]
+  | false ↦ e ∷ slotted seen entries
+]
+
+-- The slots from s up to `to` are those of the entries, in their order: each leads to a node from which the entry's type is spelt, up to the
+-- boundary b, and `numbers` has the entry's number.
+pub data Slots (g : Graph) (numbers : List ℕ) (b : ℕ) : ℕ → ℕ → List NumberedEntry → Type 0 where
+  none : {s to : ℕ} → s ≡ to → Slots g numbers b s to []
+  slot : {s to : ℕ} {e : NumberedEntry} {es : List NumberedEntry}
+      → getD (numbers) s 0 ≡ e .number → Spells g (getD (g .enters) s 0) (e .type) b → Slots g numbers b (s + 1) to es
+      → Slots g numbers b s to (e ∷ es)
+
+-- From the boundary u on the graph is that of these words, and then of the target t, up to `end`.
+pub data Laid (g : Graph) (numbers : List ℕ) (t : Basic) : ℕ → Words → ℕ → Type 0 where
+  goal : {u end : ℕ} → Boundary g u → getD (g .froms) u 0 + 1 ≡ getD (g .tos) u 0
+      → Spells g (getD (g .enters) (getD (g .froms) u 0) 0) (t ⁽ pos 1 ⁾ ∷ []) end → Laid g numbers t u [] end
+  word : {u b end : ℕ} {es : List NumberedEntry} {words : Words}
+      → Boundary g u → Slots g numbers b (getD (g .froms) u 0) (getD (g .tos) u 0) (slotted false es) → Laid g numbers t b words end
+      → Laid g numbers t u (es ∷ words) end
