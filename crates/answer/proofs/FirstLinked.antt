@@ -14,7 +14,8 @@ use Rattle.pregroup.specs.Tests.{Test, Decides}
 use Rattle.linking.specs.Linking.{partner, firstLinking}
 use Rattle.linking.proofs.Positions.{linking-iff-parted}
 use Rattle.linking.proofs.Reduction.{linking-iff-reduces}
-use Rattle.linking.proofs.Greedy.{ReducesFrom, GreedyFrom, stays, links, greedy-agree, parted-of-greedy, reduces-of-parted}
+use Rattle.linking.specs.Greedy.{ReducesFrom, GreedyFrom, stays, links}
+use Rattle.linking.proofs.Greedy.{greedy-agree, parted-of-greedy, reduces-of-parted}
 use Rattle.linking.proofs.FirstLinking.{first-linking-greedy}
 use Rattle.bits.specs.Rows.{HasRow, RowSays}
 use Rattle.bits.specs.Gathered.{Gathered}

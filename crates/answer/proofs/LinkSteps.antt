@@ -7,7 +7,7 @@ use mathlib.Core.List.{List}
 use lib.ListN.{length}
 use Rattle.pregroup.specs.Types.{Basic}
 use Rattle.pregroup.specs.Order.{Relation}
-use Rattle.linking.proofs.Greedy.{Stay, VanishBehind, ReducesFrom}
+use Rattle.linking.specs.Greedy.{Stay, VanishBehind, ReducesFrom}
 use Rattle.bits.specs.Rows.{InRow}
 use Rattle.table.specs.Table.{maxString, stringOf, StringThere}
 use Rattle.answer.specs.Links.{Stays, NearestLink, EndsThere, LinkingThere, ReducingThere}

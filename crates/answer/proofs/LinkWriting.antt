@@ -10,8 +10,9 @@ use Rattle.pregroup.specs.Types.{Basic, PregroupType}
 use Rattle.pregroup.specs.Order.{Relation}
 use Rattle.pregroup.specs.Vanish.{Contracts}
 use Rattle.linking.specs.Linking.{simpleAt, partner}
-use Rattle.linking.proofs.Linked.{Link}
-use Rattle.linking.proofs.Greedy.{Stay, VanishBehind, ReducesFrom, Greedy, done, nearest, GreedyFrom, stays, links, greedy-agree}
+use Rattle.linking.specs.Greedy.{Link}
+use Rattle.linking.specs.Greedy.{Stay, VanishBehind, ReducesFrom, Greedy, done, nearest, GreedyFrom, stays, links}
+use Rattle.linking.proofs.Greedy.{greedy-agree}
 use Rattle.table.specs.Table.{stringOf}
 use Rattle.answer.specs.Links.{withLink, Kept, LinkedWithin, LinkedFrom}
 use Rattle.table.proofs.Stretches.{length-string}

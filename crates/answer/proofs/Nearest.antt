@@ -11,7 +11,8 @@ use Rattle.pregroup.specs.Order.{Relation}
 use Rattle.pregroup.specs.Vanish.{Vanish}
 use Rattle.linking.specs.Linking.{simpleAt, stretch}
 use Rattle.linking.proofs.Linked.{Linked, nothing, linked, linked-stretch}
-use Rattle.linking.proofs.Greedy.{Candidate, Stay, VanishBehind, ReducesFrom, Nearest, candidate-of-link}
+use Rattle.linking.specs.Greedy.{Candidate, Stay, VanishBehind, ReducesFrom, Nearest}
+use Rattle.linking.proofs.Greedy.{candidate-of-link}
 use Rattle.figures.specs.Limits.{rowBits}
 use Rattle.bits.specs.Rows.{InRow}
 use Rattle.table.specs.Table.{heldAt, stringOf, ContractsAt, Right}

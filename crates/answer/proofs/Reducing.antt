@@ -11,7 +11,7 @@ use Rattle.pregroup.specs.Order.{Relation}
 use Rattle.pregroup.specs.Vanish.{Vanish, empty}
 use Rattle.linking.specs.Linking.{simpleAt, stretch}
 use Rattle.linking.proofs.Stretches.{stretch-empty}
-use Rattle.linking.proofs.Greedy.{Stay, ReducesFrom}
+use Rattle.linking.specs.Greedy.{Stay, ReducesFrom}
 use Rattle.bits.specs.Rows.{InRow, RowSays}
 use Rattle.bits.specs.Gathered.{Gathered, itself, within}
 use Rattle.table.specs.Table.{stringOf, Right, MemberPart}

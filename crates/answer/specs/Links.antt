@@ -8,7 +8,7 @@ use lib.IntN.{pos}
 use lib.ListN.{getD, length, take, drop, set}
 use Rattle.pregroup.specs.Types.{Basic, PregroupType}
 use Rattle.pregroup.specs.Order.{Relation}
-use Rattle.linking.proofs.Greedy.{Greedy, GreedyFrom, ReducesFrom}
+use Rattle.linking.specs.Greedy.{Greedy, GreedyFrom, ReducesFrom}
 use Rattle.figures.specs.Limits.{rowBits}
 use Rattle.bits.specs.Rows.{InRow, HasRow, RowSays}
 use Rattle.table.specs.Table.{heldAt, stringOf, ContractsAt, StringThere, Right}

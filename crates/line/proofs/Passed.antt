@@ -14,6 +14,7 @@ use Rattle.pregroup.specs.Types.{PregroupType}
 use Rattle.linking.specs.Reading.{NumberedEntry, Words, Choice, take, empty as empty-choice, Ascending, empty, more, AllAscending}
 use Rattle.book.specs.Format.{Bytes, Book, Entry, maxSimples as maxType}
 use Rattle.book.proofs.Accepted.{AllShort}
+use Rattle.line.specs.Passing.{AllKnown, no-word, known, Brief, AllBrief, no-words, brief}
 use Rattle.line.specs.LineWords.{Word, wordsOf}
 use Rattle.line.specs.LineFaults.{maxSimples, sameWord, entriesFrom, entriesOf, entriesOfLine, byteFault, wordFault, entryFault, isEmpty, simplesOfWords, LineCheck, passed, stopped, orElse, lineCheck}
 
@@ -51,11 +52,6 @@ entries-ascend n (e ∷ entries) word = go (sameWord (e .word) word) (entries-as
 words-ascend : (B : Book) (words : List Word) → AllAscending (map (entriesOf B) words)
 words-ascend B [] = empty
 words-ascend B (w ∷ words) = more (entries-ascend 0 (B .entries) (w .bytes)) (words-ascend B words)
-
--- Every word has an entry.
-pub data AllKnown : Words → Type 0 where
-  no-word : AllKnown []
-  known : {e : NumberedEntry} {es : List NumberedEntry} {words : Words} → AllKnown words → AllKnown ((e ∷ es) ∷ words)
 
 words-known : (B : Book) (words : List Word) → entryFault B words ≡ none → AllKnown (map (entriesOf B) words)
 unfolding entryFault
@@ -98,15 +94,6 @@ line-passing B line words h =
       ascending = subst AllAscending (sym (fits .1)) (words-ascend B (wordsOf line));
       few = subst (λ (w : Words). simplesOfWords w ≤ maxSimples) (sym (fits .1)) (ltb-false _ _ (fits .0));
     }
-
--- No entry of a word has more than 12 simple types ..
-abbrev pub Brief : List NumberedEntry → Type 0
-Brief es = (f : NumberedEntry) → List·Memᴰ f es → length (f .type) ≤ maxType
-
--- .. and none of any word of a line.
-pub data AllBrief : Words → Type 0 where
-  no-words : AllBrief []
-  brief : {es : List NumberedEntry} {words : Words} → Brief es → AllBrief words → AllBrief (es ∷ words)
 
 brief-cons : (e : NumberedEntry) (es : List NumberedEntry) → length (e .type) ≤ maxType → Brief es → Brief (e ∷ es)
 brief-cons e es h k f m = ⊎-elim (λ q. let same = ap (λ (x : NumberedEntry). length (x .type)) q in omega arith) (λ l. k f l) (List·Memᴰ·cases-cons m)

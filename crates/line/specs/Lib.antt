@@ -3,3 +3,4 @@ pub mod LineWords
 pub mod LineFaults
 pub mod Split
 pub mod LookUp
+pub mod Passing

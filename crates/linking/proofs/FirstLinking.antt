@@ -24,7 +24,8 @@ use Rattle.linking.proofs.Linked.{Linked, nothing, linked, vanish-of-li
 use Rattle.linking.proofs.Positions.{linking-iff-parted}
 use Rattle.linking.proofs.Numbers.{Search, hit, miss, search-right, found-iff}
 use Rattle.linking.proofs.Comparison.{at-most-both}
-use Rattle.linking.proofs.Greedy.{Candidate, Stay, VanishBehind, ReducesFrom, Nearest, Greedy, done, nearest, GreedyFrom, stays, links, candidate-of-link, reduces-of-parted, linking-of-greedy, greedy-at-most}
+use Rattle.linking.specs.Greedy.{Candidate, Stay, VanishBehind, ReducesFrom, Nearest, Greedy, done, nearest, GreedyFrom, stays, links}
+use Rattle.linking.proofs.Greedy.{candidate-of-link, reduces-of-parted, linking-of-greedy, greedy-at-most}
 
 and-iff₃ : (a b c : Bool) → (a && b && c ≡ true) ↔ ((a ≡ true) × (b ≡ true) × (c ≡ true))
 and-iff₃ a b c =

@@ -11,48 +11,11 @@ use Rattle.pregroup.specs.Types.{Basic, PregroupType}
 use Rattle.pregroup.specs.Order.{Relation}
 use Rattle.pregroup.specs.Vanish.{Contracts, Vanish}
 use Rattle.linking.specs.Linking.{simpleAt, partner, stretch, IsLinking, AtMost}
-use Rattle.linking.proofs.Linked.{Link, Linked, nothing, linked, Parted, vanish-of-linked}
+use Rattle.linking.specs.Greedy.{Candidate, Stay, VanishBehind, ReducesFrom, Nearest, Greedy, done, nearest, GreedyFrom, stays, links, Link}
+use Rattle.linking.proofs.Linked.{Linked, nothing, linked, Parted, vanish-of-linked}
 use Rattle.linking.proofs.Numbers.{Placed, under, same, over, placed}
 use Rattle.linking.proofs.Positions.{linking-iff-parted}
 use Rattle.linking.proofs.Comparison.{Compared, compared-append, compared-one, compared-less, compared-link, compared-none, at-most-of-compared}
-
--- Position i could be linked to k, if the rest may be left so.
-pub record Candidate (Le : Relation) (X : PregroupType) (i k : ℕ) (Rest : Type 0) : Type 0 where
-  pub contract : Contracts Le (simpleAt X i) (simpleAt X k)
-  pub between : Vanish Le (stretch X (suc i) k)
-  pub rest : Rest
-
--- Position u could be the unlinked one of the string from i on.
-pub record Stay (Le : Relation) (s : Basic) (X : PregroupType) (i u : ℕ) : Type 0 where
-  pub fits : u ≤ length X
-  pub is-plain : simpleAt X u .exponent ≡ pos 0
-  pub below : Le (simpleAt X u .base) s
-  pub before : Vanish Le (stretch X i u)
-  pub behind : Vanish Le (stretch X (suc u) (suc (length X)))
-
--- What stands behind k, up to j, vanishes.
-abbrev pub VanishBehind : Relation → PregroupType → ℕ → ℕ → Type 0
-VanishBehind Le X j k = Vanish Le (stretch X (suc k) j)
-
--- The string from i on reduces to the target.
-abbrev pub ReducesFrom : Relation → Basic → PregroupType → ℕ → Type 0
-ReducesFrom Le s X i = (u : ℕ) × (i ≤ u) × Stay Le s X i u
-
--- No position between i and k is a candidate for a link of i.
-abbrev pub Nearest : Relation → PregroupType → (ℕ → Type 0) → ℕ → ℕ → Type 0
-Nearest Le X Rest i k = (m : ℕ) → i < m → m < k → Candidate Le X i m (Rest m) → ⊥
-
--- As `Linked`, with the nearest candidate at each link.
-pub data Greedy (Le : Relation) (X : PregroupType) (P : List ℕ) : ℕ → ℕ → Type 0 where
-  done : {i j : ℕ} → i ≡ j → Greedy Le X P i j
-  nearest : {i j : ℕ} (k : ℕ) → Link Le X P i k → k < j → Nearest Le X (VanishBehind Le X j) i k
-      → Greedy Le X P (suc i) k → Greedy Le X P (suc k) j → Greedy Le X P i j
-
--- As `Parted`, where each position stays unlinked if it can, and else has the nearest candidate.
-pub data GreedyFrom (Le : Relation) (s : Basic) (X : PregroupType) (P : List ℕ) : ℕ → Type 0 where
-  stays : {i : ℕ} → partner P i ≡ i → Stay Le s X i i → Greedy Le X P (suc i) (suc (length X)) → GreedyFrom Le s X P i
-  links : {i : ℕ} (k : ℕ) → Link Le X P i k → (Stay Le s X i i → ⊥) → Nearest Le X (λ m. ReducesFrom Le s X (suc m)) i k
-      → Greedy Le X P (suc i) k → GreedyFrom Le s X P (suc k) → GreedyFrom Le s X P i
 
 module _ {Le : Relation} {X : PregroupType} {P : List ℕ} where
   pub linked-of-greedy : {i j : ℕ} → Greedy Le X P i j → Linked Le X P i j

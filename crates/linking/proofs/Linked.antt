@@ -10,14 +10,8 @@ use Rattle.pregroup.specs.Types.{Basic, PregroupType, plain}
 use Rattle.pregroup.specs.Order.{Relation}
 use Rattle.pregroup.specs.Vanish.{Contracts, Vanish, empty, link}
 use Rattle.linking.specs.Linking.{simpleAt, partner, stretch}
+use Rattle.linking.specs.Greedy.{Link}
 use Rattle.linking.proofs.Stretches.{stretch-empty, stretch-cons, stretch-append, length-stretch, Reads, reads-head, reads-tail, reads-front, reads-back, reads-behind, reads-stretch}
-
--- Positions i and k are the ends of a link.
-pub record Link (Le : Relation) (X : PregroupType) (P : List ℕ) (i k : ℕ) : Type 0 where
-  pub ahead : i < k
-  pub forth : partner P i ≡ k
-  pub back : partner P k ≡ i
-  pub contract : Contracts Le (simpleAt X i) (simpleAt X k)
 
 -- The stretch is empty, or its first position is linked to some k, and the stretches between them and behind k are linked.
 pub data Linked (Le : Relation) (X : PregroupType) (P : List ℕ) : ℕ → ℕ → Type 0 where

@@ -12,7 +12,8 @@ use Rattle.pregroup.specs.Order.{Relation}
 use Rattle.pregroup.specs.Vanish.{Contracts}
 use Rattle.linking.specs.Linking.{Position, simpleAt, partner, IsLinking}
 use Rattle.linking.proofs.Numbers.{Placed, under, same, over, placed}
-use Rattle.linking.proofs.Linked.{Link, Linked, nothing, linked, Parted}
+use Rattle.linking.specs.Greedy.{Link}
+use Rattle.linking.proofs.Linked.{Linked, nothing, linked, Parted}
 
 -- What holds at a position m of a linked stretch: its partner is another one of the stretch, with m as its partner; the two could contract;
 -- and everything between them is linked inside.

@@ -1,3 +1,4 @@
--- Linkings of a type, and the readings of a line.
+-- Linkings of a type, the greedy one among them, and the readings of a line.
 pub mod Linking
+pub mod Greedy
 pub mod Reading

@@ -16,7 +16,7 @@ use Rattle.pregroup.specs.Tests.{Test, Decides}
 use Rattle.pregroup.proofs.Switching.{reduces-iff-vanish}
 use Rattle.linking.specs.Linking.{firstLinking}
 use Rattle.linking.specs.Reading.{Words, firstReading}
-use Rattle.line.proofs.Passed.{AllKnown}
+use Rattle.line.specs.Passing.{AllKnown}
 use Rattle.graph.specs.Graph.{Graph, labelOf, EntersBy, VanishTo, along, Boundary}
 use Rattle.choice.specs.Completion.{Finishes, finishes, Completes, completes}
 use Rattle.choice.specs.Grown.{chosen}

@@ -19,7 +19,7 @@ use Rattle.linking.specs.Linking.{firstLinking}
 use Rattle.linking.specs.Reading.{NumberedEntry, Words, Answer, firstEntry, firstBehind}
 use Rattle.linking.proofs.Reduction.{linking-iff-reduces}
 use Rattle.linking.proofs.FirstLinking.{first-linking-none}
-use Rattle.line.proofs.Passed.{AllKnown, known}
+use Rattle.line.specs.Passing.{AllKnown, known}
 use Rattle.graph.specs.Graph.{Graph, EntersBy, by, here, take as take-node, enter, Boundary, Spells}
 use Rattle.choice.specs.Completion.{Finishes, finishes, SlotChoice, done, choose, Completes, completes, Scanned, ends, takes}
 use Rattle.choice.proofs.Completion.{finishes-iff-behind}

@@ -11,10 +11,10 @@ use Rattle.pregroup.specs.Held.{InRows}
 use Rattle.order.specs.Closed.{below}
 use Rattle.book.specs.Format.{Bytes, Book, accepted, parse}
 use Rattle.linking.specs.Reading.{Words, AllAscending, firstReading}
-use Rattle.linking.proofs.Greedy.{GreedyFrom}
+use Rattle.linking.specs.Greedy.{GreedyFrom}
 use Rattle.line.specs.LookUp.{entriesKept}
 use Rattle.line.specs.LineFaults.{maxWords}
-use Rattle.line.proofs.Passed.{AllKnown, AllBrief}
+use Rattle.line.specs.Passing.{AllKnown, AllBrief}
 use Rattle.bits.specs.Rows.{HasRow}
 use Rattle.graph.specs.Graph.{Graph, Upward, VanishTo}
 use Rattle.chart.specs.Chart.{FilledFrom}
