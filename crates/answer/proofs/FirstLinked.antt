@@ -20,7 +20,7 @@ use Rattle.linking.proofs.FirstLinking.{first-linking-greedy}
 use Rattle.bits.specs.Rows.{HasRow, RowSays}
 use Rattle.bits.specs.Gathered.{Gathered}
 use Rattle.table.specs.Table.{stringOf, Right, MemberPart}
-use Rattle.answer.specs.Links.{Remains, Kept, LinkedFrom, ReducingThere, FirstLinked}
+use Rattle.answer.specs.Links.{RemainsAt, Kept, LinkedFrom, ReducingThere, FirstLinked}
 use Rattle.table.proofs.Stretches.{length-string}
 use Rattle.answer.proofs.Reducing.{reducing-says}
 
@@ -30,11 +30,11 @@ reduces-from-start r = let t = linking-iff-reduces .0 r in reduces-of-parted (li
 
 -- The row that the code gathers is what the linking asks.
 pub reducing-there :
-    {Le : Relation} {s : Basic} {bases exponents rows : List ℕ} {m : ℕ} (words : List ℕ) → HasRow words 0 → Right Le (stringOf bases exponents m) rows m
-    → Reduces Le s (stringOf bases exponents m) → RowSays words 0 (Gathered (λ u. ⊥) (MemberPart (Remains Le s bases exponents) rows m))
-    → ReducingThere Le s (stringOf bases exponents m) words 0
-reducing-there {bases = bases} {exponents} {rows} {m} words room right reduces says =
-    let reducing = reducing-says bases exponents rows m right words says in
+    {Le : Relation} {s : Basic} {table : List ℕ} {m : ℕ} (string words : List ℕ) → HasRow words 0 → Right Le (stringOf string m) table m
+    → Reduces Le s (stringOf string m) → RowSays words 0 (Gathered (λ u. ⊥) (MemberPart (RemainsAt Le s string) table m))
+    → ReducingThere Le s (stringOf string m) words 0
+reducing-there {table = table} {m} string words room right reduces says =
+    let reducing = reducing-says string table m right words says in
     record { room = room; says = reducing; here = reducing 0 .1 (reduces-from-start reduces) }
 
 -- What P holds outside the string does not matter.
@@ -76,12 +76,12 @@ kept-parts before after at m size space kept =
     ∙ ap (λ (l : List ℕ). take m (drop at after) ++ l) (drop-drop m at after ∙ kept-back before after at m size kept))
 
 pub first-linked :
-    {Le : Relation} {s : Basic} (bases exponents before after : List ℕ) (at m : ℕ) → length after ≡ length before → at + m ≤ length before
-    → LinkedFrom Le s bases exponents before after at m 0 → FirstLinked Le s (stringOf bases exponents m) before after at
-first-linked {Le} {s} bases exponents before after at m size space linked =
-    let X = stringOf bases exponents m in
+    {Le : Relation} {s : Basic} (string before after : List ℕ) (at m : ℕ) → length after ≡ length before → at + m ≤ length before
+    → LinkedFrom Le s string before after at m 0 → FirstLinked Le s (stringOf string m) before after at
+first-linked {Le} {s} string before after at m size space linked =
+    let X = stringOf string m in
     let P = take m (drop at after) in
-    let whole : length X ≡ m = length-string bases exponents m in
+    let whole : length X ≡ m = length-string string m in
     let from : at + 0 ≡ at = omega arith in
     let kept : Kept before after at (at + m) = rw from at (linked .kept) in
     record {

@@ -1,4 +1,4 @@
--- The laws of what is written into an answer: its first values, and then the links, from the search for the nearest to the first linking.
+-- The laws of what is written into an answer: its first values, then the links, from the search for the nearest to the first linking, and the whole.
 pub mod ValueLaws
 pub mod LinkSearch
 pub mod Nearest
@@ -6,3 +6,4 @@ pub mod Reducing
 pub mod LinkSteps
 pub mod LinkWriting
 pub mod FirstLinked
+pub mod WrittenLaws

@@ -31,7 +31,7 @@ partners-same A B at i j same p h g =
     rw e (partner-at A at (p - 1) ∙ same (p - 1) (omega arith) (omega arith) ∙ sym (partner-at B at (p - 1)))
 
 -- Nothing is written in an empty stretch.
-pub linked-none : {Le : Relation} {bases exponents : List ℕ} (A : List ℕ) (at i j : ℕ) → i ≡ j → LinkedWithin Le bases exponents A A at i j
+pub linked-none : {Le : Relation} {string : List ℕ} (A : List ℕ) (at i j : ℕ) → i ≡ j → LinkedWithin Le string A A at i j
 linked-none A at i j e = record { kept = λ p h. refl; greedy = λ n h. done (ap suc e) }
 
 -- The ends of a link are written, then what stands between them, then what stands behind.
@@ -64,15 +64,15 @@ module _ (before between after : List ℕ) (at i j k : ℕ) (ahead : i < k) (ins
       let e : i + 1 ≡ suc i = omega arith in
       greedy-agree (rw e at g) (partners-same between after at (suc i) k (λ q h l. sym (second (at + q) (inl (omega arith)))))
 
-module _ {Le : Relation} {bases exponents written between after : List ℕ} {at j k : ℕ} (before : List ℕ) (i : ℕ)
+module _ {Le : Relation} {string written between after : List ℕ} {at j k : ℕ} (before : List ℕ) (i : ℕ)
     (space : at + j ≤ length before) (link : written ≡ withLink before at i k)
-    (inner : LinkedWithin Le bases exponents written between at (i + 1) k) where
+    (inner : LinkedWithin Le string written between at (i + 1) k) where
   -- Within a stretch that vanishes.
   pub linked-within :
-      ((n : ℕ) → j ≤ n → Chosen Le (stringOf bases exponents n) (VanishBehind Le (stringOf bases exponents n) (suc j)) j i k)
-      → LinkedWithin Le bases exponents between after at (k + 1) j → LinkedWithin Le bases exponents before after at i j
+      ((n : ℕ) → j ≤ n → Chosen Le (stringOf string n) (VanishBehind Le (stringOf string n) (suc j)) j i k)
+      → LinkedWithin Le string between after at (k + 1) j → LinkedWithin Le string before after at i j
   linked-within choice second =
-      let first : LinkedWithin Le bases exponents (withLink before at i k) between at (i + 1) k = rw link at inner in
+      let first : LinkedWithin Le string (withLink before at i k) between at (i + 1) k = rw link at inner in
       let here = choice j (omega arith) in
       let ahead = here .ahead in
       let inside = here .inside in
@@ -80,7 +80,7 @@ module _ {Le : Relation} {bases exponents written between after : List ℕ} {at 
         kept = link-kept before between after at i j k ahead inside space (first .kept) (second .kept);
         greedy = λ n h.
             let one : k + 1 ≡ suc k = omega arith in
-            let X = stringOf bases exponents n in
+            let X = stringOf string n in
             let chosen = choice n h in
             let rest : Greedy Le X (drop at after) (suc (suc k)) (suc j) = rw one at (second .greedy n h) in
             nearest {j = suc j} (suc k)
@@ -91,15 +91,15 @@ module _ {Le : Relation} {bases exponents written between after : List ℕ} {at 
 
   -- In a string that reduces to the target.
   pub linked-from :
-      {s : Basic} → Chosen Le (stringOf bases exponents j) (λ p. ReducesFrom Le s (stringOf bases exponents j) (suc p)) j i k
-      → (Stay Le s (stringOf bases exponents j) (suc i) (suc i) → ⊥) → LinkedFrom Le s bases exponents between after at j (k + 1)
-      → LinkedFrom Le s bases exponents before after at j i
+      {s : Basic} → Chosen Le (stringOf string j) (λ p. ReducesFrom Le s (stringOf string j) (suc p)) j i k
+      → (Stay Le s (stringOf string j) (suc i) (suc i) → ⊥) → LinkedFrom Le s string between after at j (k + 1)
+      → LinkedFrom Le s string before after at j i
   linked-from {s} chosen moves second =
-      let first : LinkedWithin Le bases exponents (withLink before at i k) between at (i + 1) k = rw link at inner in
+      let first : LinkedWithin Le string (withLink before at i k) between at (i + 1) k = rw link at inner in
       let ahead = chosen .ahead in
       let inside = chosen .inside in
       let one : k + 1 ≡ suc k = omega arith in
-      let X = stringOf bases exponents j in
+      let X = stringOf string j in
       let rest : GreedyFrom Le s X (drop at after) (suc (suc k)) = rw one at (second .greedy) in
       record {
         kept = link-kept before between after at i j k ahead inside space (first .kept) (second .kept);
@@ -112,14 +112,14 @@ module _ {Le : Relation} {bases exponents written between after : List ℕ} {at 
 
 -- The unlinked position is written, then what stands behind it.
 pub linked-stay :
-    {Le : Relation} {s : Basic} {bases exponents written after : List ℕ} {at m : ℕ} (before : List ℕ) (i : ℕ) → i < m → at + m ≤ length before
-    → Stay Le s (stringOf bases exponents m) (suc i) (suc i) → written ≡ set before (at + i) (i + 1)
-    → LinkedWithin Le bases exponents written after at (i + 1) m → LinkedFrom Le s bases exponents before after at m i
-linked-stay {Le} {s} {bases} {exponents} {written} {after} {at} {m} before i inside space stay own within =
-    let rest : LinkedWithin Le bases exponents (set before (at + i) (i + 1)) after at (i + 1) m = rw own at within in
+    {Le : Relation} {s : Basic} {string written after : List ℕ} {at m : ℕ} (before : List ℕ) (i : ℕ) → i < m → at + m ≤ length before
+    → Stay Le s (stringOf string m) (suc i) (suc i) → written ≡ set before (at + i) (i + 1)
+    → LinkedWithin Le string written after at (i + 1) m → LinkedFrom Le s string before after at m i
+linked-stay {Le} {s} {string} {written} {after} {at} {m} before i inside space stay own within =
+    let rest : LinkedWithin Le string (set before (at + i) (i + 1)) after at (i + 1) m = rw own at within in
     let one : i + 1 ≡ suc i = omega arith in
-    let X = stringOf bases exponents m in
-    let end : suc m ≡ suc (length X) = ap suc (sym (length-string bases exponents m)) in
+    let X = stringOf string m in
+    let end : suc m ≡ suc (length X) = ap suc (sym (length-string string m)) in
     let behind : Greedy Le X (drop at after) (suc (suc i)) (suc (length X)) = rw (one, end) at (rest .greedy m (omega arith)) in
     record {
       kept = λ p h.

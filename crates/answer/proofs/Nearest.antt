@@ -28,16 +28,16 @@ stretch-slice X i k =
     rw (a, b)
 
 -- The simple type at a position.
-pub simple-at-index : (bases exponents : List ℕ) (n i : ℕ) → i < n → simpleAt (stringOf bases exponents n) (suc i) ≡ heldAt bases exponents i
-simple-at-index bases exponents n i h =
+pub simple-at-index : (string : List ℕ) (n i : ℕ) → i < n → simpleAt (stringOf string n) (suc i) ≡ heldAt string i
+simple-at-index string n i h =
     let a : suc i - 1 ≡ i = omega arith in
-    rw a (string-at bases exponents i n (plain 0) h)
+    rw a (string-at string i n (plain 0) h)
 
 -- What row k says of the stretch up to k.
-pub span-iff :
-    {Le : Relation} (X : PregroupType) (rows : List ℕ) (b i k : ℕ) → Right Le X rows b → i ≤ k → k ≤ b
-    → InRow rows k i ↔ Vanish Le (stretch X (suc i) (suc k))
-span-iff X rows b i k right h g =
+pub stretch-iff :
+    {Le : Relation} (X : PregroupType) (table : List ℕ) (b i k : ℕ) → Right Le X table b → i ≤ k → k ≤ b
+    → InRow table k i ↔ Vanish Le (stretch X (suc i) (suc k))
+stretch-iff X table b i k right h g =
     rw (stretch-slice X i k) (λ m. right k g i .0 m .vanishes, λ v. right k g i .1 (record { ordered = h; vanishes = v }))
 
 -- The link that is chosen: the nearest candidate.
@@ -47,39 +47,39 @@ pub record Chosen (Le : Relation) (X : PregroupType) (Rest : ℕ → Type 0) (b 
   pub candidate : Candidate Le X (suc i) (suc r) (Rest (suc r))
   pub nearest : Nearest Le X Rest (suc i) (suc r)
 
-module _ {Le : Relation} (bases exponents rows ends : List ℕ) (e i b n : ℕ) (fits : b ≤ n)
-    (right : Right Le (stringOf bases exponents n) rows b) (Rest : ℕ → Type 0)
+module _ {Le : Relation} (string table ends : List ℕ) (e i b n : ℕ) (fits : b ≤ n)
+    (right : Right Le (stringOf string n) table b) (Rest : ℕ → Type 0)
     (rest-iff : (k : ℕ) → i < k → k < b → InRow ends e (k + 1) ↔ Rest (suc k)) where
-  candidate-of-may : (k : ℕ) → i < k → k < b → MayLink Le bases exponents rows ends e i k → Candidate Le (stringOf bases exponents n) (suc i) (suc k) (Rest (suc k))
+  candidate-of-may : (k : ℕ) → i < k → k < b → MayLink Le string table ends e i k → Candidate Le (stringOf string n) (suc i) (suc k) (Rest (suc k))
   candidate-of-may k h g m =
       let one : i + 1 ≡ suc i = omega arith in
       record {
-        contract = rw (simple-at-index bases exponents n i (omega arith), simple-at-index bases exponents n k (omega arith)) (m .closing .contract);
-        between = span-iff (stringOf bases exponents n) rows b (suc i) k right h (omega arith) .0 (rw one at (m .closing .between));
+        contract = rw (simple-at-index string n i (omega arith), simple-at-index string n k (omega arith)) (m .closing .contract);
+        between = stretch-iff (stringOf string n) table b (suc i) k right h (omega arith) .0 (rw one at (m .closing .between));
         rest = rest-iff k h g .0 (m .rest);
       }
 
-  may-of-candidate : (k : ℕ) → i < k → k < b → Candidate Le (stringOf bases exponents n) (suc i) (suc k) (Rest (suc k)) → MayLink Le bases exponents rows ends e i k
+  may-of-candidate : (k : ℕ) → i < k → k < b → Candidate Le (stringOf string n) (suc i) (suc k) (Rest (suc k)) → MayLink Le string table ends e i k
   may-of-candidate k h g c =
       let one : i + 1 ≡ suc i = omega arith in
-      let contract : ContractsAt Le bases exponents k i =
-      rw (simple-at-index bases exponents n i (omega arith), simple-at-index bases exponents n k (omega arith)) at (c .contract) in
+      let contract : ContractsAt Le string k i =
+      rw (simple-at-index string n i (omega arith), simple-at-index string n k (omega arith)) at (c .contract) in
       record {
         closing = record {
           contract = contract;
-          between = rw one (span-iff (stringOf bases exponents n) rows b (suc i) k right h (omega arith) .1 (c .between));
+          between = rw one (stretch-iff (stringOf string n) table b (suc i) k right h (omega arith) .1 (c .between));
         };
         rest = rest-iff k h g .1 (c .rest);
       }
 
   -- Where there is a candidate, the nearest is found.
   pub chosen :
-      (r : ℕ) → NearestLink Le bases exponents rows ends e i r → b ≤ rowBits → (p : ℕ) → suc i < p → p ≤ b
-      → Candidate Le (stringOf bases exponents n) (suc i) p (Rest p) → Chosen Le (stringOf bases exponents n) Rest b i r
+      (r : ℕ) → NearestLink Le string table ends e i r → b ≤ rowBits → (p : ℕ) → suc i < p → p ≤ b
+      → Candidate Le (stringOf string n) (suc i) p (Rest p) → Chosen Le (stringOf string n) Rest b i r
   chosen r near small p h g c =
       let k = p - 1 in
       let e : p ≡ suc k = omega arith in
-      let first : Candidate Le (stringOf bases exponents n) (suc i) (suc k) (Rest (suc k)) = rw e at c in
+      let first : Candidate Le (stringOf string n) (suc i) (suc k) (Rest (suc k)) = rw e at c in
       let may = may-of-candidate k (omega arith) (omega arith) first in
       let up-to : r ≤ k = ⊎-elim (λ (l : k < r). absurd (near .least k (omega arith) l may)) (λ l. l) (less-or-not k r) in
       let found = near .found (omega arith) in
@@ -89,7 +89,7 @@ module _ {Le : Relation} (bases exponents rows ends : List ℕ) (e i b n : ℕ) 
         candidate = candidate-of-may r (found .0) (omega arith) (found .1);
         nearest = λ m l u d.
             let f : m ≡ suc (m - 1) = omega arith in
-            let other : Candidate Le (stringOf bases exponents n) (suc i) (suc (m - 1)) (Rest (suc (m - 1))) = rw f at d in
+            let other : Candidate Le (stringOf string n) (suc i) (suc (m - 1)) (Rest (suc (m - 1))) = rw f at d in
             near .least (m - 1) (omega arith) (omega arith) (may-of-candidate (m - 1) (omega arith) (omega arith) other);
       }
 
@@ -102,17 +102,17 @@ first-candidate i j h b o (linked p l g u w) = (p, l .ahead, g, candidate-of-lin
 
 -- Within a stretch that vanishes.
 pub chosen-within :
-    {Le : Relation} (bases exponents rows : List ℕ) (i j n r : ℕ) → j ≤ n → j ≤ rowBits → Right Le (stringOf bases exponents n) rows j → i < j
-    → InRow rows j i → NearestLink Le bases exponents rows rows j i r
-    → Chosen Le (stringOf bases exponents n) (VanishBehind Le (stringOf bases exponents n) (suc j)) j i r
-chosen-within {Le} bases exponents rows i j n r fits small right h row near =
-    let X = stringOf bases exponents n in
-    let size = length-string bases exponents n in
-    let vanishes = span-iff X rows j i j right (omega arith) (omega arith) .0 row in
+    {Le : Relation} (string table : List ℕ) (i j n r : ℕ) → j ≤ n → j ≤ rowBits → Right Le (stringOf string n) table j → i < j
+    → InRow table j i → NearestLink Le string table table j i r
+    → Chosen Le (stringOf string n) (VanishBehind Le (stringOf string n) (suc j)) j i r
+chosen-within {Le} string table i j n r fits small right h row near =
+    let X = stringOf string n in
+    let size = length-string string n in
+    let vanishes = stretch-iff X table j i j right (omega arith) (omega arith) .0 row in
     let some = first-candidate (suc i) (suc j) (omega arith) (omega arith) (omega arith)
     (linked-stretch X (suc i) (suc j) (omega arith) (omega arith) (omega arith) vanishes .1) in
-    chosen bases exponents rows rows j i j n fits right (VanishBehind Le X (suc j))
-    (λ k l g. let one : k + 1 ≡ suc k = omega arith in rw one (span-iff X rows j (suc k) j right g (omega arith)))
+    chosen string table table j i j n fits right (VanishBehind Le X (suc j))
+    (λ k l g. let one : k + 1 ≡ suc k = omega arith in rw one (stretch-iff X table j (suc k) j right g (omega arith)))
     r near small (some .0) (some .1) (omega (arith, some .2)) (some .3)
 
 -- Where the string from i on reduces, and i can't stay unlinked, there is a candidate.
@@ -138,14 +138,14 @@ candidate-from {Le} {s} X i one moves t =
 
 -- In a string that reduces to the target.
 pub chosen-from :
-    {Le : Relation} {s : Basic} (bases exponents rows ends : List ℕ) (i m r : ℕ) → m ≤ rowBits → Right Le (stringOf bases exponents m) rows m
-    → ReducingRow Le s (stringOf bases exponents m) ends → InRow ends 0 i
-    → (Stay Le s (stringOf bases exponents m) (suc i) (suc i) → ⊥) → NearestLink Le bases exponents rows ends 0 i r
-    → Chosen Le (stringOf bases exponents m) (λ p. ReducesFrom Le s (stringOf bases exponents m) (suc p)) m i r
-chosen-from {Le} {s} bases exponents rows ends i m r small right reducing row moves near =
-    let X = stringOf bases exponents m in
-    let size = length-string bases exponents m in
+    {Le : Relation} {s : Basic} (string table ends : List ℕ) (i m r : ℕ) → m ≤ rowBits → Right Le (stringOf string m) table m
+    → ReducingRow Le s (stringOf string m) ends → InRow ends 0 i
+    → (Stay Le s (stringOf string m) (suc i) (suc i) → ⊥) → NearestLink Le string table ends 0 i r
+    → Chosen Le (stringOf string m) (λ p. ReducesFrom Le s (stringOf string m) (suc p)) m i r
+chosen-from {Le} {s} string table ends i m r small right reducing row moves near =
+    let X = stringOf string m in
+    let size = length-string string m in
     let some = candidate-from X (suc i) (omega arith) moves (reducing i .0 row) in
-    chosen bases exponents rows ends 0 i m m (omega arith) right (λ p. ReducesFrom Le s X (suc p))
+    chosen string table ends 0 i m m (omega arith) right (λ p. ReducesFrom Le s X (suc p))
     (λ k l g. let one : k + 1 ≡ suc k = omega arith in rw one (reducing (suc k)))
     r near small (some .0) (some .1) (omega (arith, some .2)) (some .3)

@@ -1,3 +1,4 @@
--- The values of an answer, and the first linking as it is written.
+-- The values of an answer, the first linking as it is written, and what the writing of the whole asks and gives.
 pub mod Entries
 pub mod Links
+pub mod Written

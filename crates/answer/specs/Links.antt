@@ -1,57 +1,56 @@
 -- The first linking of a string as the code finds it, given the table of what vanishes: what one position may be linked to, and what is
--- written where. Indices count from 0, positions and partners from 1.
+-- written where. Places count from 0, positions and partners from 1.
 use Prim.Native.Nat.{ℕ, suc, _+_, _≤_, _<_}
 use mathlib.Core.Path.{_≡_}
 use mathlib.Core.Logic.{_⊎_}
 use mathlib.Core.List.{List, _++_}
-use lib.IntN.{pos}
 use lib.ListN.{getD, length, take, drop, set}
 use Rattle.pregroup.specs.Types.{Basic, PregroupType}
 use Rattle.pregroup.specs.Order.{Relation}
+use Rattle.pregroup.specs.Vanish.{Remains}
 use Rattle.linking.specs.Greedy.{Greedy, GreedyFrom, ReducesFrom}
 use Rattle.figures.specs.Limits.{rowBits}
 use Rattle.bits.specs.Rows.{InRow, HasRow, RowSays}
 use Rattle.table.specs.Table.{heldAt, stringOf, ContractsAt, StringThere, Right}
 
 -- The simple type at u may be the unlinked one: it is plain and stands at or below the target.
-pub record Remains (Le : Relation) (s : Basic) (bases exponents : List ℕ) (u : ℕ) : Type 0 where
-  pub is-plain : heldAt bases exponents u .exponent ≡ pos 0
-  pub below : Le (getD bases u 0) s
+abbrev pub RemainsAt : Relation → Basic → List ℕ → ℕ → Type 0
+RemainsAt Le s string u = Remains Le s (heldAt string u)
 
 -- i may stay unlinked: its simple type may remain, and what stands behind it, up to m, vanishes.
-pub record Stays (Le : Relation) (s : Basic) (bases exponents rows : List ℕ) (m i : ℕ) : Type 0 where
-  pub remains : Remains Le s bases exponents i
-  pub behind : InRow rows m (i + 1)
+pub record Stays (Le : Relation) (s : Basic) (string table : List ℕ) (m i : ℕ) : Type 0 where
+  pub remains : RemainsAt Le s string i
+  pub behind : InRow table m (i + 1)
 
 -- i may be linked to k: they could contract, and what stands between them vanishes.
-pub record Closes (Le : Relation) (bases exponents rows : List ℕ) (i k : ℕ) : Type 0 where
-  pub contract : ContractsAt Le bases exponents k i
-  pub between : InRow rows k (i + 1)
+pub record Closes (Le : Relation) (string table : List ℕ) (i k : ℕ) : Type 0 where
+  pub contract : ContractsAt Le string k i
+  pub between : InRow table k (i + 1)
 
--- .. and the index behind k is in row e of `ends`.
-pub record MayLink (Le : Relation) (bases exponents rows ends : List ℕ) (e i k : ℕ) : Type 0 where
-  pub closing : Closes Le bases exponents rows i k
+-- .. and the place behind k is in row e of `ends`.
+pub record MayLink (Le : Relation) (string table ends : List ℕ) (e i k : ℕ) : Type 0 where
+  pub closing : Closes Le string table i k
   pub rest : InRow ends e (k + 1)
 
--- r is the nearest index behind i that i may be linked to, or `rowBits` where there is none.
-pub record NearestLink (Le : Relation) (bases exponents rows ends : List ℕ) (e i r : ℕ) : Type 0 where
-  pub least : (k : ℕ) → i < k → k < r → MayLink Le bases exponents rows ends e i k → ⊥
-  pub found : r < rowBits → (i < r) × MayLink Le bases exponents rows ends e i r
+-- r is the nearest place behind i that i may be linked to, or `rowBits` where there is none.
+pub record NearestLink (Le : Relation) (string table ends : List ℕ) (e i r : ℕ) : Type 0 where
+  pub least : (k : ℕ) → i < k → k < r → MayLink Le string table ends e i k → ⊥
+  pub found : r < rowBits → (i < r) × MayLink Le string table ends e i r
 
 -- What the search for the nearest asks: row e of `ends` leads to simple types that are there.
-pub record EndsThere (bases exponents rows ends : List ℕ) (e : ℕ) : Type 0 where
+pub record EndsThere (string table ends : List ℕ) (e : ℕ) : Type 0 where
   pub room : HasRow ends e
-  pub reached : (j : ℕ) → InRow ends e j → StringThere bases exponents j × HasRow rows j
+  pub reached : (j : ℕ) → InRow ends e j → StringThere string j × HasRow table j
 
 -- The list with i and k linked, in the part from `at` on.
 abbrev pub withLink : List ℕ → ℕ → ℕ → ℕ → List ℕ
 withLink answer at i k = set (set answer (at + i) (k + 1)) (at + k) (i + 1)
 
--- The table is right up to j, the bytes are there, and so is the room for the partners.
-pub record LinkingThere (Le : Relation) (bases exponents rows answer : List ℕ) (at j : ℕ) : Type 0 where
-  pub string : StringThere bases exponents j
-  pub room : HasRow rows j
-  pub right : Right Le (stringOf bases exponents j) rows j
+-- The table is right up to j, the string is there, and so is the room for the partners.
+pub record LinkingThere (Le : Relation) (string table answer : List ℕ) (at j : ℕ) : Type 0 where
+  pub string-there : StringThere string j
+  pub room : HasRow table j
+  pub right : Right Le (stringOf string j) table j
   pub space : at + j ≤ length answer
 
 -- Nothing is written before `from`, nor from `to` on.
@@ -59,16 +58,16 @@ abbrev pub Kept : List ℕ → List ℕ → ℕ → ℕ → Type 0
 Kept before after from to = (p : ℕ) → (p < from) ⊎ (to ≤ p) → getD after p 0 ≡ getD before p 0
 
 -- The partners of the stretch from i up to j are written: each the nearest.
-pub record LinkedWithin (Le : Relation) (bases exponents before after : List ℕ) (at i j : ℕ) : Type 0 where
+pub record LinkedWithin (Le : Relation) (string before after : List ℕ) (at i j : ℕ) : Type 0 where
   pub kept : Kept before after (at + i) (at + j)
-  pub greedy : (n : ℕ) → j ≤ n → Greedy Le (stringOf bases exponents n) (drop at after) (suc i) (suc j)
+  pub greedy : (n : ℕ) → j ≤ n → Greedy Le (stringOf string n) (drop at after) (suc i) (suc j)
 
 -- The partners of the string from i on are written.
-pub record LinkedFrom (Le : Relation) (s : Basic) (bases exponents before after : List ℕ) (at m i : ℕ) : Type 0 where
+pub record LinkedFrom (Le : Relation) (s : Basic) (string before after : List ℕ) (at m i : ℕ) : Type 0 where
   pub kept : Kept before after (at + i) (at + m)
-  pub greedy : GreedyFrom Le s (stringOf bases exponents m) (drop at after) (suc i)
+  pub greedy : GreedyFrom Le s (stringOf string m) (drop at after) (suc i)
 
--- The row has the indices from which the string reduces to the target.
+-- The row has the places from which the string reduces to the target.
 abbrev pub ReducingRow : Relation → Basic → PregroupType → List ℕ → Type 0
 ReducingRow Le s X ends = RowSays ends 0 (λ i. ReducesFrom Le s X (suc i))
 

@@ -10,80 +10,47 @@ ghost use mathlib.Core.Bool.{true};
 ghost use lib.ListN.{length, set};
 ghost use Rattle.pregroup.specs.Held.{InRows};
 ghost use Rattle.pregroup.specs.Vanish.{Reduces};
+ghost use Rattle.figures.specs.Limits.{maxPlaces};
 ghost use Rattle.bits.specs.Rows.{InRow, HasRow, RowSays};
 ghost use Rattle.bits.specs.Gathered.{Gathered};
-ghost use Rattle.table.specs.Table.{maxString, stringOf, StringThere, Bounded, Joined, MemberPart};
-ghost use Rattle.answer.specs.Links.{Remains, Stays, Closes, NearestLink, EndsThere, withLink, LinkingThere, LinkedWithin, LinkedFrom, ReducingThere, FirstLinked};
-
-// Whether the simple type at u may be the one that is left: plain, and at or below the target.
-fn may_remain(order: &[u64], bases: &[u8], exponents: &[u8], target: u8, u: usize) -> bool
-    requires { ⌜ StringThere (now bases) (now exponents) (u + 1) ⌝ }
-    ensures { λ r. ⌜ (r ≡ true) ↔ Remains (InRows (now (order .entry))) target (now (bases .entry)) (now (exponents .entry)) u ⌝ }
-{
-    if exponents[u] != pregroup::EXPONENT_BIAS {
-        return false;
-    }
-    pregroup::stands_below(order, bases[u], target)
-}
+ghost use Rattle.table.specs.Table.{stringOf, StringThere, Bounded, RowJoined, MemberPart};
+ghost use Rattle.answer.specs.Links.{RemainsAt, Stays, Closes, NearestLink, EndsThere, withLink, LinkingThere, LinkedWithin, LinkedFrom, ReducingThere, FirstLinked};
 
 // Whether i may stay unlinked: its simple type may remain, and what stands behind it vanishes.
-fn may_stay(
-    order: &[u64],
-    bases: &[u8],
-    exponents: &[u8],
-    target: u8,
-    rows: &[u64],
-    m: usize,
-    i: usize,
-) -> bool
+fn may_stay(order: &[u64], string: &[u16], target: u8, table: &[u64], m: usize, i: usize) -> bool
     requires { ⌜ i < m ⌝ }
-    requires { ⌜ StringThere (now bases) (now exponents) m ⌝ }
-    requires { ⌜ HasRow (now rows) m ⌝ }
-    ensures { λ r. ⌜ (r ≡ true) ↔ Stays (InRows (now (order .entry))) target (now (bases .entry)) (now (exponents .entry)) (now (rows .entry)) m i ⌝ }
+    requires { ⌜ StringThere (now string) m ⌝ }
+    requires { ⌜ HasRow (now table) m ⌝ }
+    ensures { λ r. ⌜ (r ≡ true) ↔ Stays (InRows (now (order .entry))) target (now (string .entry)) (now (table .entry)) m i ⌝ }
 {
-    if may_remain(order, bases, exponents, target, i) {
-        return rows::member(rows, m, i + 1);
+    if pregroup::may_remain(order, string[i], target) {
+        return rows::member(table, m, i + 1);
     }
     false
 }
 
 // Whether i may be linked to k: they could contract, and what stands between them vanishes.
-fn may_close(
-    order: &[u64],
-    bases: &[u8],
-    exponents: &[u8],
-    rows: &[u64],
-    i: usize,
-    k: usize,
-) -> bool
+fn may_close(order: &[u64], string: &[u16], table: &[u64], i: usize, k: usize) -> bool
     requires { ⌜ i < k ⌝ }
-    requires { ⌜ StringThere (now bases) (now exponents) (k + 1) ⌝ }
-    requires { ⌜ HasRow (now rows) k ⌝ }
-    ensures { λ r. ⌜ (r ≡ true) ↔ Closes (InRows (now (order .entry))) (now (bases .entry)) (now (exponents .entry)) (now (rows .entry)) i k ⌝ }
+    requires { ⌜ StringThere (now string) (k + 1) ⌝ }
+    requires { ⌜ HasRow (now table) k ⌝ }
+    ensures { λ r. ⌜ (r ≡ true) ↔ Closes (InRows (now (order .entry))) (now (string .entry)) (now (table .entry)) i k ⌝ }
 {
-    if pregroup::may_contract(order, bases[i], exponents[i], bases[k], exponents[k]) {
-        return rows::member(rows, k, i + 1);
+    if pregroup::may_contract(order, string[i], string[k]) {
+        return rows::member(table, k, i + 1);
     }
     false
 }
 
 // The nearest k that i may be linked to such that k + 1 is in row e of `ends`; `ROW_BITS` where there is none.
-fn nearest(
-    order: &[u64],
-    bases: &[u8],
-    exponents: &[u8],
-    rows: &[u64],
-    ends: &[u64],
-    e: usize,
-    i: usize,
-) -> usize
-    requires { ⌜ i < maxString ⌝ }
-    requires { ⌜ EndsThere (now bases) (now exponents) (now rows) (now ends) e ⌝ }
-    ensures { λ r. ⌜ NearestLink (InRows (now (order .entry))) (now (bases .entry)) (now (exponents .entry)) (now (rows .entry)) (now (ends .entry)) e i r ⌝ }
+fn nearest(order: &[u64], string: &[u16], table: &[u64], ends: &[u64], e: usize, i: usize) -> usize
+    requires { ⌜ i < maxPlaces ⌝ }
+    requires { ⌜ EndsThere (now string) (now table) (now ends) e ⌝ }
+    ensures { λ r. ⌜ NearestLink (InRows (now (order .entry))) (now (string .entry)) (now (table .entry)) (now (ends .entry)) e i r ⌝ }
 {
     let mut j = rows::next_member(ends, e, i + 2);
     while j < ROW_BITS {
-        if may_close(order, bases, exponents, rows, i, j - 1) {
+        if may_close(order, string, table, i, j - 1) {
             return j - 1;
         }
         j = rows::next_member(ends, e, j + 1);
@@ -93,7 +60,7 @@ fn nearest(
 
 // Writes i as its own partner.
 fn write_stay(answer: &mut [u16], at: usize, i: usize)
-    requires { ⌜ i < maxString ⌝ }
+    requires { ⌜ i < maxPlaces ⌝ }
     requires { ⌜ at + i < length (now answer) ⌝ }
     ensures { λ _. ⌜ now (answer .exit) ≡ set (now (answer .entry)) (at + i) (i + 1) ⌝ }
 {
@@ -102,7 +69,7 @@ fn write_stay(answer: &mut [u16], at: usize, i: usize)
 
 // Writes i and k as partners of each other.
 fn write_link(answer: &mut [u16], at: usize, i: usize, k: usize)
-    requires { ⌜ (i < k) × (k < maxString) ⌝ }
+    requires { ⌜ (i < k) × (k < maxPlaces) ⌝ }
     requires { ⌜ at + k < length (now answer) ⌝ }
     ensures { λ _. ⌜ now (answer .exit) ≡ withLink (now (answer .entry)) at i k ⌝ }
 {
@@ -113,43 +80,35 @@ fn write_link(answer: &mut [u16], at: usize, i: usize, k: usize)
 // The row with that of u, where the simple type at u may remain.
 fn join_remaining(
     order: &[u64],
-    bases: &[u8],
-    exponents: &[u8],
+    string: &[u16],
     target: u8,
-    rows: &[u64],
+    table: &[u64],
     row: Row,
     u: usize,
 ) -> Row
-    requires { ⌜ StringThere (now bases) (now exponents) (u + 1) ⌝ }
-    requires { ⌜ HasRow (now rows) u ⌝ }
+    requires { ⌜ StringThere (now string) (u + 1) ⌝ }
+    requires { ⌜ HasRow (now table) u ⌝ }
     ensures { λ r. ⌜ RowSays (r .words) 0 (λ v. InRow (row .words) 0 v
-        ⊎ Joined (Remains (InRows (now (order .entry))) target (now (bases .entry)) (now (exponents .entry))) (now (rows .entry)) u v) ⌝ }
+        ⊎ RowJoined (RemainsAt (InRows (now (order .entry))) target (now (string .entry))) (now (table .entry)) u v) ⌝ }
 {
-    if may_remain(order, bases, exponents, target, u) {
-        return rows::unite(row, rows, u);
+    if pregroup::may_remain(order, string[u], target) {
+        return rows::unite(row, table, u);
     }
     row
 }
 
-// The indices from which the string reduces to the target: what stands before each simple type that may remain and has what vanishes behind it.
-fn reducing_row(
-    order: &[u64],
-    bases: &[u8],
-    exponents: &[u8],
-    target: u8,
-    rows: &[u64],
-    m: usize,
-) -> Row
-    requires { ⌜ StringThere (now bases) (now exponents) m ⌝ }
-    requires { ⌜ HasRow (now rows) m × Bounded (now rows) m ⌝ }
+// The places from which the string reduces to the target: what stands before each simple type that may remain and has what vanishes behind it.
+fn reducing_row(order: &[u64], string: &[u16], target: u8, table: &[u64], m: usize) -> Row
+    requires { ⌜ StringThere (now string) m ⌝ }
+    requires { ⌜ HasRow (now table) m × Bounded (now table) m ⌝ }
     ensures { λ r. ⌜ RowSays (r .words) 0 (Gathered (λ u. ⊥)
-        (MemberPart (Remains (InRows (now (order .entry))) target (now (bases .entry)) (now (exponents .entry))) (now (rows .entry)) m)) ⌝ }
+        (MemberPart (RemainsAt (InRows (now (order .entry))) target (now (string .entry))) (now (table .entry)) m)) ⌝ }
 {
     let mut row = rows::empty();
-    let mut j = rows::next_member(rows, m, 1);
+    let mut j = rows::next_member(table, m, 1);
     while j < ROW_BITS {
-        row = join_remaining(order, bases, exponents, target, rows, row, j - 1);
-        j = rows::next_member(rows, m, j + 1);
+        row = join_remaining(order, string, target, table, row, j - 1);
+        j = rows::next_member(table, m, j + 1);
     }
     row
 }
@@ -157,92 +116,67 @@ fn reducing_row(
 // Writes the partners of the stretch from i up to j, which vanishes: each the nearest that leaves the rest vanishing.
 fn link_within(
     order: &[u64],
-    bases: &[u8],
-    exponents: &[u8],
-    rows: &[u64],
+    string: &[u16],
+    table: &[u64],
     i: usize,
     j: usize,
     answer: &mut [u16],
     at: usize,
 )
-    requires { ⌜ LinkingThere (InRows (now order)) (now bases) (now exponents) (now rows) (now answer) at j ⌝ }
-    requires { ⌜ InRow (now rows) j i ⌝ }
-    ensures { λ _. ⌜ LinkedWithin (InRows (now (order .entry))) (now (bases .entry)) (now (exponents .entry)) (now (answer .entry)) (now (answer .exit)) at i j ⌝ }
+    requires { ⌜ LinkingThere (InRows (now order)) (now string) (now table) (now answer) at j ⌝ }
+    requires { ⌜ InRow (now table) j i ⌝ }
+    ensures { λ _. ⌜ LinkedWithin (InRows (now (order .entry))) (now (string .entry)) (now (answer .entry)) (now (answer .exit)) at i j ⌝ }
 {
     if i < j {
-        let k = nearest(order, bases, exponents, rows, rows, j, i);
+        let k = nearest(order, string, table, table, j, i);
         write_link(answer, at, i, k);
-        link_within(order, bases, exponents, rows, i + 1, k, answer, at);
-        link_within(order, bases, exponents, rows, k + 1, j, answer, at);
+        link_within(order, string, table, i + 1, k, answer, at);
+        link_within(order, string, table, k + 1, j, answer, at);
     }
 }
 
-// Writes the partners of the string from i on, which reduces to the target. Row 0 of `ends` has the indices from which it does.
+// Writes the partners of the string from i on, which reduces to the target. Row 0 of `ends` has the places from which it does.
 fn link_from(
     order: &[u64],
-    bases: &[u8],
-    exponents: &[u8],
+    string: &[u16],
     target: u8,
-    rows: &[u64],
+    table: &[u64],
     ends: &[u64],
     m: usize,
     i: usize,
     answer: &mut [u16],
     at: usize,
 )
-    requires { ⌜ LinkingThere (InRows (now order)) (now bases) (now exponents) (now rows) (now answer) at m ⌝ }
-    requires { ⌜ ReducingThere (InRows (now order)) target (stringOf (now bases) (now exponents) m) (now ends) i ⌝ }
-    ensures { λ _. ⌜ LinkedFrom (InRows (now (order .entry))) target (now (bases .entry)) (now (exponents .entry)) (now (answer .entry)) (now (answer .exit)) at m i ⌝ }
+    requires { ⌜ LinkingThere (InRows (now order)) (now string) (now table) (now answer) at m ⌝ }
+    requires { ⌜ ReducingThere (InRows (now order)) target (stringOf (now string) m) (now ends) i ⌝ }
+    ensures { λ _. ⌜ LinkedFrom (InRows (now (order .entry))) target (now (string .entry)) (now (answer .entry)) (now (answer .exit)) at m i ⌝ }
 {
-    if may_stay(order, bases, exponents, target, rows, m, i) {
+    if may_stay(order, string, target, table, m, i) {
         write_stay(answer, at, i);
-        link_within(order, bases, exponents, rows, i + 1, m, answer, at);
+        link_within(order, string, table, i + 1, m, answer, at);
     } else {
-        let k = nearest(order, bases, exponents, rows, ends, 0, i);
+        let k = nearest(order, string, table, ends, 0, i);
         write_link(answer, at, i, k);
-        link_within(order, bases, exponents, rows, i + 1, k, answer, at);
-        link_from(
-            order,
-            bases,
-            exponents,
-            target,
-            rows,
-            ends,
-            m,
-            k + 1,
-            answer,
-            at,
-        );
+        link_within(order, string, table, i + 1, k, answer, at);
+        link_from(order, string, target, table, ends, m, k + 1, answer, at);
     }
 }
 
 // Writes the first linking of the string of the first m simple types, which reduces to the target, into `answer` from `at` on: m partners.
-pub fn first_linking(
+pub(crate) fn first_linking(
     order: &[u64],
-    bases: &[u8],
-    exponents: &[u8],
+    string: &[u16],
     m: usize,
     target: u8,
-    rows: &[u64],
+    table: &[u64],
     answer: &mut [u16],
     at: usize,
 )
-    requires { ⌜ LinkingThere (InRows (now order)) (now bases) (now exponents) (now rows) (now answer) at m ⌝ }
-    requires { ⌜ Reduces (InRows (now order)) target (stringOf (now bases) (now exponents) m) ⌝ }
-    ensures { λ _. ⌜ FirstLinked (InRows (now (order .entry))) target (stringOf (now (bases .entry)) (now (exponents .entry)) m) (now (answer .entry)) (now (answer .exit)) at ⌝ }
+    requires { ⌜ LinkingThere (InRows (now order)) (now string) (now table) (now answer) at m ⌝ }
+    requires { ⌜ Reduces (InRows (now order)) target (stringOf (now string) m) ⌝ }
+    ensures { λ _. ⌜ FirstLinked (InRows (now (order .entry))) target (stringOf (now (string .entry)) m) (now (answer .entry)) (now (answer .exit)) at ⌝ }
 {
-    let row = reducing_row(order, bases, exponents, target, rows, m);
+    let row = reducing_row(order, string, target, table, m);
     let ends = row.words;
-    link_from(
-        order,
-        bases,
-        exponents,
-        target,
-        rows,
-        &ends,
-        m,
-        0,
-        answer,
-        at,
-    );
+    link_from(order, string, target, table, &ends, m, 0, answer, at);
 }

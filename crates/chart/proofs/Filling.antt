@@ -48,8 +48,8 @@ module _ (Le : Relation) (g : Graph) (rows : List ℕ) (up : Upward g) (room : (
         (up .enters-up u s (getD (g .enters) s 0) small (record { boundary = b; from-on = h; before = k; entered = refl }) .1);
   }
 
-  node-there : (y : ℕ) → y < g .count → NodeThere (g .bases) (g .exponents) (g .nexts) y
-  node-there y h = record { base = omega (arith, up .bases-there); exponent = omega (arith, up .exponents-there); next = omega (arith, up .nexts-there) }
+  node-there : (y : ℕ) → y < g .count → NodeThere (g .simples) (g .nexts) y
+  node-there y h = record { label = omega (arith, up .simples-there); next = omega (arith, up .nexts-there) }
 
   -- The row behind a node is there; behind a boundary that is row 0.
   row-behind : (y : ℕ) → y < g .count → (0 < getD (g .nexts) y 0) ⊎ (getD (g .nexts) y 0 ≤ 0) → HasRow rows (getD (g .nexts) y 0)
@@ -61,7 +61,7 @@ module _ (Le : Relation) (g : Graph) (rows : List ℕ) (up : Upward g) (room : (
     row-van : (w : ℕ) → u < w → w < g .count → RowSays rows w (Van Le g w)
     row-van w h k v = let row = filled w (omega arith) k v in (λ m. van-iff-vanish .1 (row .0 m), λ t. row .1 (van-iff-vanish .0 t))
 
-    links-there : 0 < getD (g .nexts) u 0 → LinksThere (g .bases) (g .exponents) (g .nexts) rows u
+    links-there : 0 < getD (g .nexts) u 0 → LinksThere (g .simples) (g .nexts) rows u
     links-there s =
         let next = up .nexts-up u small s in
         record {
@@ -100,7 +100,7 @@ module _ (Le : Relation) (g : Graph) (rows : List ℕ) (up : Upward g) (room : (
       next-up : (u < getD (g .nexts) u 0) × (getD (g .nexts) u 0 < g .count)
       next-up = up .nexts-up u small s
 
-      van-of-links : (v : ℕ) → Gathered (Only u) (LinkPart Le (g .bases) (g .exponents) (g .nexts) rows u) v → Van Le g u v
+      van-of-links : (v : ℕ) → Gathered (Only u) (LinkPart Le (g .simples) (g .nexts) rows u) v → Van Le g u v
       van-of-links v (itself e) = rw e same
       van-of-links v (within y p) =
           let inner = row-van (getD (g .nexts) u 0) (next-up .0) (next-up .1) y .0 (p .reached) in
@@ -110,7 +110,7 @@ module _ (Le : Relation) (g : Graph) (rows : List ℕ) (up : Upward g) (room : (
           let m : Labelled g y (labelOf g y) k = record { simple = p .joined .simple; label = refl; next = refl } in
           join l inner m (p .joined .contracts) (row-van k (omega (arith, next-up .0, van-after up (next-up .1) inner)) (on .1) v .0 (p .joined .behind))
 
-      links-of-van : {v : ℕ} → Van Le g u v → Gathered (Only u) (LinkPart Le (g .bases) (g .exponents) (g .nexts) rows u) v
+      links-of-van : {v : ℕ} → Van Le g u v → Gathered (Only u) (LinkPart Le (g .simples) (g .nexts) rows u) v
       links-of-van same = itself refl
       links-of-van (pass (by t e) r) = absurd (omega (arith, e .boundary))
       links-of-van {v} (join {n} {y} {k} {x} {z} l i m c o) =
@@ -127,7 +127,7 @@ module _ (Le : Relation) (g : Graph) (rows : List ℕ) (up : Upward g) (room : (
           })
 
       simple-says :
-          (row : List ℕ) → RowSays row 0 (Gathered (Only u) (LinkPart Le (g .bases) (g .exponents) (g .nexts) rows u))
+          (row : List ℕ) → RowSays row 0 (Gathered (Only u) (LinkPart Le (g .simples) (g .nexts) rows u))
           → RowSays row 0 (VanishTo Le g u)
       simple-says row says v =
           (λ m. van-iff-vanish .0 (van-of-links v (says v .0 m)), λ t. says v .1 (links-of-van (van-iff-vanish .1 t)))
@@ -159,7 +159,7 @@ module _ (Le : Relation) (g : Graph) (start rows : List ℕ) (u : ℕ) (pre : Fi
   boundary-asks b = (omega (arith, pre .upward .few), slots-there Le g rows (pre .upward) turn-room (u - 1) (omega arith) b)
 
   pub simple-asks :
-      (getD (g .nexts) (u - 1) 0 ≡ 0 → ⊥) → (u - 1 < rowBits) × LinksThere (g .bases) (g .exponents) (g .nexts) rows (u - 1)
+      (getD (g .nexts) (u - 1) 0 ≡ 0 → ⊥) → (u - 1 < rowBits) × LinksThere (g .simples) (g .nexts) rows (u - 1)
   simple-asks s =
       (omega (arith, pre .upward .few), links-there Le g rows (pre .upward) turn-room (u - 1) (omega arith) turn-filled (omega arith))
 
@@ -180,6 +180,6 @@ module _ (Le : Relation) (g : Graph) (start rows : List ℕ) (u : ℕ) (pre : Fi
 
     pub simple-turn :
         (getD (g .nexts) (u - 1) 0 ≡ 0 → ⊥)
-        → RowSays row 0 (Gathered (Only (u - 1)) (LinkPart Le (g .bases) (g .exponents) (g .nexts) rows (u - 1)))
+        → RowSays row 0 (Gathered (Only (u - 1)) (LinkPart Le (g .simples) (g .nexts) rows (u - 1)))
         → (u - 1 ≤ g .count) × (length rows′ ≡ length start) × FilledFrom Le g rows′ (u - 1)
     simple-turn s says = turned (simple-says Le g rows (pre .upward) turn-room (u - 1) (omega arith) turn-filled (omega arith) row says)

@@ -30,24 +30,23 @@ pub record SlotsThere (enters rows : List ℕ) (from to : ℕ) : Type 0 where
   pub room : (s : ℕ) → from ≤ s → s < to → HasRow rows (getD enters s 0)
 
 -- y is simple, u could contract with it, and v is in the row of the node behind y.
-pub record Joined (Le : Relation) (bases exponents nexts rows : List ℕ) (u y v : ℕ) : Type 0 where
+pub record Joined (Le : Relation) (simples nexts rows : List ℕ) (u y v : ℕ) : Type 0 where
   pub simple : 0 < getD nexts y 0
-  pub contracts : Contracts Le (held (getD bases u 0) (getD exponents u 0)) (held (getD bases y 0) (getD exponents y 0))
+  pub contracts : Contracts Le (held (getD simples u 0)) (held (getD simples y 0))
   pub behind : InRow rows (getD nexts y 0) v
 
 -- The part of a node y, for a simple node u: y is in the row of the node behind u, and joined.
-pub record LinkPart (Le : Relation) (bases exponents nexts rows : List ℕ) (u y v : ℕ) : Type 0 where
+pub record LinkPart (Le : Relation) (simples nexts rows : List ℕ) (u y v : ℕ) : Type 0 where
   pub reached : InRow rows (getD nexts u 0) y
-  pub joined : Joined Le bases exponents nexts rows u y v
+  pub joined : Joined Le simples nexts rows u y v
 
 -- The lists have u.
-pub record NodeThere (bases exponents nexts : List ℕ) (u : ℕ) : Type 0 where
-  pub base : u < length bases
-  pub exponent : u < length exponents
+pub record NodeThere (simples nexts : List ℕ) (u : ℕ) : Type 0 where
+  pub label : u < length simples
   pub next : u < length nexts
 
 -- What a simple node's row asks: it and what it reaches are there, with the rows behind them.
-pub record LinksThere (bases exponents nexts rows : List ℕ) (u : ℕ) : Type 0 where
-  pub node : NodeThere bases exponents nexts u
+pub record LinksThere (simples nexts rows : List ℕ) (u : ℕ) : Type 0 where
+  pub node : NodeThere simples nexts u
   pub room : HasRow rows (getD nexts u 0)
-  pub reached : (y : ℕ) → InRow rows (getD nexts u 0) y → NodeThere bases exponents nexts y × HasRow rows (getD nexts y 0)
+  pub reached : (y : ℕ) → InRow rows (getD nexts u 0) y → NodeThere simples nexts y × HasRow rows (getD nexts y 0)

@@ -31,48 +31,40 @@ fn boundary_row(enters: &[u16], rows: &[u64], u: usize, from: usize, to: usize) 
 // The row with that of the node behind y, where y is simple and u may contract with it.
 fn join_row(
     order: &[u64],
-    bases: &[u8],
-    exponents: &[u8],
+    simples: &[u16],
     nexts: &[u16],
     rows: &[u64],
     row: Row,
     u: usize,
     y: usize,
 ) -> Row
-    requires { ⌜ NodeThere (now bases) (now exponents) (now nexts) u ⌝ }
-    requires { ⌜ NodeThere (now bases) (now exponents) (now nexts) y × HasRow (now rows) (getD (now nexts) y 0) ⌝ }
+    requires { ⌜ NodeThere (now simples) (now nexts) u ⌝ }
+    requires { ⌜ NodeThere (now simples) (now nexts) y × HasRow (now rows) (getD (now nexts) y 0) ⌝ }
     ensures { λ r. ⌜ RowSays (r .words) 0 (λ v. InRow (row .words) 0 v
-        ⊎ Joined (InRows (now (order .entry))) (now (bases .entry)) (now (exponents .entry)) (now (nexts .entry)) (now (rows .entry)) u y v) ⌝ }
+        ⊎ Joined (InRows (now (order .entry))) (now (simples .entry)) (now (nexts .entry)) (now (rows .entry)) u y v) ⌝ }
 {
     let next = nexts[y];
     if next == 0 {
         return row;
     }
-    if pregroup::may_contract(order, bases[u], exponents[u], bases[y], exponents[y]) {
+    if pregroup::may_contract(order, simples[u], simples[y]) {
         return rows::unite(row, rows, next as usize);
     }
     row
 }
 
 // The row of the simple node u: itself, and what it can be linked past.
-fn simple_row(
-    order: &[u64],
-    bases: &[u8],
-    exponents: &[u8],
-    nexts: &[u16],
-    rows: &[u64],
-    u: usize,
-) -> Row
+fn simple_row(order: &[u64], simples: &[u16], nexts: &[u16], rows: &[u64], u: usize) -> Row
     requires { ⌜ u < rowBits ⌝ }
-    requires { ⌜ LinksThere (now bases) (now exponents) (now nexts) (now rows) u ⌝ }
+    requires { ⌜ LinksThere (now simples) (now nexts) (now rows) u ⌝ }
     ensures { λ r. ⌜ RowSays (r .words) 0
-        (Gathered (Only u) (LinkPart (InRows (now (order .entry))) (now (bases .entry)) (now (exponents .entry)) (now (nexts .entry)) (now (rows .entry)) u)) ⌝ }
+        (Gathered (Only u) (LinkPart (InRows (now (order .entry))) (now (simples .entry)) (now (nexts .entry)) (now (rows .entry)) u)) ⌝ }
 {
     let behind = nexts[u] as usize;
     let mut row = rows::put(rows::empty(), u);
     let mut y = rows::next_member(rows, behind, 0);
     while y < ROW_BITS {
-        row = join_row(order, bases, exponents, nexts, rows, row, u, y);
+        row = join_row(order, simples, nexts, rows, row, u, y);
         y = rows::next_member(rows, behind, y + 1);
     }
     row
@@ -82,17 +74,16 @@ fn simple_row(
 pub fn fill(
     order: &[u64],
     count: usize,
-    bases: &[u8],
-    exponents: &[u8],
+    simples: &[u16],
     nexts: &[u16],
     froms: &[u16],
     tos: &[u16],
     enters: &[u16],
     rows: &mut [u64],
 )
-    requires { ⌜ Fillable (graph count (now bases) (now exponents) (now nexts) (now froms) (now tos) (now enters)) (now rows) ⌝ }
+    requires { ⌜ Fillable (graph count (now simples) (now nexts) (now froms) (now tos) (now enters)) (now rows) ⌝ }
     ensures { λ _. ⌜ FilledFrom (InRows (now (order .entry)))
-        (graph count (now (bases .entry)) (now (exponents .entry)) (now (nexts .entry)) (now (froms .entry)) (now (tos .entry)) (now (enters .entry)))
+        (graph count (now (simples .entry)) (now (nexts .entry)) (now (froms .entry)) (now (tos .entry)) (now (enters .entry)))
         (now (rows .exit)) 0 ⌝ }
 {
     let mut u = count;
@@ -102,7 +93,7 @@ pub fn fill(
             let row = boundary_row(enters, rows, u, froms[u] as usize, tos[u] as usize);
             rows::store(rows, u, row);
         } else {
-            let row = simple_row(order, bases, exponents, nexts, rows, u);
+            let row = simple_row(order, simples, nexts, rows, u);
             rows::store(rows, u, row);
         }
     }

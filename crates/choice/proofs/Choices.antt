@@ -35,6 +35,15 @@ module _ {g : Graph} where
   path-onward last (take l p) = onward-take l (path-onward last p)
   path-onward last (enter (by s e) p) = onward-enter e (path-onward last p)
 
+-- A path between boundaries is that of a choice.
+module _ {g : Graph} where
+  choice-onward : {u end : ℕ} {X : PregroupType} → Boundary g u → Onward g u X end → (slots : List ℕ) × SlotChoice g u slots X end
+  choice-onward b (onward (ended h) c) = (_, c)
+  choice-onward b (onward (more l t) c) = absurd (omega (arith, l .simple))
+
+  pub choice-of-path : {u end : ℕ} {X : PregroupType} → Boundary g u → Boundary g end → Path g u X end → (slots : List ℕ) × SlotChoice g u slots X end
+  choice-of-path b last p = choice-onward b (path-onward last p)
+
 module _ {Le : Relation} {g : Graph} where
   completable-onward : {P X : PregroupType} {u s w end : ℕ} → EntersBy g u s w → Vanish Le (P ++ X) → Onward g w X end → CompletableBy Le g P u s end
   completable-onward e v (onward t c) = by-slot (completes (choose e t c) v)

@@ -1,26 +1,32 @@
--- The walk of `choose` from the first node to the last: the rows of the prefix chosen so far are grown, it is finished from the node at hand,
+-- The walk of `choose` from the first node to the last: the rows of the string chosen so far are grown, it is finished from the node at hand,
 -- and whatever is scanned from there on completes a scan from the start.
-use Prim.Native.Nat.{ℕ, zero, suc, _+_, _≤_, _<_}
+use Prim.Native.Nat.{ℕ, _+_, _≤_, _<_}
 use native.Mathlib.Numerals.{add-one}
 use native.Mathlib.Omega.{arith}
 use mathlib.Core.Path.{_≡_, refl, sym, ap, _∙_, subst}
 use mathlib.Core.Logic.{_↔_, _⊎_, inl, inr}
-use mathlib.Core.List.{List, [], _∷_, _++_, map, map-append, append-assoc, append-nil}
-use lib.ListN.{getD, length, take, set, length-set}
-use lib.Seq.{take-all, take-suc-set, getD-take, getD-set-same, getD-set-other, length-take-le}
+use mathlib.Core.List.{List, [], _∷_, _++_, append-assoc, append-nil}
+use lib.ListN.{getD, length, take, set, length-set, length-append}
+use lib.Seq.{take-suc-set, getD-set-same}
+use Rattle.figures.specs.Limits.{maxPlaces}
+use Rattle.bits.specs.Rows.{InRow}
+use Rattle.bits.proofs.Cases.{less-or-not}
 use Rattle.pregroup.specs.Types.{Simple, PregroupType}
 use Rattle.pregroup.specs.Order.{Relation}
-use Rattle.pregroup.specs.Vanish.{Vanish, empty}
-use Rattle.bits.specs.Rows.{InRow}
+use Rattle.pregroup.specs.Vanish.{Vanish}
+use Rattle.pregroup.specs.Held.{held}
 use Rattle.graph.specs.Graph.{Graph, labelOf, Labelled, EntersBy, by, Path, here, take as takes-node, enter, VanishTo, along, Boundary, Spells, ended, more}
+use Rattle.chart.proofs.Recurrence.{path-append}
+use Rattle.table.specs.Table.{stringOf, Right}
+use Rattle.table.proofs.Stretches.{length-string, string-kept, string-more}
+use Rattle.table.proofs.TableLaws.{right-begins}
 use Rattle.choice.specs.Completion.{Finishes, finishes, SlotChoice, done, choose, Scanned, ends, takes}
-use Rattle.choice.specs.Prefixes.{atPlace, Stretch, Leaving, whole, linked}
-use Rattle.bits.proofs.Cases.{less-or-not, same-or-not}
-use Rattle.choice.proofs.Choices.{scanned-is-first}
-use Rattle.choice.specs.Sets.{Among, OutPart, SomePart, NodeHeld, Growable, Grew, Searchable, FirstSlot, Started}
-use Rattle.choice.specs.Grown.{chosen, Grown}
+use Rattle.choice.specs.Prefixes.{Leaving, whole, linked}
+use Rattle.choice.specs.Sets.{Among, LeftFor, Growable, Grew, Searchable, FirstSlot, Started}
+use Rattle.choice.specs.Grown.{Grown}
 use Rattle.choice.specs.First.{Roomy, Choosable, Chose}
-use Rattle.choice.proofs.Grown.{some-iff-finished, grown-more}
+use Rattle.choice.proofs.Choices.{scanned-is-first}
+use Rattle.choice.proofs.Grown.{left-iff-finished, grown-more}
 
 -- The rest of a scan from a node on: the rest of its entry, and the slots behind it.
 pub data Rest (Le : Relation) (g : Graph) (end : ℕ) (P : PregroupType) (u : ℕ) (slots : List ℕ) : Type 0 where
@@ -30,36 +36,14 @@ pub data Rest (Le : Relation) (g : Graph) (end : ℕ) (P : PregroupType) (u : �
 pub data Ahead (g : Graph) (u : ℕ) (slots : List ℕ) : PregroupType → ℕ → Type 0 where
   ahead : {T X : PregroupType} {b end : ℕ} → Spells g u T b → SlotChoice g b slots X end → Ahead g u slots (T ++ X) end
 
-pub record Choosing (Le : Relation) (g : Graph) (picked slots backs outs comps : List ℕ) (end u words places : ℕ) : Type 0 where
+pub record Choosing (Le : Relation) (g : Graph) (string slots table leaving finishing : List ℕ) (end u words places : ℕ) : Type 0 where
   pub below : u ≤ end
   pub few : places + words ≤ u
-  pub grown : Grown Le g (chosen g picked places) end places backs outs comps
-  pub nodes : (i : ℕ) → i < places → getD picked i 0 < g .count
-  pub finished : Finishes Le g (chosen g picked places) u end
-  pub scan : (more : List ℕ) → Rest Le g end (chosen g picked places) u more → Scanned Le g end [] 0 (take words slots ++ more)
-  pub spell : (more : List ℕ) (X : PregroupType) → Ahead g u more X end → SlotChoice g 0 (take words slots ++ more) (chosen g picked places ++ X) end
-
--- One node more is picked.
-map-at : (f : ℕ → Simple) (l : List ℕ) (i : ℕ) → i < length l → atPlace (map f l) i ≡ f (getD l i 0)
-map-at f [] i h = absurd (omega arith)
-map-at f (x ∷ l) zero h = refl
-map-at f (x ∷ l) (suc i) h = map-at f l i (omega arith)
-
-module _ (g : Graph) (picked : List ℕ) (n u : ℕ) (room : n < length picked) where
-  chosen-more : chosen g (set picked n u) (n + 1) ≡ chosen g picked n ++ (labelOf g u ∷ [])
-  chosen-more =
-      ap (λ (k : ℕ). map (labelOf g) (take k (set picked n u))) (add-one n) ∙ ap (map (labelOf g)) (take-suc-set picked n u room)
-      ∙ map-append (labelOf g) (take n picked) (u ∷ [])
-
-  label-at : (i : ℕ) → i ≤ n → labelOf g (getD (set picked n u) i 0) ≡ atPlace (chosen g picked n ++ (labelOf g u ∷ [])) i
-  label-at i h =
-      let long : length (take (n + 1) (set picked n u)) ≡ n + 1 = length-take-le (n + 1) (set picked n u) (omega (arith, length-set picked n u)) in
-      ap (labelOf g) (sym (getD-take (n + 1) (set picked n u) i 0 (omega arith)))
-      ∙ sym (map-at (labelOf g) (take (n + 1) (set picked n u)) i (omega arith)) ∙ ap (λ (P : PregroupType). atPlace P i) chosen-more
-
-  picked-node : (count : ℕ) → u < count → ((i : ℕ) → i < n → getD picked i 0 < count) → (i : ℕ) → i ≤ n → (i ≡ n) ⊎ (i ≡ n → ⊥) → getD (set picked n u) i 0 < count
-  picked-node count h before i l (inl e) = rw (e, getD-set-same picked n u 0 room) h
-  picked-node count h before i l (inr d) = rw (getD-set-other picked n i u 0 d) (before i (omega arith))
+  pub grown : Grown Le g (stringOf string places) end places table leaving finishing
+  pub walked : Path g 0 (stringOf string places) u
+  pub finished : Finishes Le g (stringOf string places) u end
+  pub scan : (more : List ℕ) → Rest Le g end (stringOf string places) u more → Scanned Le g end [] 0 (take words slots ++ more)
+  pub spell : (more : List ℕ) (X : PregroupType) → Ahead g u more X end → SlotChoice g 0 (take words slots ++ more) (stringOf string places ++ X) end
 
 -- What is finished from a simple node is finished from the node behind it, with its simple type chosen.
 module _ {Le : Relation} {g : Graph} where
@@ -77,63 +61,82 @@ module _ {g : Graph} where
   ahead-take : {u n end : ℕ} {x : Simple} {slots : List ℕ} {X : PregroupType} → Labelled g u x n → Ahead g n slots X end → Ahead g u slots (x ∷ X) end
   ahead-take l (ahead t c) = ahead (more l t) c
 
+-- A path from a simple node to the end takes one simple type at least.
+takes-some : {g : Graph} {u end : ℕ} {X : PregroupType} → Boundary g end → (getD (g .nexts) u 0 ≡ 0 → ⊥) → Path g u X end → 1 ≤ length X
+takes-some last simple here = absurd (simple last)
+takes-some last simple (takes-node l p) = omega arith
+takes-some last simple (enter (by s e) p) = absurd (simple (e .boundary))
+
+-- The places so far are no more than a path has.
+module _ (Le : Relation) (g : Graph) (rows string slots table leaving finishing : List ℕ) (end u words places : ℕ) (pre : Choosable Le g rows end)
+    (now : Choosing Le g string slots table leaving finishing end u words places) where
+  few-behind : {X : PregroupType} → Path g u X end → places + length X ≤ maxPlaces
+  few-behind {X} p =
+      omega (arith, pre .brief (path-append (now .walked) p), length-append (stringOf string places) X, length-string string places)
+
+  pub few-places : places ≤ maxPlaces
+  few-places = of (now .finished)
+    where
+      of : Finishes Le g (stringOf string places) u end → places ≤ maxPlaces
+      of (finishes p v) = omega (arith, few-behind p)
+
+  pub place-left : (getD (g .nexts) u 0 ≡ 0 → ⊥) → places + 1 ≤ maxPlaces
+  place-left simple = of (now .finished)
+    where
+      of : Finishes Le g (stringOf string places) u end → places + 1 ≤ maxPlaces
+      of (finishes p v) = omega (arith, few-behind p, takes-some (pre .ends) simple p)
+
 -- At a simple node.
-module _ (Le : Relation) (g : Graph) (rows picked slots backs outs comps : List ℕ) (end u words places : ℕ) (pre : Choosable Le g rows end)
-    (roomy : Roomy (g .count) picked slots backs outs comps) (now : Choosing Le g picked slots backs outs comps end u words places) (away : u ≡ end → ⊥) where
+module _ (Le : Relation) (g : Graph) (rows string slots table leaving finishing : List ℕ) (end u words places : ℕ) (pre : Choosable Le g rows end)
+    (roomy : Roomy (g .count) string slots table leaving) (now : Choosing Le g string slots table leaving finishing end u words places) (away : u ≡ end → ⊥)
+    (simple : getD (g .nexts) u 0 ≡ 0 → ⊥) where
   small : u < g .count
   small = omega (arith, now .below, pre .last)
 
-  -- The places up to the next one have a row.
-  place-small : places + 1 < g .count
-  place-small = omega (arith, now .below, now .few, pre .last)
+  room : places + 1 ≤ maxPlaces
+  room = place-left Le g rows string slots table leaving finishing end u words places pre now simple
 
-  module _ (simple : getD (g .nexts) u 0 ≡ 0 → ⊥) where
-    node-of : (i : ℕ) → i ≤ places → getD (set picked places u) i 0 < g .count
-    node-of i h =
-        picked-node g picked places u (omega (arith, place-small, roomy .places)) (g .count) small (now .nodes) i h (same-or-not i places)
+  abbrev string′ : List ℕ
+  string′ = set string places (getD (g .simples) u 0)
 
-    held-of : (y : ℕ) → y < g .count → NodeHeld (g .bases) (g .exponents) y
-    held-of y h = record { base = omega (arith, pre .upward .bases-there); exponent = omega (arith, pre .upward .exponents-there) }
+  pub growable : Growable Le (g .simples) (g .nexts) rows (g .count) string′ places table leaving
+  growable = record {
+    nodes = record { few = pre .upward .few; label = pre .upward .simples-there; next = pre .upward .nexts-there };
+    rows-there = record { few = pre .upward .few; room = pre .rows-there };
+    string-there = record { few = room; there = omega (arith, room, roomy .places, length-set string places (getD (g .simples) u 0)) };
+    right = rw (string-kept string places (getD (g .simples) u 0)) (now .grown .right);
+    table-room = roomy .table-rows (places + 1) room;
+    leaving-room = λ m h. roomy .leaving-rows m (omega (arith, room));
+  }
 
-    pub growable : Growable (g .bases) (g .exponents) (g .nexts) rows (set picked places u) (g .count) places backs outs comps
-    growable = record {
-      nodes = record { few = pre .upward .few; held = held-of; next = pre .upward .nexts-there };
-      rows-there = record { few = pre .upward .few; room = pre .rows-there };
-      node = node-of places (omega arith);
-      places = record {
-        few = omega (arith, place-small, pre .upward .few);
-        places = omega (arith, place-small, roomy .places, length-set picked places u);
-        nodes = λ i h. held-of (getD (set picked places u) i 0) (node-of i h);
-        room = λ i h. roomy .back-rows i (omega (arith, place-small));
-      };
-      up-to = λ i h m r. now .grown .stretches i h m .0 r .ordered;
-      backs-room = roomy .back-rows (places + 1) place-small;
-      outs-room = λ m h. roomy .out-rows m (omega (arith, place-small));
-      comps-room = λ i h. roomy .comp-rows i (omega (arith, place-small));
-    }
+  node-label : Labelled g u (labelOf g u) (getD (g .nexts) u 0)
+  node-label = record { simple = omega arith; label = refl; next = refl }
 
-    node-label : Labelled g u (labelOf g u) (getD (g .nexts) u 0)
-    node-label = record { simple = omega arith; label = refl; next = refl }
+  pub simple-up : (u < getD (g .nexts) u 0) × (getD (g .nexts) u 0 < g .count)
+  simple-up = pre .upward .nexts-up u small (omega arith)
 
-    pub simple-up : (u < getD (g .nexts) u 0) × (getD (g .nexts) u 0 < g .count)
-    simple-up = pre .upward .nexts-up u small (omega arith)
+  longer : stringOf string′ (places + 1) ≡ stringOf string places ++ (labelOf g u ∷ [])
+  longer = string-more string places (getD (g .simples) u 0) (omega (arith, room, roomy .places))
 
-    module _ (backs′ outs′ comps′ : List ℕ)
-        (grew : Grew Le (g .bases) (g .exponents) (g .nexts) rows (set picked places u) (g .count) places backs outs comps backs′ outs′ comps′) where
-      string-more : chosen g (set picked places u) (places + 1) ≡ chosen g picked places ++ (labelOf g u ∷ [])
-      string-more = chosen-more g picked places u (omega (arith, place-small, roomy .places))
+  chosen-last : getD {A = ℕ} string′ places 0 ≡ getD (g .simples) u 0
+  chosen-last = getD-set-same string places (getD (g .simples) u 0) 0 (omega (arith, room, roomy .places))
 
-      pub picked-turn : Choosing Le g (set picked places u) slots backs′ outs′ comps′ end (getD (g .nexts) u 0) words (places + 1)
-      picked-turn = record {
+  pub picked-turn :
+      (table′ leaving′ finishing′ : List ℕ) → Grew Le (g .simples) (g .nexts) rows (g .count) string′ places finishing leaving table′ leaving′ finishing′
+      → Choosing Le g string′ slots table′ leaving′ finishing′ end (getD (g .nexts) u 0) words (places + 1)
+  picked-turn table′ leaving′ finishing′ grew =
+      let spells : stringOf string′ (places + 1) ≡ stringOf string places ++ (held (getD string′ places 0) ∷ []) =
+      longer ∙ ap (λ (k : ℕ). stringOf string places ++ (held k ∷ [])) (sym chosen-last) in
+      let grown = grown-more Le g rows string′ (stringOf string places) end places finishing table leaving table′ leaving′ finishing′ (pre .upward) (pre .filled)
+      (now .grown) spells grew in
+      record {
         below = omega (arith, simple-up .1, pre .last);
         few = omega (arith, simple-up .0, now .few);
-        grown = rw string-more
-            (grown-more Le g rows (set picked places u) (chosen g picked places) (labelOf g u) end places backs outs comps backs′ outs′ comps′ (pre .upward)
-            (pre .filled) (now .grown) (label-at g picked places u (omega (arith, place-small, roomy .places))) grew);
-        nodes = λ i h. node-of i (omega arith);
-        finished = rw string-more (finishes-take (pre .ends) node-label (now .finished));
-        scan = λ after r. now .scan after (rest-take node-label (rw string-more at r));
-        spell = λ after X a. rw (string-more, append-assoc) (now .spell after (labelOf g u ∷ X) (ahead-take node-label a));
+        grown = subst (λ (P : PregroupType). Grown Le g P end (places + 1) table′ leaving′ finishing′) (sym spells) grown;
+        walked = rw longer (path-append (now .walked) (takes-node node-label here));
+        finished = rw longer (finishes-take (pre .ends) node-label (now .finished));
+        scan = λ after r. now .scan after (rest-take node-label (rw longer at r));
+        spell = λ after X a. rw (longer, append-assoc) (now .spell after (labelOf g u ∷ X) (ahead-take node-label a));
       }
 
 -- What is finished from a boundary other than the end is finished from the node of some slot.
@@ -165,35 +168,34 @@ slots-more slots k r after h =
     ∙ append-assoc (take k slots) (r ∷ []) after
 
 -- At a boundary.
-module _ (Le : Relation) (g : Graph) (rows picked slots backs outs comps : List ℕ) (end u words places : ℕ) (pre : Choosable Le g rows end)
-    (roomy : Roomy (g .count) picked slots backs outs comps) (now : Choosing Le g picked slots backs outs comps end u words places) (away : u ≡ end → ⊥)
+module _ (Le : Relation) (g : Graph) (rows string slots table leaving finishing : List ℕ) (end u words places : ℕ) (pre : Choosable Le g rows end)
+    (roomy : Roomy (g .count) string slots table leaving) (now : Choosing Le g string slots table leaving finishing end u words places) (away : u ≡ end → ⊥)
     (boundary : getD (g .nexts) u 0 ≡ 0) where
   node-small : u < g .count
   node-small = omega (arith, now .below, pre .last)
 
-  pub searchable : Searchable (g .enters) backs outs places (getD (g .tos) u 0)
+  few-so-far : places ≤ maxPlaces
+  few-so-far = few-places Le g rows string slots table leaving finishing end u words places pre now
+
+  pub searchable : Searchable (g .enters) table leaving places (getD (g .tos) u 0)
   searchable = record {
     slots = pre .upward .slots-there u node-small;
-    back-room = roomy .back-rows places (omega (arith, now .few, node-small));
-    out-room = λ m r. roomy .out-rows m (omega (arith, now .few, node-small, now .grown .stretches places (omega arith) m .0 r .ordered));
+    table-room = roomy .table-rows places few-so-far;
+    leaving-room = λ m r. roomy .leaving-rows m (omega (arith, few-so-far, now .grown .right places (omega arith) m .0 r .ordered));
   }
 
-  -- The search's test is whether the prefix is finished.
-  slot-test : (y : ℕ) → SomePart (OutPart backs outs places) y ↔ Among (g .count) (λ y. Finishes Le g (take places (chosen g picked places)) y end) y
-  slot-test =
-      some-iff-finished (chosen g picked places) end places backs outs (omega (arith, now .grown .long)) (now .grown .stretches places (omega arith)) (now .grown .leavings)
+  -- The search's test is whether the string is finished.
+  slot-test : (y : ℕ) → LeftFor table leaving places y ↔ Among (g .count) (λ y. Finishes Le g (stringOf string places) y end) y
+  slot-test = left-iff-finished (stringOf string places) end places table leaving (now .grown .long) (now .grown .right) (now .grown .leavings)
 
-  whole-string : take places (chosen g picked places) ≡ chosen g picked places
-  whole-string = take-all places (chosen g picked places) (omega (arith, now .grown .long))
-
-  module _ (r : ℕ) (first : FirstSlot (g .enters) backs outs places (getD (g .froms) u 0) (getD (g .tos) u 0) r) where
-    never : (s w : ℕ) → s < r → EntersBy g u s w → Finishes Le g (chosen g picked places) w end → ⊥
+  module _ (r : ℕ) (first : FirstSlot (g .enters) table leaving places (getD (g .froms) u 0) (getD (g .tos) u 0) r) where
+    never : (s w : ℕ) → s < r → EntersBy g u s w → Finishes Le g (stringOf string places) w end → ⊥
     never s w h e f =
         let on = pre .upward .enters-up u s w node-small e in
-        let test = slot-test w .1 (record { below = on .1; holds = rw whole-string f }) in
-        first .none s (e .from-on) h (subst (λ (y : ℕ). SomePart (OutPart backs outs places) y) (e .entered) test)
+        let test = slot-test w .1 (record { below = on .1; holds = f }) in
+        first .none s (e .from-on) h (subst (λ (y : ℕ). LeftFor table leaving places y) (e .entered) test)
 
-    found-by : EntersFinished Le g (chosen g picked places) u end → (r < getD (g .tos) u 0) ⊎ (getD (g .tos) u 0 ≤ r) → r < getD (g .tos) u 0
+    found-by : EntersFinished Le g (stringOf string places) u end → (r < getD (g .tos) u 0) ⊎ (getD (g .tos) u 0 ≤ r) → r < getD (g .tos) u 0
     found-by f (inl h) = h
     found-by (enters-finished {s} {w} e f) (inr h) = absurd (never s w (omega (arith, e .before)) e f)
 
@@ -209,13 +211,13 @@ module _ (Le : Relation) (g : Graph) (rows picked slots backs outs comps : List 
     word-room : words < length slots
     word-room = omega (arith, now .few, node-small, roomy .words)
 
-    pub entered-turn : Choosing Le g picked (set slots words r) backs outs comps end (getD (g .enters) r 0) (words + 1) places
+    pub entered-turn : Choosing Le g string (set slots words r) table leaving finishing end (getD (g .enters) r 0) (words + 1) places
     entered-turn = record {
       below = omega (arith, slot-up .1, pre .last);
       few = omega (arith, slot-up .0, now .few);
       grown = now .grown;
-      nodes = now .nodes;
-      finished = rw whole-string at (slot-test (getD (g .enters) r 0) .0 (first .found slot-found) .holds);
+      walked = rw append-nil at (path-append (now .walked) (enter (by r slot-enters) here));
+      finished = slot-test (getD (g .enters) r 0) .0 (first .found slot-found) .holds;
       scan = λ after a. rw (slots-more slots words r after word-room) (now .scan (r ∷ after) (rest-enter slot-enters never a));
       spell = λ after X a. rw (slots-more slots words r after word-room) (now .spell (r ∷ after) X (ahead-enter slot-enters a));
     }
@@ -230,36 +232,34 @@ module _ {Le : Relation} {g : Graph} where
   vanish-at-end : {P : PregroupType} {end : ℕ} → Boundary g end → ((s w : ℕ) → EntersBy g end s w → ⊥) → Finishes Le g P end end → Vanish Le P
   vanish-at-end b closed (finishes p v) = ends-here refl b closed p v
 
-module _ (Le : Relation) (g : Graph) (rows picked slots backs outs comps : List ℕ) (end words places : ℕ) (pre : Choosable Le g rows end)
-    (now : Choosing Le g picked slots backs outs comps end end words places) where
+module _ (Le : Relation) (g : Graph) (rows string slots table leaving finishing : List ℕ) (end words places : ℕ) (pre : Choosable Le g rows end)
+    (now : Choosing Le g string slots table leaving finishing end end words places) where
   end-closed : (s w : ℕ) → EntersBy g end s w → ⊥
   end-closed s w e = let on = pre .upward .enters-up end s w (omega (arith, pre .last)) e in omega (arith, pre .last)
 
   scan-whole : Scanned Le g end [] 0 (take words slots)
   scan-whole =
-      let v : Vanish Le (chosen g picked places) = vanish-at-end (pre .ends) end-closed (now .finished) in
+      let v : Vanish Le (stringOf string places) = vanish-at-end (pre .ends) end-closed (now .finished) in
       rw append-nil at (now .scan [] (rest (ended (pre .ends)) (ends (rw append-nil v))))
 
-  pub chose : Chose Le g picked slots end words places
+  pub chose : Chose Le g string slots table end words places
   chose = record {
     scanned = scan-whole;
     first = scanned-is-first (pre .ends) end-closed scan-whole;
-    nodes = now .nodes;
-    few = now .few;
     spelled = rw (append-nil, append-nil) at (now .spell [] [] (ahead (ended (pre .ends)) (done (pre .ends))));
+    right = now .grown .right;
+    few = now .few;
+    few-places = few-places Le g rows string slots table leaving finishing end end words places pre now;
   }
 
 -- At the start nothing is chosen.
-module _ (Le : Relation) (g : Graph) (rows picked slots backs outs comps backs′ outs′ comps′ : List ℕ) (end : ℕ) (pre : Choosable Le g rows end)
-    (started : Started rows (g .count) end backs outs comps backs′ outs′ comps′) where
+module _ (Le : Relation) (g : Graph) (rows string slots table leaving table′ leaving′ finishing : List ℕ) (end : ℕ) (pre : Choosable Le g rows end)
+    (started : Started rows (g .count) end table leaving table′ leaving′ finishing) where
   leads : (y : ℕ) → Among (g .count) (λ y. InRow rows y end) y → Among (g .count) (λ y. VanishTo Le g y end) y
   leads y a = record { below = a .below; holds = pre .filled y (omega arith) (a .below) end .0 (a .holds) }
 
   back : (y : ℕ) → Among (g .count) (λ y. VanishTo Le g y end) y → Among (g .count) (λ y. InRow rows y end) y
   back y a = record { below = a .below; holds = pre .filled y (omega arith) (a .below) end .1 (a .holds) }
-
-  start-stretch : (i : ℕ) → i ≡ 0 → Stretch Le [] i 0
-  start-stretch i e = rw e (record { ordered = omega arith; vanishes = empty })
 
   end-of-leaving : (y : ℕ) → Leaving Le g [] end 0 y → VanishTo Le g y end
   end-of-leaving y (whole e t) = t
@@ -271,21 +271,19 @@ module _ (Le : Relation) (g : Graph) (rows picked slots backs outs comps backs�
   finishes-to-end : (y : ℕ) → VanishTo Le g y end → Finishes Le g [] y end
   finishes-to-end y (along p v) = finishes p v
 
-  start-grown : Grown Le g [] end 0 backs′ outs′ comps′
+  start-grown : Grown Le g [] end 0 table′ leaving′ finishing
   start-grown = record {
     long = refl;
-    stretches = λ j h i. let e : j ≡ 0 = omega arith in
-        rw e (λ r. start-stretch i (started .backs-new i .0 r), λ s. started .backs-new i .1 (omega (arith, s .ordered)));
+    right = right-begins table′ (started .table-new);
     leavings = λ m h y. let e : m ≡ 0 = omega arith in
         rw e (
-          λ r. let a = leads y (started .outs-new y .0 r) in record { below = a .below; holds = whole refl (a .holds) },
-          λ a. started .outs-new y .1 (back y (record { below = a .below; holds = end-of-leaving y (a .holds) })),
+          λ r. let a = leads y (started .leaving-new y .0 r) in record { below = a .below; holds = whole refl (a .holds) },
+          λ a. started .leaving-new y .1 (back y (record { below = a .below; holds = end-of-leaving y (a .holds) })),
         );
-    finished = λ j h y. let e : j ≡ 0 = omega arith in
-        rw e (
-          λ r. let a = leads y (started .comps-new y .0 r) in record { below = a .below; holds = finishes-to-end y (a .holds) },
-          λ a. started .comps-new y .1 (back y (record { below = a .below; holds = end-of-finishes y (a .holds) })),
-        );
+    finished = λ y. (
+      λ r. let a = leads y (started .finishing-new y .0 r) in record { below = a .below; holds = finishes-to-end y (a .holds) },
+      λ a. started .finishing-new y .1 (back y (record { below = a .below; holds = end-of-finishes y (a .holds) })),
+    );
   }
 
   first-scan : (b : ℕ) {T : PregroupType} (after : List ℕ) → Spells g 0 T b → Scanned Le g end T b after → Scanned Le g end [] 0 after
@@ -302,38 +300,31 @@ module _ (Le : Relation) (g : Graph) (rows picked slots backs outs comps backs�
   start-spell : {X : PregroupType} (after : List ℕ) → Ahead g 0 after X end → SlotChoice g 0 after X end
   start-spell after (ahead {b} t c) = first-spell b after t c
 
-  pub start-choosing : Choosing Le g picked slots backs′ outs′ comps′ end 0 0 0
+  pub start-choosing : Choosing Le g string slots table′ leaving′ finishing end 0 0 0
+  unfolding stringOf
   start-choosing = record {
     below = omega arith;
     few = omega arith;
     grown = start-grown;
-    nodes = λ i h. absurd (omega arith);
+    walked = here;
     finished = finishes-to-end 0 (pre .reads);
     scan = λ after r. start-scan after r;
     spell = λ after X a. start-spell after a;
   }
 
 -- The buffers keep their lengths, and so their room.
-pub record SameLengths (picked slots backs outs comps picked′ slots′ backs′ outs′ comps′ : List ℕ) : Type 0 where
-  pub places : length picked′ ≡ length picked
+pub record SameLengths (string slots table leaving string′ slots′ table′ leaving′ : List ℕ) : Type 0 where
+  pub places : length string′ ≡ length string
   pub words : length slots′ ≡ length slots
-  pub back-rows : length backs′ ≡ length backs
-  pub out-rows : length outs′ ≡ length outs
-  pub comp-rows : length comps′ ≡ length comps
+  pub table-rows : length table′ ≡ length table
+  pub leaving-rows : length leaving′ ≡ length leaving
 
 pub roomy-same :
-    (count : ℕ) (picked slots backs outs comps picked′ slots′ backs′ outs′ comps′ : List ℕ) → Roomy count picked slots backs outs comps
-    → SameLengths picked slots backs outs comps picked′ slots′ backs′ outs′ comps′ → Roomy count picked′ slots′ backs′ outs′ comps′
-roomy-same count picked slots backs outs comps picked′ slots′ backs′ outs′ comps′ roomy same = record {
+    (count : ℕ) (string slots table leaving string′ slots′ table′ leaving′ : List ℕ) → Roomy count string slots table leaving
+    → SameLengths string slots table leaving string′ slots′ table′ leaving′ → Roomy count string′ slots′ table′ leaving′
+roomy-same count string slots table leaving string′ slots′ table′ leaving′ roomy same = record {
   places = omega (arith, roomy .places, same .places);
   words = omega (arith, roomy .words, same .words);
-  back-rows = λ j h. omega (arith, roomy .back-rows j h, same .back-rows);
-  out-rows = λ j h. omega (arith, roomy .out-rows j h, same .out-rows);
-  comp-rows = λ j h. omega (arith, roomy .comp-rows j h, same .comp-rows);
+  table-rows = λ j h. omega (arith, roomy .table-rows j h, same .table-rows);
+  leaving-rows = λ j h. omega (arith, roomy .leaving-rows j h, same .leaving-rows);
 }
-
-pub same-started :
-    {rows : List ℕ} {count end : ℕ} (picked slots : List ℕ) {backs outs comps backs′ outs′ comps′ : List ℕ}
-    → Started rows count end backs outs comps backs′ outs′ comps′ → SameLengths picked slots backs outs comps picked slots backs′ outs′ comps′
-same-started picked slots s =
-    record { places = refl; words = refl; back-rows = s .backs-length; out-rows = s .outs-length; comp-rows = s .comps-length }

@@ -2,7 +2,7 @@
 use Prim.Native.Nat.{ℕ, _+_, _*_, _/_, _%_, _^_, _≤_, _<_}
 use native.Mathlib.Omega.{arith}
 use mathlib.Core.Path.{_≡_}
-use mathlib.Core.Logic.{_↔_, _⊎_, inl, inr, ⊎-elim}
+use mathlib.Core.Logic.{_↔_, _⊎_, inl, inr}
 use mathlib.Core.Bool.{Bool, true}
 use mathlib.Core.List.{List}
 use lib.ListN.{getD}
@@ -12,10 +12,9 @@ use Rattle.bits.proofs.Trailing.{trailing-lowest}
 use lib.Count.{trailingZeros}
 use Rattle.figures.specs.Limits.{rowWords}
 use Rattle.bits.specs.Rows.{InRow, RowSays}
-use Rattle.bits.proofs.Gathering.{Below}
-use Rattle.bits.proofs.Cases.{less-or-not, same-or-not}
+use Rattle.bits.proofs.Cases.{less-or-not}
 use Rattle.bits.proofs.RowLaws.{word-of-row, row-of-word}
-use Rattle.choice.specs.Sets.{Among, Meets, meets, SomePart, some}
+use Rattle.choice.specs.Sets.{Among, Meets, meets}
 
 -- A row filled node by node.
 pub among-starts : (Q : ℕ → Type 0) (row : List ℕ) → RowSays row 0 (λ v. ⊥) → RowSays row 0 (Among 0 Q)
@@ -60,43 +59,3 @@ module _ (rows words : List ℕ) (u k word : ℕ) (says : Members word (λ q. Ha
 
 pub meets-never : (rows words : List ℕ) (u : ℕ) → Apart rows (rowWords * u) words rowWords → Meets rows u words → ⊥
 meets-never rows words u apart (meets v a b) = apart (v / 64) (v % 64) (omega (arith, a .small)) (a .member) (word-of-row words v b)
-
--- A row gathered part by part, as in the chart's Gathering, from nothing.
-abbrev pub SomeTo : List ℕ → (ℕ → ℕ → Type 0) → ℕ → Type 0
-SomeTo row Part i = RowSays row 0 (SomePart (Below i Part))
-
-module _ (Part : ℕ → ℕ → Type 0) where
-  pub some-starts : (row : List ℕ) (i : ℕ) → RowSays row 0 (λ v. ⊥) → ((m v : ℕ) → m < i → Part m v → ⊥) → SomeTo row Part i
-  some-starts row i none before v = (λ h. absurd (none v .0 h), back)
-    where
-      back : SomePart (Below i Part) v → InRow row 0 v
-      back (some m b) = absurd (before m v (b .less) (b .part))
-
-  module _ (row row′ : List ℕ) (i j : ℕ) (so-far : SomeTo row Part i) (more : RowSays row′ 0 (λ v. InRow row 0 v ⊎ Part i v)) (on : i < j)
-      (none : (m v : ℕ) → i + 1 ≤ m → m < j → Part m v → ⊥) where
-    kept : (v : ℕ) → SomePart (Below i Part) v → SomePart (Below j Part) v
-    kept v (some m b) = some m (record { less = omega (arith, b .less); part = b .part })
-
-    narrow : (v m : ℕ) → Below j Part m v → (m < i) ⊎ (i ≤ m) → (m ≡ i) ⊎ (m ≡ i → ⊥) → InRow row 0 v ⊎ Part i v
-    narrow v m b (inl h) d = inl (so-far v .1 (some m (record { less = h; part = b .part })))
-    narrow v m b (inr h) (inl e) = inr (rw e at (b .part))
-    narrow v m b (inr h) (inr n) = absurd (none m v (omega arith) (b .less) (b .part))
-
-    back : (v : ℕ) → SomePart (Below j Part) v → InRow row 0 v ⊎ Part i v
-    back v (some m b) = narrow v m b (less-or-not m i) (same-or-not m i)
-
-    -- Part i is joined, and those from i + 1 to before j have no member.
-    pub some-one : SomeTo row′ Part j
-    some-one v = (
-      λ h. ⊎-elim (λ n. kept v (so-far v .0 n)) (λ p. some i (record { less = on; part = p })) (more v .0 h),
-      λ h. more v .1 (back v h),
-    )
-
-  pub some-ends : (row : List ℕ) (i : ℕ) → ((m v : ℕ) → Part m v → m < i) → SomeTo row Part i → RowSays row 0 (SomePart Part)
-  some-ends row i all so-far v = (λ h. any (so-far v .0 h), λ h. so-far v .1 (bounded h))
-    where
-      any : SomePart (Below i Part) v → SomePart Part v
-      any (some m b) = some m (b .part)
-
-      bounded : SomePart Part v → SomePart (Below i Part) v
-      bounded (some m p) = some m (record { less = all m v p; part = p })

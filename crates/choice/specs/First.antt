@@ -2,23 +2,24 @@
 use Prim.Native.Nat.{ℕ, _+_, _≤_, _<_}
 use mathlib.Core.Path.{_≡_}
 use mathlib.Core.List.{List, []}
-use lib.ListN.{length, getD, take}
-use Rattle.pregroup.specs.Order.{Relation}
+use lib.ListN.{length, take}
+use Rattle.figures.specs.Limits.{maxPlaces}
 use Rattle.bits.specs.Rows.{HasRow}
-use Rattle.graph.specs.Graph.{Graph, Upward, VanishTo, Boundary}
+use Rattle.pregroup.specs.Types.{PregroupType}
+use Rattle.pregroup.specs.Order.{Relation}
+use Rattle.graph.specs.Graph.{Graph, Upward, Path, VanishTo, Boundary}
 use Rattle.chart.specs.Chart.{FilledFrom}
+use Rattle.table.specs.Table.{stringOf, Right}
 use Rattle.choice.specs.Completion.{SlotChoice, FirstChoice, Scanned}
-use Rattle.choice.specs.Grown.{chosen}
 
--- The buffers have room for as many places, words and rows as there are nodes.
-pub record Roomy (count : ℕ) (picked slots backs outs comps : List ℕ) : Type 0 where
-  pub places : count ≤ length picked
+-- The buffers have room for the longest string, for a slot at each node, and for a row before and behind each place.
+pub record Roomy (count : ℕ) (string slots table leaving : List ℕ) : Type 0 where
+  pub places : maxPlaces ≤ length string
   pub words : count ≤ length slots
-  pub back-rows : (j : ℕ) → j < count → HasRow backs j
-  pub out-rows : (j : ℕ) → j < count → HasRow outs j
-  pub comp-rows : (j : ℕ) → j < count → HasRow comps j
+  pub table-rows : (j : ℕ) → j ≤ maxPlaces → HasRow table j
+  pub leaving-rows : (j : ℕ) → j ≤ maxPlaces → HasRow leaving j
 
--- The chart is filled, the line reads, and it begins and ends at a boundary, the last node.
+-- The chart is filled, the line reads, it begins and ends at a boundary, the last node, and no path has too many simple types.
 pub record Choosable (Le : Relation) (g : Graph) (rows : List ℕ) (end : ℕ) : Type 0 where
   pub upward : Upward g
   pub filled : FilledFrom Le g rows 0
@@ -27,11 +28,13 @@ pub record Choosable (Le : Relation) (g : Graph) (rows : List ℕ) (end : ℕ) :
   pub begins : Boundary g 0
   pub ends : Boundary g end
   pub reads : VanishTo Le g 0 end
+  pub brief : {X : PregroupType} → Path g 0 X end → length X ≤ maxPlaces
 
--- The slots of the words are the first choice that reads, and the nodes picked spell its string.
-pub record Chose (Le : Relation) (g : Graph) (picked slots : List ℕ) (end words places : ℕ) : Type 0 where
+-- The slots of the words are the first choice that reads, the string is what it spells, and the table is that of the string.
+pub record Chose (Le : Relation) (g : Graph) (string slots table : List ℕ) (end words places : ℕ) : Type 0 where
   pub scanned : Scanned Le g end [] 0 (take words slots)
   pub first : FirstChoice Le g [] 0 (take words slots) end
-  pub spelled : SlotChoice g 0 (take words slots) (chosen g picked places) end
-  pub nodes : (i : ℕ) → i < places → getD picked i 0 < g .count
+  pub spelled : SlotChoice g 0 (take words slots) (stringOf string places) end
+  pub right : Right Le (stringOf string places) table places
   pub few : places + words ≤ end
+  pub few-places : places ≤ maxPlaces

@@ -1,19 +1,17 @@
--- What the functions of this crate gather from rows, in terms of rows alone. `specs/Grown.antt` says what the rows mean.
-use Prim.Native.Nat.{ℕ, _+_, _-_, _≤_, _<_}
+-- What the functions of this crate gather from rows, in terms of rows alone: the table of the chosen string, `leaving`, whose row m has the nodes
+-- from which a prefix can be left at place m, and `finishing`, one row of the nodes from which the prefix is finished. `specs/Grown.antt` says
+-- what these mean.
+use Prim.Native.Nat.{ℕ, _+_, _≤_, _<_}
 use mathlib.Core.Path.{_≡_}
 use mathlib.Core.List.{List}
 use lib.ListN.{getD, length}
-use Rattle.pregroup.specs.Types.{Simple}
+use Rattle.figures.specs.Limits.{rowBits}
+use Rattle.bits.specs.Rows.{InRow, HasRow, RowSays}
+use Rattle.bits.specs.Gathered.{Gathered}
 use Rattle.pregroup.specs.Order.{Relation}
 use Rattle.pregroup.specs.Vanish.{Contracts}
 use Rattle.pregroup.specs.Held.{held}
-use Rattle.figures.specs.Limits.{rowBits}
-use Rattle.bits.specs.Rows.{InRow, HasRow, RowSays}
-use Rattle.bits.specs.Gathered.{Gathered, Only}
-
--- The simple type of a node.
-abbrev pub heldAt : List ℕ → List ℕ → ℕ → Simple
-heldAt bases exponents u = held (getD bases u 0) (getD exponents u 0)
+use Rattle.table.specs.Table.{heldAt, stringOf, Right, StringThere}
 
 -- The nodes below n that are in Q.
 pub record Among (n : ℕ) (Q : ℕ → Type 0) (v : ℕ) : Type 0 where
@@ -29,111 +27,75 @@ pub record RowsThere (rows : List ℕ) (n : ℕ) : Type 0 where
   pub few : n ≤ rowBits
   pub room : (u : ℕ) → u < n → HasRow rows u
 
--- u is simple, p could contract with it, and the node behind it is in row j.
-pub record LinksTo (Le : Relation) (bases exponents nexts comps : List ℕ) (j p u : ℕ) : Type 0 where
+-- u is simple, x could contract with it, and the prefix is finished from the node behind it.
+pub record LinksTo (Le : Relation) (simples nexts finishing : List ℕ) (x u : ℕ) : Type 0 where
   pub simple : 0 < getD nexts u 0
-  pub contracts : Contracts Le (heldAt bases exponents p) (heldAt bases exponents u)
-  pub behind : InRow comps j (getD nexts u 0)
-
--- The lists have the node u.
-pub record NodeHeld (bases exponents : List ℕ) (u : ℕ) : Type 0 where
-  pub base : u < length bases
-  pub exponent : u < length exponents
+  pub contracts : Contracts Le (held x) (heldAt simples u)
+  pub behind : InRow finishing 0 (getD nexts u 0)
 
 -- The lists have the first n nodes.
-pub record NodesHeld (bases exponents nexts : List ℕ) (n : ℕ) : Type 0 where
+pub record NodesThere (simples nexts : List ℕ) (n : ℕ) : Type 0 where
   pub few : n ≤ rowBits
-  pub held : (u : ℕ) → u < n → NodeHeld bases exponents u
+  pub label : n ≤ length simples
   pub next : n ≤ length nexts
 
--- The simple type at place m - 1 could contract with that at place j, and i is in row m - 1 of `backs`.
-pub record BackLink (Le : Relation) (bases exponents picked backs : List ℕ) (j m i : ℕ) : Type 0 where
-  pub contracts : Contracts Le (heldAt bases exponents (getD picked (m - 1) 0)) (heldAt bases exponents (getD picked j 0))
-  pub outside : InRow backs (m - 1) i
+-- Some node in row y is one that x, chosen next, may be linked to.
+pub data ReachesLink (Le : Relation) (simples nexts rows finishing : List ℕ) (count x y : ℕ) : Type 0 where
+  reaches : (u : ℕ) → InRow rows y u → Among count (LinksTo Le simples nexts finishing x) u → ReachesLink Le simples nexts rows finishing count x y
 
--- The part of a member m of row j of `backs`, for a stretch that ends with place j.
-pub record BackPart (Le : Relation) (bases exponents picked backs : List ℕ) (j m i : ℕ) : Type 0 where
-  pub positive : 0 < m
-  pub inside : InRow backs j m
-  pub linked : BackLink Le bases exponents picked backs j m i
+-- The part of a member m of row n of the table: what row m of `leaving` has.
+pub record LeavingPart (table leaving : List ℕ) (n m y : ℕ) : Type 0 where
+  pub stretch : InRow table n m
+  pub leaving-there : InRow leaving m y
 
--- The places up to j and their rows are there.
-pub record PlacesHeld (bases exponents picked backs : List ℕ) (j : ℕ) : Type 0 where
-  pub few : j + 1 < rowBits
-  pub places : j < length picked
-  pub nodes : (i : ℕ) → i ≤ j → NodeHeld bases exponents (getD picked i 0)
-  pub room : (i : ℕ) → i ≤ j → HasRow backs i
+-- The prefix of n is finished from y, by the rows: some place of row n can be left for y.
+abbrev pub LeftFor : List ℕ → List ℕ → ℕ → ℕ → Type 0
+LeftFor table leaving n = Gathered (λ y. ⊥) (LeavingPart table leaving n)
 
--- The part of a member m of row j of `backs`: what row m of `outs` has.
-pub record OutPart (backs outs : List ℕ) (j m y : ℕ) : Type 0 where
-  pub stretch : InRow backs j m
-  pub leaving : InRow outs m y
+-- The rows of `leaving` are there for the members of row n of the table.
+abbrev pub LeavingThere : List ℕ → List ℕ → ℕ → Type 0
+LeavingThere table leaving n = (m : ℕ) → InRow table n m → HasRow leaving m
 
--- The rows of `outs` are there for the members of row j of `backs`.
-abbrev pub OutsThere : List ℕ → List ℕ → ℕ → Type 0
-OutsThere backs outs j = (m : ℕ) → InRow backs j m → HasRow outs m
-
--- The members of row j of `backs` are places up to j.
-abbrev pub PlacesUpTo : List ℕ → ℕ → Type 0
-PlacesUpTo backs j = (m : ℕ) → InRow backs j m → m ≤ j
-
--- Some part has y.
-pub data SomePart (Part : ℕ → ℕ → Type 0) (y : ℕ) : Type 0 where
-  some : (m : ℕ) → Part m y → SomePart Part y
-
--- Some node in row y is one that p, chosen behind a prefix of j, may be linked to.
-pub data ReachesLink (Le : Relation) (bases exponents nexts rows comps : List ℕ) (count j p y : ℕ) : Type 0 where
-  reaches : (u : ℕ) → InRow rows y u → Among count (LinksTo Le bases exponents nexts comps j p) u → ReachesLink Le bases exponents nexts rows comps count j p y
-
--- The three lists of rows, with row j + 1 of each made of the rows before: where a new link may lead, which stretches end behind place j, and
--- from where the prefix of j + 1 is finished. The other rows are kept.
-pub record Grew (Le : Relation) (bases exponents nexts rows picked : List ℕ) (count j : ℕ) (backs outs comps backs′ outs′ comps′ : List ℕ) : Type 0 where
-  pub outs-new : RowSays outs′ (j + 1) (Among count (ReachesLink Le bases exponents nexts rows comps count j (getD picked j 0)))
-  pub outs-kept : (m : ℕ) → (m ≡ j + 1 → ⊥) → RowSays outs′ m (InRow outs m)
-  pub outs-length : length outs′ ≡ length outs
-  pub backs-new : RowSays backs′ (j + 1) (Gathered (Only (j + 1)) (BackPart Le bases exponents picked backs j))
-  pub backs-kept : (i : ℕ) → (i ≡ j + 1 → ⊥) → RowSays backs′ i (InRow backs i)
-  pub backs-length : length backs′ ≡ length backs
-  pub comps-new : RowSays comps′ (j + 1) (SomePart (OutPart backs′ outs′ (j + 1)))
-  pub comps-kept : (i : ℕ) → (i ≡ j + 1 → ⊥) → RowSays comps′ i (InRow comps i)
-  pub comps-length : length comps′ ≡ length comps
-
--- What growing asks.
-pub record Growable (bases exponents nexts rows picked : List ℕ) (count j : ℕ) (backs outs comps : List ℕ) : Type 0 where
-  pub nodes : NodesHeld bases exponents nexts count
-  pub rows-there : RowsThere rows count
-  pub node : getD picked j 0 < count
-  pub places : PlacesHeld bases exponents picked backs j
-  pub up-to : (i : ℕ) → i ≤ j → PlacesUpTo backs i
-  pub backs-room : HasRow backs (j + 1)
-  pub outs-room : (m : ℕ) → m ≤ j + 1 → HasRow outs m
-  pub comps-room : (i : ℕ) → i ≤ j + 1 → HasRow comps i
-
--- Row 0 of each list, before anything is chosen: place 0, and the nodes from which a string that vanishes leads to the end.
-pub record Started (rows : List ℕ) (count end : ℕ) (backs outs comps backs′ outs′ comps′ : List ℕ) : Type 0 where
-  pub backs-new : RowSays backs′ 0 (λ i. i ≡ 0)
-  pub backs-length : length backs′ ≡ length backs
-  pub outs-new : RowSays outs′ 0 (Among count (λ y. InRow rows y end))
-  pub outs-length : length outs′ ≡ length outs
-  pub comps-new : RowSays comps′ 0 (Among count (λ y. InRow rows y end))
-  pub comps-length : length comps′ ≡ length comps
+-- Nothing is chosen: the rows of the empty string, and the nodes from which a string that vanishes leads to the end.
+pub record Started (rows : List ℕ) (count end : ℕ) (table leaving table′ leaving′ finishing : List ℕ) : Type 0 where
+  pub table-new : RowSays table′ 0 (λ i. i ≡ 0)
+  pub table-length : length table′ ≡ length table
+  pub leaving-new : RowSays leaving′ 0 (Among count (λ y. InRow rows y end))
+  pub leaving-length : length leaving′ ≡ length leaving
+  pub finishing-new : RowSays finishing 0 (Among count (λ y. InRow rows y end))
 
 -- What starting asks.
-pub record Startable (rows : List ℕ) (count : ℕ) (backs outs comps : List ℕ) : Type 0 where
+pub record Startable (rows : List ℕ) (count : ℕ) (table leaving : List ℕ) : Type 0 where
   pub rows-there : RowsThere rows count
-  pub backs-room : HasRow backs 0
-  pub outs-room : HasRow outs 0
-  pub comps-room : HasRow comps 0
+  pub table-room : HasRow table 0
+  pub leaving-room : HasRow leaving 0
 
--- r is the first of the slots from `from` to before `to` from whose node the prefix of n is finished, by some member of row n of `backs`; or
--- it is `to`, or more, where there is none.
-pub record FirstSlot (enters backs outs : List ℕ) (n from to r : ℕ) : Type 0 where
+-- The simple type at place j is chosen too: the table is that of the string with it, `leaving` has one row more, of the nodes from which it may
+-- be linked, and `finishing′` is made of both.
+pub record Grew (Le : Relation) (simples nexts rows : List ℕ) (count : ℕ) (string : List ℕ) (j : ℕ) (finishing leaving table′ leaving′ finishing′ : List ℕ) : Type 0 where
+  pub right : Right Le (stringOf string (j + 1)) table′ (j + 1)
+  pub leaving-new : RowSays leaving′ (j + 1) (Among count (ReachesLink Le simples nexts rows finishing count (getD string j 0)))
+  pub leaving-kept : (m : ℕ) → (m ≡ j + 1 → ⊥) → RowSays leaving′ m (InRow leaving m)
+  pub finishing-new : RowSays finishing′ 0 (LeftFor table′ leaving′ (j + 1))
+
+-- What growing asks.
+pub record Growable (Le : Relation) (simples nexts rows : List ℕ) (count : ℕ) (string : List ℕ) (j : ℕ) (table leaving : List ℕ) : Type 0 where
+  pub nodes : NodesThere simples nexts count
+  pub rows-there : RowsThere rows count
+  pub string-there : StringThere string (j + 1)
+  pub right : Right Le (stringOf string j) table j
+  pub table-room : HasRow table (j + 1)
+  pub leaving-room : (m : ℕ) → m ≤ j + 1 → HasRow leaving m
+
+-- r is the first of the slots from `from` to before `to` from whose node the prefix of n is finished; or it is `to`, or more, where there is
+-- none.
+pub record FirstSlot (enters table leaving : List ℕ) (n from to r : ℕ) : Type 0 where
   pub from-on : from ≤ r
-  pub found : r < to → SomePart (OutPart backs outs n) (getD enters r 0)
-  pub none : (s : ℕ) → from ≤ s → s < r → SomePart (OutPart backs outs n) (getD enters s 0) → ⊥
+  pub found : r < to → LeftFor table leaving n (getD enters r 0)
+  pub none : (s : ℕ) → from ≤ s → s < r → LeftFor table leaving n (getD enters s 0) → ⊥
 
 -- What the search asks.
-pub record Searchable (enters backs outs : List ℕ) (n to : ℕ) : Type 0 where
+pub record Searchable (enters table leaving : List ℕ) (n to : ℕ) : Type 0 where
   pub slots : to ≤ length enters
-  pub back-room : HasRow backs n
-  pub out-room : OutsThere backs outs n
+  pub table-room : HasRow table n
+  pub leaving-room : LeavingThere table leaving n

@@ -1,4 +1,4 @@
-// Sets of nodes and of places, gathered from rows.
+// Sets of nodes, gathered from rows.
 use bits::rows;
 use bits::rows::Row;
 use figures::limits::ROW_BITS;
@@ -6,13 +6,12 @@ use figures::limits::ROW_WORDS;
 ghost use mathlib.Core.Path.{_≡_};
 ghost use mathlib.Core.Logic.{_↔_, _⊎_};
 ghost use mathlib.Core.Bool.{true};
-ghost use Prim.Native.Nat.{_+_, _<_, _≤_};
+ghost use Prim.Native.Nat.{_<_};
 ghost use lib.ListN.{length};
-ghost use Rattle.pregroup.specs.Held.{InRows};
 ghost use Rattle.figures.specs.Limits.{rowBits, rowWords};
 ghost use Rattle.bits.specs.Rows.{InRow, HasRow, RowSays};
-ghost use Rattle.bits.specs.Gathered.{Gathered, Only};
-ghost use Rattle.choice.specs.Sets.{Among, Meets, RowsThere, LinksTo, NodeHeld, NodesHeld, BackLink, BackPart, PlacesHeld, PlacesUpTo, OutPart, OutsThere, SomePart};
+ghost use Rattle.pregroup.specs.Held.{InRows};
+ghost use Rattle.choice.specs.Sets.{Among, Meets, RowsThere, LinksTo, NodesThere, LeftFor, LeavingThere};
 
 // Puts v into the row where the flag says so.
 fn put_where(words: &mut [u64], v: usize, flag: bool)
@@ -69,125 +68,68 @@ pub(crate) fn reaching(rows: &[u64], count: usize, set: Row) -> Row
     Row { words }
 }
 
-// Whether u is simple, p may contract with it and the node behind it is in row j of `comps`.
+// Whether u is simple, x may contract with it and the node behind it is in the row `finishing`.
 fn links_to(
     order: &[u64],
-    bases: &[u8],
-    exponents: &[u8],
+    simples: &[u16],
     nexts: &[u16],
-    comps: &[u64],
-    j: usize,
-    p: usize,
+    finishing: &[u64],
+    x: u16,
     u: usize,
 ) -> bool
-    requires { ⌜ NodeHeld (now bases) (now exponents) p × NodeHeld (now bases) (now exponents) u ⌝ }
-    requires { ⌜ (u < length (now nexts)) × HasRow (now comps) j ⌝ }
+    requires { ⌜ (u < length (now simples)) × (u < length (now nexts)) ⌝ }
+    requires { ⌜ HasRow (now finishing) 0 ⌝ }
     ensures { λ r. ⌜ (r ≡ true)
-        ↔ LinksTo (InRows (now (order .entry))) (now (bases .entry)) (now (exponents .entry)) (now (nexts .entry)) (now (comps .entry)) j p u ⌝ }
+        ↔ LinksTo (InRows (now (order .entry))) (now (simples .entry)) (now (nexts .entry)) (now (finishing .entry)) x u ⌝ }
 {
     let next = nexts[u];
     if next == 0 {
         return false;
     }
-    if pregroup::may_contract(order, bases[p], exponents[p], bases[u], exponents[u]) {
-        return rows::member(comps, j, next as usize);
+    if pregroup::may_contract(order, x, simples[u]) {
+        return rows::member(finishing, 0, next as usize);
     }
     false
 }
 
-// The nodes below `count` that a simple type p, chosen behind a prefix of j, may be linked to: behind them that prefix is finished.
+// The nodes below `count` that a simple type x, chosen next, may be linked to: from behind them the string before it is finished.
 pub(crate) fn link_targets(
     order: &[u64],
-    bases: &[u8],
-    exponents: &[u8],
+    simples: &[u16],
     nexts: &[u16],
-    comps: &[u64],
-    j: usize,
+    finishing: Row,
     count: usize,
-    p: usize,
+    x: u16,
 ) -> Row
-    requires { ⌜ NodesHeld (now bases) (now exponents) (now nexts) count ⌝ }
-    requires { ⌜ (p < count) × HasRow (now comps) j ⌝ }
+    requires { ⌜ NodesThere (now simples) (now nexts) count ⌝ }
     ensures { λ r. ⌜ RowSays (r .words) 0 (Among count
-        (LinksTo (InRows (now (order .entry))) (now (bases .entry)) (now (exponents .entry)) (now (nexts .entry)) (now (comps .entry)) j p)) ⌝ }
+        (LinksTo (InRows (now (order .entry))) (now (simples .entry)) (now (nexts .entry)) (finishing .words) x)) ⌝ }
 {
+    let behind = finishing.words;
     let mut words = [0u64; ROW_WORDS];
     let mut u = 0;
     while u < count {
         put_where(
             &mut words,
             u,
-            links_to(order, bases, exponents, nexts, comps, j, p, u),
+            links_to(order, simples, nexts, &behind, x, u),
         );
         u += 1;
     }
     Row { words }
 }
 
-// The row with row m - 1 of `backs`, where the simple type at place m - 1 may contract with that at place j.
-fn back_join(
-    order: &[u64],
-    bases: &[u8],
-    exponents: &[u8],
-    picked: &[u16],
-    backs: &[u64],
-    row: Row,
-    j: usize,
-    m: usize,
-) -> Row
-    requires { ⌜ PlacesHeld (now bases) (now exponents) (now picked) (now backs) j ⌝ }
-    requires { ⌜ (0 < m) × (m ≤ j) ⌝ }
-    ensures { λ r. ⌜ RowSays (r .words) 0 (λ i. InRow (row .words) 0 i
-        ⊎ BackLink (InRows (now (order .entry))) (now (bases .entry)) (now (exponents .entry)) (now (picked .entry)) (now (backs .entry)) j m i) ⌝ }
-{
-    let earlier = picked[m - 1] as usize;
-    let later = picked[j] as usize;
-    if pregroup::may_contract(
-        order,
-        bases[earlier],
-        exponents[earlier],
-        bases[later],
-        exponents[later],
-    ) {
-        return rows::unite(row, backs, m - 1);
-    }
-    row
-}
-
-// The places from which the chosen string vanishes up to place j + 1, by those of the places before.
-pub(crate) fn back_row(
-    order: &[u64],
-    bases: &[u8],
-    exponents: &[u8],
-    picked: &[u16],
-    backs: &[u64],
-    j: usize,
-) -> Row
-    requires { ⌜ PlacesHeld (now bases) (now exponents) (now picked) (now backs) j ⌝ }
-    requires { ⌜ PlacesUpTo (now backs) j ⌝ }
-    ensures { λ r. ⌜ RowSays (r .words) 0 (Gathered (Only (j + 1))
-        (BackPart (InRows (now (order .entry))) (now (bases .entry)) (now (exponents .entry)) (now (picked .entry)) (now (backs .entry)) j)) ⌝ }
-{
-    let mut row = rows::put(rows::empty(), j + 1);
-    let mut m = rows::next_member(backs, j, 1);
-    while m < ROW_BITS {
-        row = back_join(order, bases, exponents, picked, backs, row, j, m);
-        m = rows::next_member(backs, j, m + 1);
-    }
-    row
-}
-
-// What the rows of `outs` have, for the members of row j of `backs`.
-pub(crate) fn finished_row(backs: &[u64], outs: &[u64], j: usize) -> Row
-    requires { ⌜ HasRow (now backs) j ⌝ }
-    requires { ⌜ OutsThere (now backs) (now outs) j ⌝ }
-    ensures { λ r. ⌜ RowSays (r .words) 0 (SomePart (OutPart (now (backs .entry)) (now (outs .entry)) j)) ⌝ }
+// What the rows of `leaving` have, for the members of row n of the table.
+pub(crate) fn finished_row(table: &[u64], leaving: &[u64], n: usize) -> Row
+    requires { ⌜ HasRow (now table) n ⌝ }
+    requires { ⌜ LeavingThere (now table) (now leaving) n ⌝ }
+    ensures { λ r. ⌜ RowSays (r .words) 0 (LeftFor (now (table .entry)) (now (leaving .entry)) n) ⌝ }
 {
     let mut row = rows::empty();
-    let mut m = rows::next_member(backs, j, 0);
+    let mut m = rows::next_member(table, n, 0);
     while m < ROW_BITS {
-        row = rows::unite(row, outs, m);
-        m = rows::next_member(backs, j, m + 1);
+        row = rows::unite(row, leaving, m);
+        m = rows::next_member(table, n, m + 1);
     }
     row
 }

@@ -31,3 +31,8 @@ pub const MAX_NODES: usize = MAX_WORDS + MAX_LINE_SIMPLES + 3;
 pub const ROW_WORDS: usize = (MAX_NODES + 63) / 64;
 
 pub const ROW_BITS: usize = 64 * ROW_WORDS;
+
+// How many words the rows of all nodes take, and those of all places of a string and of the one behind the last.
+pub const CHART_WORDS: usize = MAX_NODES * ROW_WORDS;
+
+pub const TABLE_WORDS: usize = (MAX_PLACES + 1) * ROW_WORDS;

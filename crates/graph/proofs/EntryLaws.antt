@@ -18,7 +18,8 @@ use Rattle.line.proofs.LookUpLaws.{simples-length}
 use Rattle.line.proofs.FoundLaws.{onward, onward-next, onward-end}
 use Rattle.graph.specs.Graph.{Graph, Boundary, Spells}
 use Rattle.graph.specs.Layout.{hasNone, slotted, Slots, slot}
-use Rattle.graph.specs.Cells.{maxNodes, Cells, cells, nodes, cellsGraph, Continues, Typed, Placed, Lays, SlotFits, EntriesFit}
+use Rattle.figures.specs.Limits.{maxNodes}
+use Rattle.graph.specs.Cells.{Cells, cells, nodes, cellsGraph, Continues, Typed, Placed, Lays, SlotFits, EntriesFit}
 use Rattle.graph.specs.declared.Place.{Place}
 use Rattle.graph.proofs.TypeLaws.{SameNode, entry-later, continues-back, kept-here, same-set}
 
@@ -113,14 +114,14 @@ module _ (part : Bytes) (number b : ℕ) (p : Place) (c : Cells) (f : SlotFits p
           let e : false && seen ≡ true = rw (some-long n) at h in
           absurd (false≢true e)
 
-  module _ (taken : eqb (length part) 0 && p .seen ≡ false) (bases exponents nexts : List ℕ)
-      (bases-length : length bases ≡ length (c .bases)) (exponents-length : length exponents ≡ length (c .exponents)) (nexts-length : length nexts ≡ length (c .nexts))
-      (first : ℕ) (t : Typed part (p .node) b (nodes (c .bases) (c .exponents) (c .nexts)) (nodes bases exponents nexts) first) where
+  module _ (taken : eqb (length part) 0 && p .seen ≡ false) (simples nexts : List ℕ)
+      (simples-kept : length simples ≡ length (c .simples)) (nexts-kept : length nexts ≡ length (c .nexts))
+      (first : ℕ) (t : Typed part (p .node) b (nodes (c .simples) (c .nexts)) (nodes simples nexts) first) where
     abbrev p′ : Place
     p′ = record { node = p .node + length part / 2; slot = p .slot + 1; seen = eqb (length part) 0 || p .seen }
 
     abbrev c′ : Cells
-    c′ = cells bases exponents nexts (set (c .enters) (p .slot) first) (set (c .numbers) (p .slot) number)
+    c′ = cells simples nexts (set (c .enters) (p .slot) first) (set (c .numbers) (p .slot) number)
 
     -- There is a slot left: an empty type takes the one that the word has to spare.
     room : (p .slot < p .node + length part / 2) × (p′ .seen ≡ false → p .slot + 1 < p .node + length part / 2)
@@ -145,8 +146,7 @@ module _ (part : Bytes) (number b : ℕ) (p : Place) (c : Cells) (f : SlotFits p
           spare = λ e. room .1 e;
           inside = f .fits;
           small = f .placed .small;
-          bases-room = omega (arith, f .placed .bases-room);
-          exponents-room = omega (arith, f .placed .exponents-room);
+          simples-room = omega (arith, f .placed .simples-room);
           nexts-room = omega (arith, f .placed .nexts-room);
           enters-room = omega (arith, f .placed .enters-room, length-set (c .enters) (p .slot) first);
           numbers-room = omega (arith, f .placed .numbers-room, length-set (c .numbers) (p .slot) number);
@@ -168,16 +168,15 @@ module _ (part : Bytes) (number b : ℕ) (p : Place) (c : Cells) (f : SlotFits p
         let spelt : Spells g first (simplesOf part) b = entry-later (t .spelt) (λ x q. node x (t .up x q .0)) boundary in
         rw order (slot {e = entry} number′ (rw enters spelt) s)
       where
-        node : (x : ℕ) → x < p′ .node → SameNode (cellsGraph (nodes bases exponents nexts)) g x
-        node x h = record { base = k .bases x h; exponent = k .exponents x h; next = k .nexts x h }
+        node : (x : ℕ) → x < p′ .node → SameNode (cellsGraph (nodes simples nexts)) g x
+        node x h = record { label = k .simples x h; next = k .nexts x h }
 
     pub slot-taken : (rest : List NumberedEntry) → Lays b p c p′ c′ (entry ∷ rest) rest
     slot-taken rest =
         record {
           slots = slots′ rest;
           kept = record {
-            bases = t .kept .bases;
-            exponents = t .kept .exponents;
+            simples = t .kept .simples;
             nexts = t .kept .nexts;
             enters = same-set (p .slot) (c .enters) (c .enters) (p .slot) first (omega arith) (λ y h. refl);
             numbers = same-set (p .slot) (c .numbers) (c .numbers) (p .slot) number (omega arith) (λ y h. refl);
@@ -198,8 +197,7 @@ module _ (bytes : Bytes) (offsets found : List ℕ) (n b : ℕ) (p : Place) (c :
   pub record Entering (place : Place) (c′ : Cells) (k : ℕ) : Type 0 where
     pub inside : k ≤ n
     pub lays : Lays b p c place c′ (entriesAt bytes offsets found n) (onward bytes offsets found n k)
-    pub bases-length : length (c′ .bases) ≡ length (c .bases)
-    pub exponents-length : length (c′ .exponents) ≡ length (c .exponents)
+    pub simples-length : length (c′ .simples) ≡ length (c .simples)
     pub nexts-length : length (c′ .nexts) ≡ length (c .nexts)
     pub enters-length : length (c′ .enters) ≡ length (c .enters)
     pub numbers-length : length (c′ .numbers) ≡ length (c .numbers)
@@ -210,8 +208,7 @@ module _ (bytes : Bytes) (offsets found : List ℕ) (n b : ℕ) (p : Place) (c :
         record {
           inside = omega arith;
           lays = lays-same b p c (entriesAt bytes offsets found n) (entriesAt bytes offsets found n) (f .placed) refl refl;
-          bases-length = refl;
-          exponents-length = refl;
+          simples-length = refl;
           nexts-length = refl;
           enters-length = refl;
           numbers-length = refl;

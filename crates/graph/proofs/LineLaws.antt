@@ -2,14 +2,14 @@
 use Prim.Native.Nat.{ℕ, _+_, _≤_, _<_}
 use native.Mathlib.Omega.{arith}
 use native.Mathlib.Decide.{ℕ-discrete}
-use mathlib.Core.Path.{_≡_, refl, sym, ap, ap₂, subst, _∙_}
+use mathlib.Core.Path.{_≡_, refl, sym, ap, subst, _∙_}
 use mathlib.Core.Bool.{false}
 use mathlib.Core.List.{List, [], _∷_, map}
-use lib.IntN.{ℤ, pos, _-ℤ_}
+use lib.IntN.{pos}
 use lib.ListN.{length, getD, drop, set, length-set, length-map}
 use lib.Seq.{getD-set-same, getD-set-other}
 use Rattle.pregroup.specs.Types.{Basic, _⁽_⁾}
-use Rattle.pregroup.specs.Held.{bias}
+use Rattle.pregroup.specs.Held.{held}
 use Rattle.linking.specs.Reading.{NumberedEntry, Words}
 use Rattle.book.specs.Format.{Bytes, Book, Entry, exponentOf}
 use Rattle.line.specs.LineWords.{Word, wordsOf}
@@ -19,7 +19,8 @@ use Rattle.line.specs.Split.{wordAt}
 use Rattle.line.proofs.LineLaws.{simples-cons, words-length, words-at, none-left}
 use Rattle.graph.specs.Graph.{Labelled, Upward, Spells, ended, more}
 use Rattle.graph.specs.Layout.{Laid, goal}
-use Rattle.graph.specs.Cells.{maxNodes, cells, Edges, entriesOfWord}
+use Rattle.figures.specs.Limits.{maxNodes}
+use Rattle.graph.specs.Cells.{cells, Edges, entriesOfWord}
 use Rattle.graph.specs.Lists.{Lists, lists, graphOf, Follows, Standing, Lined, entriesOfWords, WordFits, WordsFit, Ended, LineFits, LaidOut}
 use Rattle.graph.specs.declared.Place.{Place}
 use Rattle.graph.proofs.TypeLaws.{same-set, no-edge}
@@ -39,8 +40,7 @@ module _ (bytes : Bytes) (offsets : List ℕ) (count : ℕ) (line : Bytes) (star
   pub record Lining (place : Place) (l′ : Lists) (k : ℕ) : Type 0 where
     pub inside : k ≤ words
     pub lined : Lined p l place l′ (words-from 0) (words-from k)
-    pub bases-length : length (l′ .cells .bases) ≡ length (l .cells .bases)
-    pub exponents-length : length (l′ .cells .exponents) ≡ length (l .cells .exponents)
+    pub simples-length : length (l′ .cells .simples) ≡ length (l .cells .simples)
     pub nexts-length : length (l′ .cells .nexts) ≡ length (l .cells .nexts)
     pub froms-length : length (l′ .froms) ≡ length (l .froms)
     pub tos-length : length (l′ .tos) ≡ length (l .tos)
@@ -53,8 +53,7 @@ module _ (bytes : Bytes) (offsets : List ℕ) (count : ℕ) (line : Bytes) (star
         record {
           inside = omega arith;
           lined = lined-here p l (words-from 0) (n .standing);
-          bases-length = refl;
-          exponents-length = refl;
+          simples-length = refl;
           nexts-length = refl;
           froms-length = refl;
           tos-length = refl;
@@ -97,7 +96,7 @@ module _ (bytes : Bytes) (offsets : List ℕ) (count : ℕ) (line : Bytes) (star
           lined-then (s .lined) (subst (λ (ws : Words). Lined place l′ place′ l″ ws (words-from (k + 1))) (sym words-here) (t (words-from (k + 1))))
 
 -- Lists that are filled up to a last boundary are a graph that goes up.
-pub standing-upward : (p : Place) (l : Lists) → Standing p l → p .node + 1 < maxNodes → Upward (graphOf (p .node + 1) l)
+pub standing-upward : (p : Place) (l : Lists) → Standing p l → p .node + 1 ≤ maxNodes → Upward (graphOf (p .node + 1) l)
 standing-upward p l s h =
     record {
       few = omega arith;
@@ -106,16 +105,15 @@ standing-upward p l s h =
           let e = s .enters-up u y (q .from-on) (q .before) in
           (omega (arith, e .0, q .entered), omega (arith, e .1, q .entered));
       slots-there = λ u a. omega (arith, s .tos-low u, s .few, s .room .enters);
-      bases-there = omega (arith, s .room .bases);
-      exponents-there = omega (arith, s .room .exponents);
+      simples-there = omega (arith, s .room .simples);
       nexts-there = omega (arith, s .room .nexts);
       froms-there = omega (arith, s .room .froms);
       tos-there = omega (arith, s .room .tos);
     }
 
 -- The target behind the last word.
-module _ (target : Basic) (p : Place) (l : Lists) (s : Standing p l) (fits : p .node + 3 < maxNodes)
-    (raised : ℕ) (right : pos raised -ℤ pos bias ≡ exponentOf 1) where
+module _ (target : Basic) (p : Place) (l : Lists) (s : Standing p l) (fits : p .node + 3 ≤ maxNodes)
+    (simple : ℕ) (right : held simple ≡ target ⁽ exponentOf 1 ⁾) where
   abbrev adjoint : ℕ
   adjoint = p .node + 1
 
@@ -134,8 +132,7 @@ module _ (target : Basic) (p : Place) (l : Lists) (s : Standing p l) (fits : p .
   abbrev l′ : Lists
   l′ =
       lists
-      (set (l .cells .bases) adjoint target)
-      (set (l .cells .exponents) adjoint raised)
+      (set (l .cells .simples) adjoint simple)
       nexts′
       (set (l .froms) (p .node) (p .slot))
       (set (l .tos) (p .node) (p .slot + 1))
@@ -169,8 +166,7 @@ module _ (target : Basic) (p : Place) (l : Lists) (s : Standing p l) (fits : p .
       record {
         few = omega (arith, s .few);
         room = record {
-          bases = omega (arith, s .room .bases, length-set (l .cells .bases) adjoint target);
-          exponents = omega (arith, s .room .exponents, length-set (l .cells .exponents) adjoint raised);
+          simples = omega (arith, s .room .simples, length-set (l .cells .simples) adjoint simple);
           nexts = omega (arith, s .room .nexts, length-set (l .cells .nexts) adjoint end);
           froms = omega (arith, s .room .froms, length-set (l .froms) (p .node) (p .slot));
           tos = omega (arith, s .room .tos, length-set (l .tos) (p .node) (p .slot + 1));
@@ -194,10 +190,7 @@ module _ (target : Basic) (p : Place) (l : Lists) (s : Standing p l) (fits : p .
       labelled =
           record {
             simple = omega (arith, nexts-here);
-            label =
-                ap₂ (λ (a : ℕ) (z : ℤ). a ⁽ z ⁾)
-                (sym (getD-set-same (l .cells .bases) adjoint target 0 (omega (arith, s .room .bases))))
-                (sym right ∙ ap (λ (m : ℕ). pos m -ℤ pos bias) (sym (getD-set-same (l .cells .exponents) adjoint raised 0 (omega (arith, s .room .exponents)))));
+            label = sym right ∙ ap held (sym (getD-set-same (l .cells .simples) adjoint simple 0 (omega (arith, s .room .simples))));
             next = sym nexts-here;
           }
 
@@ -214,8 +207,7 @@ module _ (target : Basic) (p : Place) (l : Lists) (s : Standing p l) (fits : p .
         nodes = refl;
         kept = record {
           cells = record {
-            bases = same-set (p .node) (l .cells .bases) (l .cells .bases) adjoint target (omega arith) (λ x h. refl);
-            exponents = same-set (p .node) (l .cells .exponents) (l .cells .exponents) adjoint raised (omega arith) (λ x h. refl);
+            simples = same-set (p .node) (l .cells .simples) (l .cells .simples) adjoint simple (omega arith) (λ x h. refl);
             nexts = same-set (p .node) (l .cells .nexts) (l .cells .nexts) adjoint end (omega arith) (λ x h. refl);
             enters = kept;
             numbers = λ y h. refl;
@@ -273,16 +265,15 @@ module _ (bytes : Bytes) (offsets : List ℕ) (count : ℕ) (line : Bytes) (star
 
     -- The target needs no entry numbers.
     abbrev without : Lists → Lists
-    without m = lists (m .cells .bases) (m .cells .exponents) (m .cells .nexts) (m .froms) (m .tos) (m .cells .enters) []
+    without m = lists (m .cells .simples) (m .cells .nexts) (m .froms) (m .tos) (m .cells .enters) []
 
-    pub out-standing : Standing last (without l′) × (last .node + 3 < maxNodes)
+    pub out-standing : Standing last (without l′) × (last .node + 3 ≤ maxNodes)
     out-standing =
         let s = t .standing in (
           record {
             few = s .few;
             room = record {
-              bases = s .room .bases;
-              exponents = s .room .exponents;
+              simples = s .room .simples;
               nexts = s .room .nexts;
               froms = s .room .froms;
               tos = s .room .tos;
@@ -301,8 +292,7 @@ module _ (bytes : Bytes) (offsets : List ℕ) (count : ℕ) (line : Bytes) (star
       follows =
           record {
             cells = record {
-              bases = e .kept .cells .bases;
-              exponents = e .kept .cells .exponents;
+              simples = e .kept .cells .simples;
               nexts = e .kept .cells .nexts;
               enters = e .kept .cells .enters;
               numbers = λ y h. ap (λ (m : List ℕ). getD {A = ℕ} m y 0) same;

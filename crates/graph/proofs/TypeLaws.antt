@@ -2,24 +2,23 @@
 use Prim.Native.Nat.{ℕ, zero, suc, _+_, _-_, _*_, _/_, _%_, _≤_, _<_}
 use native.Mathlib.Omega.{arith}
 use native.Mathlib.Decide.{ℕ-discrete}
-use mathlib.Core.Path.{_≡_, refl, sym, ap, ap₂, _∙_}
+use mathlib.Core.Path.{_≡_, refl, sym, ap, _∙_}
 use mathlib.Core.Bool.{true}
 use mathlib.Core.List.{List, _∷_}
-use lib.IntN.{ℤ, pos, _-ℤ_}
 use lib.ListN.{length, getD, drop, set, length-set, drop-of-length-le}
 use lib.Seq.{getD-set-same, getD-set-other}
-use Rattle.pregroup.specs.Types.{PregroupType, _⁽_⁾}
-use Rattle.pregroup.specs.Held.{bias, held}
+use Rattle.pregroup.specs.Types.{PregroupType}
+use Rattle.pregroup.specs.Held.{held}
 use Rattle.book.specs.Format.{Bytes, simplesOf, exponentOf, exponentListed}
 use Rattle.book.proofs.Simples.{simpleAt, simples-step}
 use Rattle.graph.specs.Graph.{Graph, Labelled, labelOf, Boundary, Spells, ended, more}
-use Rattle.graph.specs.Cells.{maxNodes, Cells, cells, cellsGraph, Same, Continues, Kept, Edges, TypeFits, Typed}
+use Rattle.figures.specs.Limits.{maxNodes}
+use Rattle.graph.specs.Cells.{Cells, cells, cellsGraph, Same, Continues, Kept, Edges, TypeFits, Typed}
 use Rattle.graph.proofs.RaiseLaws.{listed-at}
 
 -- Another graph has the same simple type on a node.
 pub record SameNode (g h : Graph) (x : ℕ) : Type 0 where
-  pub base : getD {A = ℕ} (h .bases) x 0 ≡ getD {A = ℕ} (g .bases) x 0
-  pub exponent : getD {A = ℕ} (h .exponents) x 0 ≡ getD {A = ℕ} (g .exponents) x 0
+  pub label : getD {A = ℕ} (h .simples) x 0 ≡ getD {A = ℕ} (g .simples) x 0
   pub next : getD {A = ℕ} (h .nexts) x 0 ≡ getD {A = ℕ} (g .nexts) x 0
 
 -- An entry is spelt by every graph that has the same simple types, and the boundary.
@@ -30,7 +29,7 @@ entry-later (ended b) same boundary = ended boundary
 entry-later {g} {h} (more {u = u} {n = n} {x = x} l e) same boundary =
     let s = same u (l .simple) in
     let nx = s .next in
-    let label : x ≡ labelOf h u = l .label ∙ ap₂ held (sym (s .base)) (sym (s .exponent)) in
+    let label : x ≡ labelOf h u = l .label ∙ ap held (sym (s .label)) in
     let labelled : Labelled h u x n = record { simple = omega (arith, l .simple); label = label; next = l .next ∙ sym nx } in
     more labelled (entry-later e same boundary)
 
@@ -39,15 +38,14 @@ pub continues-back :
     {n s n′ s′ : ℕ} {c c′ : Cells} {g : Graph} {ns : List ℕ} → Kept n s c c′ → Continues n′ s′ c′ g ns → n ≤ n′ → s ≤ s′ → Continues n s c g ns
 continues-back k k′ h i =
     record {
-      bases = λ x a. k′ .bases x (omega arith) ∙ k .bases x a;
-      exponents = λ x a. k′ .exponents x (omega arith) ∙ k .exponents x a;
+      simples = λ x a. k′ .simples x (omega arith) ∙ k .simples x a;
       nexts = λ x a. k′ .nexts x (omega arith) ∙ k .nexts x a;
       enters = λ y a. k′ .enters y (omega arith) ∙ k .enters y a;
       numbers = λ y a. k′ .numbers y (omega arith) ∙ k .numbers y a;
     }
 
 pub kept-here : (n s : ℕ) (c : Cells) → Kept n s c c
-kept-here n s c = record { bases = λ x h. refl; exponents = λ x h. refl; nexts = λ x h. refl; enters = λ y h. refl; numbers = λ y h. refl }
+kept-here n s c = record { simples = λ x h. refl; nexts = λ x h. refl; enters = λ y h. refl; numbers = λ y h. refl }
 
 -- What continues the cells far continues them less far.
 pub continues-less : {n s n′ s′ : ℕ} {c : Cells} {g : Graph} {ns : List ℕ} → Continues n′ s′ c g ns → n ≤ n′ → s ≤ s′ → Continues n s c g ns
@@ -74,8 +72,7 @@ pub record Typing (part : Bytes) (node b : ℕ) (c₀ c : Cells) (first i : ℕ)
   pub spelt : Spells (cellsGraph c) first (simplesOf (drop i part)) b
   pub low : node + i / 2 ≤ first
   pub high : first ≤ b
-  pub bases-length : length (c .bases) ≡ length (c₀ .bases)
-  pub exponents-length : length (c .exponents) ≡ length (c₀ .exponents)
+  pub simples-length : length (c .simples) ≡ length (c₀ .simples)
   pub nexts-length : length (c .nexts) ≡ length (c₀ .nexts)
 
 module _ (part : Bytes) (node b : ℕ) (c₀ : Cells) (t : TypeFits part node b c₀) where
@@ -93,8 +90,7 @@ module _ (part : Bytes) (node b : ℕ) (c₀ : Cells) (t : TypeFits part node b 
         spelt = rw (drop-of-length-le part {i = length part} (omega arith)) (ended (no-next b (omega (arith, t .fits))));
         low = t .fits;
         high = omega arith;
-        bases-length = refl;
-        exponents-length = refl;
+        simples-length = refl;
         nexts-length = refl;
       }
 
@@ -125,12 +121,9 @@ module _ (part : Bytes) (node b : ℕ) (c₀ : Cells) (t : TypeFits part node b 
         let e : 2 * ((i - 2) / 2) + 1 ≡ i - 2 + 1 = omega (arith, two, s .even) in
         rw e at (listed-at part (t .pairs) (t .listed) ((i - 2) / 2) (omega (arith, e, type-inside .0)))
 
-    module _ (raised : ℕ) (right : pos raised -ℤ pos bias ≡ exponentOf (getD {A = ℕ} part (i - 2 + 1) 0)) where
-      abbrev base : ℕ
-      base = getD {A = ℕ} part (i - 2) 0
-
+    module _ (simple : ℕ) (right : held simple ≡ simpleAt part (i - 2)) where
       abbrev c′ : Cells
-      c′ = cells (set (c .bases) at base) (set (c .exponents) at raised) (set (c .nexts) at first) (c .enters) (c .numbers)
+      c′ = cells (set (c .simples) at simple) (set (c .nexts) at first) (c .enters) (c .numbers)
 
       free : getD {A = ℕ} (c .nexts) at 0 ≡ 0
       free = s .kept .nexts at (omega (arith, two)) ∙ no-next at (omega arith)
@@ -145,8 +138,7 @@ module _ (part : Bytes) (node b : ℕ) (c₀ : Cells) (t : TypeFits part node b 
           go (yes e) = let z : getD {A = ℕ} (c .nexts) x 0 ≡ 0 = ap (λ (k : ℕ). getD {A = ℕ} (c .nexts) k 0) e ∙ free in absurd (omega arith)
           go (no d) =
               record {
-                base = getD-set-other (c .bases) at x base 0 d;
-                exponent = getD-set-other (c .exponents) at x raised 0 d;
+                label = getD-set-other (c .simples) at x simple 0 d;
                 next = getD-set-other (c .nexts) at x first 0 d;
               }
 
@@ -167,9 +159,7 @@ module _ (part : Bytes) (node b : ℕ) (c₀ : Cells) (t : TypeFits part node b 
           record {
             simple = omega (arith, nexts-here, type-inside .2);
             label =
-                ap₂ (λ (a : ℕ) (z : ℤ). a ⁽ z ⁾)
-                (sym (getD-set-same (c .bases) at base 0 (omega (arith, type-inside .1, s .bases-length, t .bases-room))))
-                (sym right ∙ ap (λ (m : ℕ). pos m -ℤ pos bias) (sym (getD-set-same (c .exponents) at raised 0 (omega (arith, type-inside .1, s .exponents-length, t .exponents-room)))));
+                sym right ∙ ap held (sym (getD-set-same (c .simples) at simple 0 (omega (arith, type-inside .1, s .simples-length, t .simples-room))));
             next = sym nexts-here;
           }
 
@@ -184,8 +174,7 @@ module _ (part : Bytes) (node b : ℕ) (c₀ : Cells) (t : TypeFits part node b 
             even = omega (arith, two, s .even);
             inside = omega (arith, s .inside);
             kept = record {
-              bases = same-set at (c₀ .bases) (c .bases) at base (omega arith) (λ x h. s .kept .bases x (omega (arith, two)));
-              exponents = same-set at (c₀ .exponents) (c .exponents) at raised (omega arith) (λ x h. s .kept .exponents x (omega (arith, two)));
+              simples = same-set at (c₀ .simples) (c .simples) at simple (omega arith) (λ x h. s .kept .simples x (omega (arith, two)));
               nexts = same-set at (c₀ .nexts) (c .nexts) at first (omega arith) (λ x h. s .kept .nexts x (omega (arith, two)));
               enters = s .kept .enters;
               numbers = s .kept .numbers;
@@ -194,7 +183,6 @@ module _ (part : Bytes) (node b : ℕ) (c₀ : Cells) (t : TypeFits part node b 
             spelt = rw step (more labelled (entry-later (s .spelt) others boundary));
             low = omega arith;
             high = omega (arith, type-inside .2, s .high);
-            bases-length = length-set (c .bases) at base ∙ s .bases-length;
-            exponents-length = length-set (c .exponents) at raised ∙ s .exponents-length;
+            simples-length = length-set (c .simples) at simple ∙ s .simples-length;
             nexts-length = length-set (c .nexts) at first ∙ s .nexts-length;
           }

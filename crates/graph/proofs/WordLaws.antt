@@ -13,7 +13,8 @@ use Rattle.line.specs.LineFaults.{simplesIn}
 use Rattle.line.proofs.LineLaws.{simples-cons}
 use Rattle.graph.specs.Graph.{Graph, Boundary}
 use Rattle.graph.specs.Layout.{slotted, Slots, none, slot, Laid, goal, word}
-use Rattle.graph.specs.Cells.{maxNodes, Cells, cells, Same, Continues, Placed, Lays}
+use Rattle.figures.specs.Limits.{maxNodes}
+use Rattle.graph.specs.Cells.{Cells, cells, Same, Continues, Placed, Lays}
 use Rattle.graph.specs.Lists.{Lists, graphOf, Follows, Standing, Lined}
 use Rattle.graph.specs.declared.Place.{Place}
 use Rattle.graph.proofs.TypeLaws.{continues-back, continues-less, same-set, no-edge}
@@ -25,7 +26,7 @@ laid-boundary (word b slots rest) = b
 -- The lists' own graph is as the lists say.
 pub continues-lists : (n s count : ℕ) (l : Lists) → Continues n s (l .cells) (graphOf count l) (l .cells .numbers)
 continues-lists n s count l =
-    record { bases = λ x h. refl; exponents = λ x h. refl; nexts = λ x h. refl; enters = λ y h. refl; numbers = λ y h. refl }
+    record { simples = λ x h. refl; nexts = λ x h. refl; enters = λ y h. refl; numbers = λ y h. refl }
 
 -- One step behind another.
 pub follows-back :
@@ -34,8 +35,7 @@ pub follows-back :
 follows-back f f′ h i =
     record {
       cells = record {
-        bases = λ x a. f′ .cells .bases x (omega arith) ∙ f .cells .bases x a;
-        exponents = λ x a. f′ .cells .exponents x (omega arith) ∙ f .cells .exponents x a;
+        simples = λ x a. f′ .cells .simples x (omega arith) ∙ f .cells .simples x a;
         nexts = λ x a. f′ .cells .nexts x (omega arith) ∙ f .cells .nexts x a;
         enters = λ y a. f′ .cells .enters y (omega arith) ∙ f .cells .enters y a;
         numbers = λ y a. f′ .cells .numbers y (omega arith) ∙ f .cells .numbers y a;
@@ -120,8 +120,7 @@ module _ (p : Place) (l : Lists) (s : Standing p l) (numbers-room : maxNodes ≤
         spare = λ e. omega (arith, s .few);
         inside = omega arith;
         small = small;
-        bases-room = s .room .bases;
-        exponents-room = s .room .exponents;
+        simples-room = s .room .simples;
         nexts-room = s .room .nexts;
         enters-room = s .room .enters;
         numbers-room = numbers-room;
@@ -169,8 +168,7 @@ module _ (p : Place) (l : Lists) (s : Standing p l) (numbers-room : maxNodes ≤
         record {
           few = omega (arith, t .placed .few, all-laid);
           room = record {
-            bases = t .placed .bases-room;
-            exponents = t .placed .exponents-room;
+            simples = t .placed .simples-room;
             nexts = t .placed .nexts-room;
             froms = omega (arith, s .room .froms, length-set (l .froms) (p .node) (p .slot));
             tos = omega (arith, s .room .tos, length-set (l .tos) (p .node) (last .slot));

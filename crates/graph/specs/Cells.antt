@@ -5,6 +5,7 @@ use mathlib.Core.Path.{_≡_}
 use mathlib.Core.Bool.{true, false}
 use mathlib.Core.List.{List, []}
 use lib.ListN.{length, getD}
+use Rattle.figures.specs.Limits.{maxNodes, maxEntries}
 use Rattle.linking.specs.Reading.{NumberedEntry}
 use Rattle.book.specs.Format.{Bytes, bodyAt, typePart, simplesOf, every, exponents, exponentListed}
 use Rattle.line.specs.LineFaults.{entriesFrom, simplesIn}
@@ -13,27 +14,22 @@ use Rattle.graph.specs.Graph.{Graph, graph, Boundary, Spells}
 use Rattle.graph.specs.Layout.{Slots, slotted}
 use Rattle.graph.specs.declared.Place.{Place}
 
--- Room in each list: 24 boundaries and 512 simple types, then the last boundary, the target and the end make 539 nodes.
-abbrev pub maxNodes : ℕ
-maxNodes = 540
-
 -- The lists of nodes and slots.
 pub record Cells : Type 0 where
-  pub bases : List ℕ
-  pub exponents : List ℕ
+  pub simples : List ℕ
   pub nexts : List ℕ
   pub enters : List ℕ
   pub numbers : List ℕ
 
-abbrev pub cells : List ℕ → List ℕ → List ℕ → List ℕ → List ℕ → Cells
-cells b e x i n = record { bases = b; exponents = e; nexts = x; enters = i; numbers = n }
+abbrev pub cells : List ℕ → List ℕ → List ℕ → List ℕ → Cells
+cells s x i n = record { simples = s; nexts = x; enters = i; numbers = n }
 
 -- The nodes alone, for what has nothing to do with slots.
-abbrev pub nodes : List ℕ → List ℕ → List ℕ → Cells
-nodes b e x = cells b e x [] []
+abbrev pub nodes : List ℕ → List ℕ → Cells
+nodes s x = cells s x [] []
 
 abbrev pub cellsGraph : Cells → Graph
-cellsGraph c = graph 0 (c .bases) (c .exponents) (c .nexts) [] [] (c .enters)
+cellsGraph c = graph 0 (c .simples) (c .nexts) [] [] (c .enters)
 
 -- The same below n.
 abbrev pub Same : ℕ → List ℕ → List ℕ → Type 0
@@ -41,8 +37,7 @@ Same n l l′ = (x : ℕ) → x < n → getD {A = ℕ} l′ x 0 ≡ getD {A = �
 
 -- A graph and its entry numbers are as the cells say, on the nodes below n and the slots below s.
 pub record Continues (n s : ℕ) (c : Cells) (g : Graph) (ns : List ℕ) : Type 0 where
-  pub bases : Same n (c .bases) (g .bases)
-  pub exponents : Same n (c .exponents) (g .exponents)
+  pub simples : Same n (c .simples) (g .simples)
   pub nexts : Same n (c .nexts) (g .nexts)
   pub enters : Same s (c .enters) (g .enters)
   pub numbers : Same s (c .numbers) ns
@@ -65,8 +60,7 @@ pub record TypeFits (part : Bytes) (node b : ℕ) (c : Cells) : Type 0 where
   pub listed : Listed part
   pub fits : node + length part / 2 ≤ b
   pub small : b < maxNodes
-  pub bases-room : maxNodes ≤ length (c .bases)
-  pub exponents-room : maxNodes ≤ length (c .exponents)
+  pub simples-room : maxNodes ≤ length (c .simples)
   pub nexts-room : maxNodes ≤ length (c .nexts)
   pub up : Edges (c .nexts) node b
 
@@ -84,8 +78,7 @@ pub record Placed (b : ℕ) (p : Place) (c : Cells) : Type 0 where
   pub spare : p .seen ≡ false → p .slot < p .node
   pub inside : p .node ≤ b
   pub small : b < maxNodes
-  pub bases-room : maxNodes ≤ length (c .bases)
-  pub exponents-room : maxNodes ≤ length (c .exponents)
+  pub simples-room : maxNodes ≤ length (c .simples)
   pub nexts-room : maxNodes ≤ length (c .nexts)
   pub enters-room : maxNodes ≤ length (c .enters)
   pub numbers-room : maxNodes ≤ length (c .numbers)
@@ -107,7 +100,7 @@ pub record SlotFits (part : Bytes) (number b : ℕ) (p : Place) (c : Cells) : Ty
   pub pairs : length part % 2 ≡ 0
   pub listed : Listed part
   pub fits : p .node + length part / 2 ≤ b
-  pub low : number ≤ 1024
+  pub low : number ≤ maxEntries
   pub placed : Placed b p c
 
 -- The entries that are kept of a book, with exponents from −8 to 8.

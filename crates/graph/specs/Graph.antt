@@ -10,23 +10,21 @@ use Rattle.pregroup.specs.Vanish.{Vanish}
 use Rattle.pregroup.specs.Held.{held}
 use Rattle.figures.specs.Limits.{rowBits}
 
--- The lists that the code holds. Node u is a boundary where its `nexts` is 0, and otherwise a simple type, held as `bases` and `exponents`
--- say. Boundary u enters `enters` of each slot from its `froms` to before its `tos`.
+-- The lists that the code holds. Node u is a boundary where its `nexts` is 0, and otherwise a simple type, held in `simples`. Boundary u enters `enters` of each slot from its `froms` to before its `tos`.
 pub record Graph : Type 0 where
   pub count : ℕ
-  pub bases : List ℕ
-  pub exponents : List ℕ
+  pub simples : List ℕ
   pub nexts : List ℕ
   pub froms : List ℕ
   pub tos : List ℕ
   pub enters : List ℕ
 
-abbrev pub graph : ℕ → List ℕ → List ℕ → List ℕ → List ℕ → List ℕ → List ℕ → Graph
-graph n b e x f t i = record { count = n; bases = b; exponents = e; nexts = x; froms = f; tos = t; enters = i }
+abbrev pub graph : ℕ → List ℕ → List ℕ → List ℕ → List ℕ → List ℕ → Graph
+graph n s x f t i = record { count = n; simples = s; nexts = x; froms = f; tos = t; enters = i }
 
 -- The simple type of a node, for a node that has one.
 abbrev pub labelOf : Graph → ℕ → Simple
-labelOf g u = held (getD (g .bases) u 0) (getD (g .exponents) u 0)
+labelOf g u = held (getD (g .simples) u 0)
 
 -- u is simple with the label x, and n is the node behind it.
 pub record Labelled (g : Graph) (u : ℕ) (x : Simple) (n : ℕ) : Type 0 where
@@ -51,8 +49,7 @@ pub record Upward (g : Graph) : Type 0 where
   pub nexts-up : (u : ℕ) → u < g .count → 0 < getD (g .nexts) u 0 → (u < getD (g .nexts) u 0) × (getD (g .nexts) u 0 < g .count)
   pub enters-up : (u s v : ℕ) → u < g .count → EntersBy g u s v → (u < v) × (v < g .count)
   pub slots-there : (u : ℕ) → u < g .count → getD (g .tos) u 0 ≤ length (g .enters)
-  pub bases-there : g .count ≤ length (g .bases)
-  pub exponents-there : g .count ≤ length (g .exponents)
+  pub simples-there : g .count ≤ length (g .simples)
   pub nexts-there : g .count ≤ length (g .nexts)
   pub froms-there : g .count ≤ length (g .froms)
   pub tos-there : g .count ≤ length (g .tos)

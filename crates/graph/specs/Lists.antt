@@ -3,6 +3,7 @@ use Prim.Native.Nat.{ℕ, _+_, _≤_, _<_}
 use mathlib.Core.Path.{_≡_}
 use mathlib.Core.List.{List, [], map}
 use lib.ListN.{length, getD}
+use Rattle.figures.specs.Limits.{maxNodes}
 use Rattle.pregroup.specs.Types.{Basic}
 use Rattle.linking.specs.Reading.{Words}
 use Rattle.book.specs.Format.{Bytes, Book}
@@ -13,7 +14,7 @@ use Rattle.line.specs.LookUp.{entriesKept, LineSays}
 use Rattle.line.specs.declared.CheckedLine.the-variants.{Found}
 use Rattle.graph.specs.Graph.{Graph, graph, Upward}
 use Rattle.graph.specs.Layout.{Laid}
-use Rattle.graph.specs.Cells.{maxNodes, Cells, cells, Same, Continues, Edges, Lexicon, entriesOfWord}
+use Rattle.graph.specs.Cells.{Cells, cells, Same, Continues, Edges, Lexicon, entriesOfWord}
 use Rattle.graph.specs.declared.Place.{Place}
 
 -- All lists: those of nodes and slots, and for each boundary the range of its slots.
@@ -22,12 +23,12 @@ pub record Lists : Type 0 where
   pub froms : List ℕ
   pub tos : List ℕ
 
-abbrev pub lists : List ℕ → List ℕ → List ℕ → List ℕ → List ℕ → List ℕ → List ℕ → Lists
-lists b e x f t i n = record { cells = cells b e x i n; froms = f; tos = t }
+abbrev pub lists : List ℕ → List ℕ → List ℕ → List ℕ → List ℕ → List ℕ → Lists
+lists s x f t i n = record { cells = cells s x i n; froms = f; tos = t }
 
 -- The graph of the lists, with this many nodes.
 abbrev pub graphOf : ℕ → Lists → Graph
-graphOf count l = graph count (l .cells .bases) (l .cells .exponents) (l .cells .nexts) (l .froms) (l .tos) (l .cells .enters)
+graphOf count l = graph count (l .cells .simples) (l .cells .nexts) (l .froms) (l .tos) (l .cells .enters)
 
 -- A graph and its entry numbers are as the lists say, before the place p.
 pub record Follows (p : Place) (l : Lists) (g : Graph) (numbers : List ℕ) : Type 0 where
@@ -37,8 +38,7 @@ pub record Follows (p : Place) (l : Lists) (g : Graph) (numbers : List ℕ) : Ty
 
 -- There is room in each list of the graph.
 pub record Room (l : Lists) : Type 0 where
-  pub bases : maxNodes ≤ length (l .cells .bases)
-  pub exponents : maxNodes ≤ length (l .cells .exponents)
+  pub simples : maxNodes ≤ length (l .cells .simples)
   pub nexts : maxNodes ≤ length (l .cells .nexts)
   pub froms : maxNodes ≤ length (l .froms)
   pub tos : maxNodes ≤ length (l .tos)
@@ -82,7 +82,7 @@ pub record WordsFit (bytes : Bytes) (offsets : List ℕ) (count : ℕ) (line : B
   pub ends-room : maxWords ≤ length ends
   pub standing : Standing p l
   pub numbers-room : maxNodes ≤ length (l .cells .numbers)
-  pub fits : p .node + (simplesOfWords (entriesOfWords bytes offsets count (wordsOf line)) + words) + 3 < maxNodes
+  pub fits : p .node + (simplesOfWords (entriesOfWords bytes offsets count (wordsOf line)) + words) + 3 ≤ maxNodes
 
 -- The target is laid at the boundary of the place p, with two nodes behind it: its right adjoint and the end.
 pub record Ended (target : Basic) (p : Place) (l l′ : Lists) (count : ℕ) : Type 0 where
@@ -113,7 +113,7 @@ pub record LineFits (bytes : Bytes) (offsets : List ℕ) (count : ℕ) (line : B
 
 -- The line is laid out: the graph goes up, and from node 0 it is that of the line's words and the target, up to its last node.
 pub record LaidOut (bytes : Bytes) (offsets : List ℕ) (entries : ℕ) (line : Bytes) (target : Basic) (l : Lists) (count : ℕ) : Type 0 where
-  pub few : count ≤ 539
+  pub few : count ≤ maxNodes
   pub some-nodes : 0 < count
   pub upward : Upward (graphOf count l)
   pub laid : (B : Book) → B .entries ≡ entriesKept bytes offsets entries → (end : ℕ) → end + 1 ≡ count

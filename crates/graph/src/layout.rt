@@ -7,17 +7,20 @@ use book::rules::offset;
 use line::lookup::find_entries;
 use line::lookup::tally_found;
 use pregroup::EXPONENT_BIAS;
+use pregroup::hold;
 ghost use mathlib.Core.Path.{_≡_};
 ghost use mathlib.Core.Bool.{true};
 ghost use mathlib.Core.List.{List, [], _∷_};
-ghost use Prim.Native.Nat.{_+_, _<_};
+ghost use Prim.Native.Nat.{_+_, _≤_};
 ghost use lib.IntN.{pos, _-ℤ_};
-ghost use Rattle.pregroup.specs.Held.{bias};
+ghost use Rattle.figures.specs.Limits.{maxNodes};
+ghost use Rattle.pregroup.specs.Types.{_⁽_⁾};
+ghost use Rattle.pregroup.specs.Held.{bias, held};
 ghost use Rattle.book.specs.Format.{exponentOf, exponentListed, simplesOf};
 ghost use Rattle.linking.specs.Reading.{NumberedEntry, Words};
 ghost use Rattle.line.specs.LineWords.{wordsOf};
 ghost use Rattle.line.specs.LookUp.{entriesAt};
-ghost use Rattle.graph.specs.Cells.{maxNodes, cells, nodes, TypeFits, Typed, SlotFits, Lays, EntriesFit, entriesOfWord};
+ghost use Rattle.graph.specs.Cells.{cells, nodes, TypeFits, Typed, SlotFits, Lays, EntriesFit, entriesOfWord};
 ghost use Rattle.graph.specs.Lists.{lists, WordFits, WordsFit, Lined, entriesOfWords, Ended, Standing, LineFits, LaidOut};
 
 // The byte of the least exponent, -8, which is held as 0.
@@ -35,28 +38,33 @@ fn raise(exponent: u8) -> u8
     }
 }
 
+// A simple type of the book as it is held: a type number and an exponent, a byte each.
+fn hold_simple(base: u8, exponent: u8) -> u16
+    requires { ⌜ exponentListed (exponentOf exponent) ≡ true ⌝ }
+    ensures { λ r. ⌜ held r ≡ base ⁽ exponentOf exponent ⁾ ⌝ }
+{
+    hold(base, raise(exponent))
+}
+
 // Lays the simple types of an entry from `node` on, from the last to the first, each leading to the one behind it and the last to the
 // boundary. The node where the type begins is returned: for an empty one the boundary.
 fn lay_type(
     part: &[u8],
     node: usize,
     boundary: usize,
-    bases: &mut [u8],
-    exponents: &mut [u8],
+    simples: &mut [u16],
     nexts: &mut [u16],
 ) -> usize
-    requires { ⌜ TypeFits (now part) node boundary (nodes (now bases) (now exponents) (now nexts)) ⌝ }
-    ensures { λ r. ⌜ Typed (now (part .entry)) node boundary (nodes (now (bases .entry)) (now (exponents .entry)) (now (nexts .entry))) (nodes (now (bases .exit)) (now (exponents .exit)) (now (nexts .exit))) r ⌝ }
+    requires { ⌜ TypeFits (now part) node boundary (nodes (now simples) (now nexts)) ⌝ }
+    ensures { λ r. ⌜ Typed (now (part .entry)) node boundary (nodes (now (simples .entry)) (now (nexts .entry))) (nodes (now (simples .exit)) (now (nexts .exit))) r ⌝ }
 {
     let mut first = boundary;
     let mut i = part.len();
     while 0 < i {
         i -= 2;
         let at = node + i / 2;
-        let base = part[i];
-        let exponent = raise(part[i + 1]);
-        bases[at] = base;
-        exponents[at] = exponent;
+        let simple = hold_simple(part[i], part[i + 1]);
+        simples[at] = simple;
         nexts[at] = first as u16;
         first = at;
     }
@@ -69,14 +77,13 @@ fn lay_slot(
     number: usize,
     boundary: usize,
     p: Place,
-    bases: &mut [u8],
-    exponents: &mut [u8],
+    simples: &mut [u16],
     nexts: &mut [u16],
     enters: &mut [u16],
     numbers: &mut [u16],
 ) -> Place
-    requires { ⌜ SlotFits (now part) number boundary p (cells (now bases) (now exponents) (now nexts) (now enters) (now numbers)) ⌝ }
-    ensures { λ r. ⌜ ((rest : List NumberedEntry) → Lays boundary p (cells (now (bases .entry)) (now (exponents .entry)) (now (nexts .entry)) (now (enters .entry)) (now (numbers .entry))) r (cells (now (bases .exit)) (now (exponents .exit)) (now (nexts .exit)) (now (enters .exit)) (now (numbers .exit))) (record { number = number; type = simplesOf (now (part .entry)) } ∷ rest) rest) ⌝ }
+    requires { ⌜ SlotFits (now part) number boundary p (cells (now simples) (now nexts) (now enters) (now numbers)) ⌝ }
+    ensures { λ r. ⌜ ((rest : List NumberedEntry) → Lays boundary p (cells (now (simples .entry)) (now (nexts .entry)) (now (enters .entry)) (now (numbers .entry))) r (cells (now (simples .exit)) (now (nexts .exit)) (now (enters .exit)) (now (numbers .exit))) (record { number = number; type = simplesOf (now (part .entry)) } ∷ rest) rest) ⌝ }
 {
     let node = p.node;
     let slot = p.slot;
@@ -86,7 +93,7 @@ fn lay_slot(
         return p;
     }
     let behind = node + part.len() / 2;
-    let first = lay_type(part, node, boundary, bases, exponents, nexts);
+    let first = lay_type(part, node, boundary, simples, nexts);
     enters[slot] = first as u16;
     numbers[slot] = number as u16;
     Place {
@@ -104,14 +111,13 @@ fn lay_entries(
     n: usize,
     boundary: usize,
     p: Place,
-    bases: &mut [u8],
-    exponents: &mut [u8],
+    simples: &mut [u16],
     nexts: &mut [u16],
     enters: &mut [u16],
     numbers: &mut [u16],
 ) -> Place
-    requires { ⌜ EntriesFit (now book) (now offsets) (now found) n boundary p (cells (now bases) (now exponents) (now nexts) (now enters) (now numbers)) ⌝ }
-    ensures { λ r. ⌜ Lays boundary p (cells (now (bases .entry)) (now (exponents .entry)) (now (nexts .entry)) (now (enters .entry)) (now (numbers .entry))) r (cells (now (bases .exit)) (now (exponents .exit)) (now (nexts .exit)) (now (enters .exit)) (now (numbers .exit))) (entriesAt (now (book .entry)) (now (offsets .entry)) (now (found .entry)) n) [] ⌝ }
+    requires { ⌜ EntriesFit (now book) (now offsets) (now found) n boundary p (cells (now simples) (now nexts) (now enters) (now numbers)) ⌝ }
+    ensures { λ r. ⌜ Lays boundary p (cells (now (simples .entry)) (now (nexts .entry)) (now (enters .entry)) (now (numbers .entry))) r (cells (now (simples .exit)) (now (nexts .exit)) (now (enters .exit)) (now (numbers .exit))) (entriesAt (now (book .entry)) (now (offsets .entry)) (now (found .entry)) n) [] ⌝ }
 {
     let mut place = p;
     let mut k = 0;
@@ -123,8 +129,7 @@ fn lay_entries(
             number,
             boundary,
             place,
-            bases,
-            exponents,
+            simples,
             nexts,
             enters,
             numbers,
@@ -142,16 +147,15 @@ fn lay_word(
     count: usize,
     word: &[u8],
     p: Place,
-    bases: &mut [u8],
-    exponents: &mut [u8],
+    simples: &mut [u16],
     nexts: &mut [u16],
     froms: &mut [u16],
     tos: &mut [u16],
     enters: &mut [u16],
     numbers: &mut [u16],
 ) -> Place
-    requires { ⌜ WordFits (now book) (now offsets) count (now word) p (lists (now bases) (now exponents) (now nexts) (now froms) (now tos) (now enters) (now numbers)) ⌝ }
-    ensures { λ r. ⌜ ((rest : Words) → Lined p (lists (now (bases .entry)) (now (exponents .entry)) (now (nexts .entry)) (now (froms .entry)) (now (tos .entry)) (now (enters .entry)) (now (numbers .entry))) r (lists (now (bases .exit)) (now (exponents .exit)) (now (nexts .exit)) (now (froms .exit)) (now (tos .exit)) (now (enters .exit)) (now (numbers .exit))) (entriesOfWord (now (book .entry)) (now (offsets .entry)) count (now (word .entry)) ∷ rest) rest) ⌝ }
+    requires { ⌜ WordFits (now book) (now offsets) count (now word) p (lists (now simples) (now nexts) (now froms) (now tos) (now enters) (now numbers)) ⌝ }
+    ensures { λ r. ⌜ ((rest : Words) → Lined p (lists (now (simples .entry)) (now (nexts .entry)) (now (froms .entry)) (now (tos .entry)) (now (enters .entry)) (now (numbers .entry))) r (lists (now (simples .exit)) (now (nexts .exit)) (now (froms .exit)) (now (tos .exit)) (now (enters .exit)) (now (numbers .exit))) (entriesOfWord (now (book .entry)) (now (offsets .entry)) count (now (word .entry)) ∷ rest) rest) ⌝ }
 {
     let node = p.node;
     let slot = p.slot;
@@ -170,8 +174,7 @@ fn lay_word(
         n,
         boundary,
         first,
-        bases,
-        exponents,
+        simples,
         nexts,
         enters,
         numbers,
@@ -196,16 +199,15 @@ fn lay_words(
     ends: &[usize],
     words: usize,
     p: Place,
-    bases: &mut [u8],
-    exponents: &mut [u8],
+    simples: &mut [u16],
     nexts: &mut [u16],
     froms: &mut [u16],
     tos: &mut [u16],
     enters: &mut [u16],
     numbers: &mut [u16],
 ) -> Place
-    requires { ⌜ WordsFit (now book) (now offsets) count (now line) (now starts) (now ends) words p (lists (now bases) (now exponents) (now nexts) (now froms) (now tos) (now enters) (now numbers)) ⌝ }
-    ensures { λ r. ⌜ Lined p (lists (now (bases .entry)) (now (exponents .entry)) (now (nexts .entry)) (now (froms .entry)) (now (tos .entry)) (now (enters .entry)) (now (numbers .entry))) r (lists (now (bases .exit)) (now (exponents .exit)) (now (nexts .exit)) (now (froms .exit)) (now (tos .exit)) (now (enters .exit)) (now (numbers .exit))) (entriesOfWords (now (book .entry)) (now (offsets .entry)) count (wordsOf (now (line .entry)))) [] ⌝ }
+    requires { ⌜ WordsFit (now book) (now offsets) count (now line) (now starts) (now ends) words p (lists (now simples) (now nexts) (now froms) (now tos) (now enters) (now numbers)) ⌝ }
+    ensures { λ r. ⌜ Lined p (lists (now (simples .entry)) (now (nexts .entry)) (now (froms .entry)) (now (tos .entry)) (now (enters .entry)) (now (numbers .entry))) r (lists (now (simples .exit)) (now (nexts .exit)) (now (froms .exit)) (now (tos .exit)) (now (enters .exit)) (now (numbers .exit))) (entriesOfWords (now (book .entry)) (now (offsets .entry)) count (wordsOf (now (line .entry)))) [] ⌝ }
 {
     let mut place = p;
     let mut k = 0;
@@ -218,8 +220,7 @@ fn lay_words(
             count,
             &line[start..end],
             place,
-            bases,
-            exponents,
+            simples,
             nexts,
             froms,
             tos,
@@ -236,26 +237,24 @@ fn lay_words(
 fn lay_goal(
     target: u8,
     p: Place,
-    bases: &mut [u8],
-    exponents: &mut [u8],
+    simples: &mut [u16],
     nexts: &mut [u16],
     froms: &mut [u16],
     tos: &mut [u16],
     enters: &mut [u16],
 ) -> usize
-    requires { ⌜ Standing p (lists (now bases) (now exponents) (now nexts) (now froms) (now tos) (now enters) []) × (p .node + 3 < maxNodes) ⌝ }
-    ensures { λ r. ⌜ Ended target p (lists (now (bases .entry)) (now (exponents .entry)) (now (nexts .entry)) (now (froms .entry)) (now (tos .entry)) (now (enters .entry)) []) (lists (now (bases .exit)) (now (exponents .exit)) (now (nexts .exit)) (now (froms .exit)) (now (tos .exit)) (now (enters .exit)) []) r ⌝ }
+    requires { ⌜ Standing p (lists (now simples) (now nexts) (now froms) (now tos) (now enters) []) × (p .node + 3 ≤ maxNodes) ⌝ }
+    ensures { λ r. ⌜ Ended target p (lists (now (simples .entry)) (now (nexts .entry)) (now (froms .entry)) (now (tos .entry)) (now (enters .entry)) []) (lists (now (simples .exit)) (now (nexts .exit)) (now (froms .exit)) (now (tos .exit)) (now (enters .exit)) []) r ⌝ }
 {
     let node = p.node;
     let slot = p.slot;
     let goal = node + 1;
     let end = node + 2;
-    let exponent = raise(1);
+    let simple = hold_simple(target, 1);
     froms[node] = slot as u16;
     tos[node] = (slot + 1) as u16;
     enters[slot] = goal as u16;
-    bases[goal] = target;
-    exponents[goal] = exponent;
+    simples[goal] = simple;
     nexts[goal] = end as u16;
     node + 3
 }
@@ -271,16 +270,15 @@ pub fn lay_out(
     ends: &[usize],
     words: usize,
     target: u8,
-    bases: &mut [u8],
-    exponents: &mut [u8],
+    simples: &mut [u16],
     nexts: &mut [u16],
     froms: &mut [u16],
     tos: &mut [u16],
     enters: &mut [u16],
     numbers: &mut [u16],
 ) -> usize
-    requires { ⌜ LineFits (now book) (now offsets) count (now line) (now starts) (now ends) words (lists (now bases) (now exponents) (now nexts) (now froms) (now tos) (now enters) (now numbers)) ⌝ }
-    ensures { λ r. ⌜ LaidOut (now (book .entry)) (now (offsets .entry)) count (now (line .entry)) target (lists (now (bases .exit)) (now (exponents .exit)) (now (nexts .exit)) (now (froms .exit)) (now (tos .exit)) (now (enters .exit)) (now (numbers .exit))) r ⌝ }
+    requires { ⌜ LineFits (now book) (now offsets) count (now line) (now starts) (now ends) words (lists (now simples) (now nexts) (now froms) (now tos) (now enters) (now numbers)) ⌝ }
+    ensures { λ r. ⌜ LaidOut (now (book .entry)) (now (offsets .entry)) count (now (line .entry)) target (lists (now (simples .exit)) (now (nexts .exit)) (now (froms .exit)) (now (tos .exit)) (now (enters .exit)) (now (numbers .exit))) r ⌝ }
 {
     let first = Place {
         node: 0,
@@ -296,13 +294,12 @@ pub fn lay_out(
         ends,
         words,
         first,
-        bases,
-        exponents,
+        simples,
         nexts,
         froms,
         tos,
         enters,
         numbers,
     );
-    lay_goal(target, last, bases, exponents, nexts, froms, tos, enters)
+    lay_goal(target, last, simples, nexts, froms, tos, enters)
 }

@@ -1,9 +1,6 @@
 // The words of a line as a graph: lists of nodes and of slots that a caller lends, filled from left to right.
 pub mod layout;
 
-// How many nodes a line's graph has room for: 24 boundaries and 512 simple types, then the last boundary, the target and the end.
-pub const MAX_NODES: usize = 540;
-
 // How far the lists are filled: the next node, the next slot, and whether the word at hand has a slot with an empty type.
 pub struct Place {
     pub node: usize,

@@ -95,7 +95,7 @@ line-passing B line words h =
       few = subst (λ (w : Words). simplesOfWords w ≤ maxSimples) (sym (fits .1)) (ltb-false _ _ (fits .0));
     }
 
-brief-cons : (e : NumberedEntry) (es : List NumberedEntry) → length (e .type) ≤ maxType → Brief es → Brief (e ∷ es)
+pub brief-cons : (e : NumberedEntry) (es : List NumberedEntry) → length (e .type) ≤ maxType → Brief es → Brief (e ∷ es)
 brief-cons e es h k f m = ⊎-elim (λ q. let same = ap (λ (x : NumberedEntry). length (x .type)) q in omega arith) (λ l. k f l) (List·Memᴰ·cases-cons m)
 
 entries-brief : (n : ℕ) (entries : List Entry) (word : Bytes) → AllShort entries → Brief (entriesFrom n entries word)

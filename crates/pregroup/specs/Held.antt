@@ -1,6 +1,6 @@
--- How the code holds simple types and the order: a basic type and an exponent are bytes, the exponent raised by an even bias so that it
--- is never negative and keeps its parity; the order is a row of 64 bits for each basic type.
-use Prim.Native.Nat.{ℕ}
+-- How the code holds simple types and the order: a simple type is one number, 256 times its exponent and then its basic type, the exponent
+-- raised by an even bias so that it is never negative and keeps its parity; the order is a row of 64 bits for each basic type.
+use Prim.Native.Nat.{ℕ, _/_, _%_}
 use mathlib.Core.List.{List}
 use lib.ListN.{getD}
 use lib.IntN.{pos, _-ℤ_}
@@ -12,9 +12,13 @@ use Rattle.pregroup.specs.Order.{Relation}
 abbrev pub bias : ℕ
 bias = 8
 
--- The simple type that the numbers a and x stand for.
-abbrev pub held : ℕ → ℕ → Simple
-held a x = a ⁽ pos x -ℤ pos bias ⁾
+-- The simple type a^(z) with its exponent raised, x = z + bias.
+abbrev pub lowered : ℕ → ℕ → Simple
+lowered a x = a ⁽ pos x -ℤ pos bias ⁾
+
+-- The simple type that a number holds.
+unfoldable pub held : ℕ → Simple
+held x = lowered (x % 256) (x / 256)
 
 -- p ≤ q by the rows: row p has q. A row that is not there has nothing.
 unfoldable pub InRows : List ℕ → Relation

@@ -1,7 +1,7 @@
 -- What vanishes: the strings that link up without crossings. Each link could contract, and everything beneath it is linked inside.
 use mathlib.Core.Path.{_≡_}
 use mathlib.Core.List.{[], _∷_, _++_}
-use lib.IntN.{sucℤ}
+use lib.IntN.{pos, sucℤ}
 use Rattle.pregroup.specs.Types.{Basic, Simple, PregroupType, plain}
 use Rattle.pregroup.specs.Order.{Relation, Fits}
 
@@ -18,3 +18,8 @@ pub data Vanish (Le : Relation) : PregroupType → Type 0 where
 -- X is L q R, where q is plain and stands at or below s, and L and R vanish: everything but q links up.
 pub data Reduces (Le : Relation) (s : Basic) : PregroupType → Type 0 where
   leaves : {L R : PregroupType} (q : Basic) → Vanish Le L → Le q s → Vanish Le R → Reduces Le s (L ++ (plain q ∷ R))
+
+-- x may be what is left: it is plain and stands at or below s.
+pub record Remains (Le : Relation) (s : Basic) (x : Simple) : Type 0 where
+  pub is-plain : x .exponent ≡ pos 0
+  pub below : Le (x .base) s

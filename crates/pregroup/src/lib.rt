@@ -1,10 +1,10 @@
-// The pregroup calculus. Nearly all of this crate is specs/ and proofs/; its code is the test whether two simple types could contract,
-// over numbers as the layers above hold them: bytes for a basic type and a raised exponent, a row of 64 bits for each basic type.
+// The pregroup calculus. Nearly all of this crate is specs/ and proofs/; its code are the tests whether two simple types could contract and
+// whether one may be left over, over numbers as the layers above hold them: one for a simple type, a row of 64 bits for each basic type.
 ghost use mathlib.Core.Path.{_≡_};
 ghost use mathlib.Core.Logic.{_↔_};
 ghost use mathlib.Core.Bool.{true};
-ghost use Rattle.pregroup.specs.Vanish.{Contracts};
-ghost use Rattle.pregroup.specs.Held.{held, InRows};
+ghost use Rattle.pregroup.specs.Vanish.{Contracts, Remains};
+ghost use Rattle.pregroup.specs.Held.{lowered, held, InRows};
 
 // What is added to an exponent to hold it in a byte. It is even, so that parity is kept.
 pub const EXPONENT_BIAS: u8 = 8;
@@ -20,16 +20,36 @@ pub fn stands_below(rows: &[u64], p: u8, q: u8) -> bool
     bits::has(rows[at], q)
 }
 
-// Whether the simple types a^(x) and b^(y), in this order, could contract, with their exponents raised by the bias.
-pub fn may_contract(rows: &[u64], a: u8, x: u8, b: u8, y: u8) -> bool
-    ensures { λ r. ⌜ (r ≡ true) ↔ Contracts (InRows (now (rows .entry))) (held a x) (held b y) ⌝ }
+// A basic type and an exponent raised by the bias, held in one number.
+pub fn hold(base: u8, raised: u8) -> u16
+    ensures { λ r. ⌜ held r ≡ lowered base raised ⌝ }
 {
-    if (y as u16) != (x as u16) + 1 {
+    (raised as u16) * 256 + base as u16
+}
+
+// Whether the simple types that x and y hold, in this order, could contract.
+pub fn may_contract(rows: &[u64], x: u16, y: u16) -> bool
+    ensures { λ r. ⌜ (r ≡ true) ↔ Contracts (InRows (now (rows .entry))) (held x) (held y) ⌝ }
+{
+    let earlier = x / 256;
+    if y / 256 != earlier + 1 {
         return false;
     }
-    if x % 2 == 0 {
+    let a = (x % 256) as u8;
+    let b = (y % 256) as u8;
+    if earlier % 2 == 0 {
         stands_below(rows, a, b)
     } else {
         stands_below(rows, b, a)
     }
+}
+
+// Whether the simple type that x holds is plain and stands at or below the basic type s.
+pub fn may_remain(rows: &[u64], x: u16, s: u8) -> bool
+    ensures { λ r. ⌜ (r ≡ true) ↔ Remains (InRows (now (rows .entry))) s (held x) ⌝ }
+{
+    if x / 256 != EXPONENT_BIAS as u16 {
+        return false;
+    }
+    stands_below(rows, (x % 256) as u8, s)
 }

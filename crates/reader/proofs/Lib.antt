@@ -2,7 +2,7 @@
 pub mod Table
 pub mod Promises
 pub mod Selection
-pub mod Gathering
-pub mod WritingLaws
+pub mod Brief
+pub mod FirstFound
 pub mod ReadingLaws
 pub mod OpeningLaws

@@ -24,7 +24,7 @@ use Rattle.reader.specs.declared.LineAnswer.{LineAnswer}
 use Rattle.reader.specs.declared.LineAnswer.the-variants.{Refused}
 use Rattle.reader.specs.Outcome.{Outcome, given, readAgainst, readParsed, outcome}
 use Rattle.reader.specs.Demands.{Promised}
-use Rattle.reader.specs.Runs.{Gives, Open, Drawn, Drawable}
+use Rattle.reader.specs.Runs.{Gives, Open, Drawn}
 use Rattle.reader.proofs.Promises.{outcome-promised}
 
 -- Whatever gives the outcome keeps the promises.
@@ -77,28 +77,21 @@ is-open bytes s types count target B rows o hold =
 module _ {bytes : Bytes} {offsets : List ℕ} {count : ℕ} {rows : List ℕ} {target : ℕ} {line : Bytes} {starts ends : List ℕ} {n nodes : ℕ} {l : Lists}
     (checked : Checked bytes offsets count line starts ends n) (out : LaidOut bytes offsets count line target l nodes) where
   -- The graph is that of the line's words.
-  pub line-drawn : {B : Book} → Open bytes offsets count rows target B → Drawn (graphOf nodes l) (l .cells .numbers) target n (entriesOfLine B line)
-  line-drawn {B} o =
+  pub line-drawn :
+      {B : Book} → Open bytes offsets count rows target B → length (l .cells .enters) ≤ length (l .cells .numbers)
+      → Drawn (below (length (B .names)) (B .pairs)) (InRows rows) (graphOf nodes l) (l .cells .numbers) target n (entriesOfLine B line)
+  line-drawn {B} o room =
       let says = checked B (o .entries) in
       let p = line-passing B line (entriesOfLine B line) (says .1) in
       record {
+        upward = out .upward;
+        some-nodes = out .some-nodes;
+        few = out .few;
+        few-words = says .0 .few;
+        numbers-room = room;
+        decides = o .decides;
         laid = λ end last. out .laid B (o .entries) end last;
         known-words = p .known-words;
         brief-words = line-brief B line (entriesOfLine B line) (accepted-declares bytes B (o .parsed) .short) p;
-        ascending = p .ascending;
         count = length-map (wordsOf line) (entriesOf B) ∙ ap length (says .0 .words) ∙ kept-length line starts ends n;
       }
-
-  pub line-drawable : {B : Book} → Open bytes offsets count rows target B → length (l .cells .enters) ≤ length (l .cells .numbers)
-      → Drawable (InRows rows) (graphOf nodes l) (l .cells .numbers) target n
-  line-drawable {B} o room = record {
-    upward = out .upward;
-    some-nodes = out .some-nodes;
-    few = omega (arith, out .few);
-    few-words = checked B (o .entries) .0 .few;
-    numbers-room = room;
-    test = below (length (B .names)) (B .pairs);
-    decides = o .decides;
-    words = entriesOfLine B line;
-    drawn = line-drawn o;
-  }

@@ -3,41 +3,39 @@ use Prim.Native.Nat.{ℕ, zero, suc, _+_, _-_, _*_, _≤_, _<_}
 use native.Mathlib.Omega.{arith}
 use mathlib.Core.Path.{_≡_, refl, sym, ap, subst, _∙_}
 use mathlib.Core.Logic.{_↔_}
-use mathlib.Core.Bool.{Bool, true, false, false≢true}
+use mathlib.Core.Bool.{Bool, true, false, not, false≢true}
 use mathlib.Core.List.{List, _∷_, _++_, map}
 use mathlib.Core.Option.{Option, none, some}
 use lib.ListN.{getD, length, take, drop, length-append}
 use lib.Seq.{length-take-le, getD-take}
 use borrow.Author.Tests.{lt-ltb, le-ltb}
+use Rattle.figures.specs.Limits.{maxNodes, maxPlaces, rowWords}
+use Rattle.bits.specs.Rows.{HasRow, InRow}
 use Rattle.pregroup.specs.Types.{Basic, PregroupType}
 use Rattle.pregroup.specs.Order.{Relation}
 use Rattle.pregroup.specs.Vanish.{Reduces}
-use Rattle.pregroup.specs.Tests.{Test, Decides}
+use Rattle.pregroup.specs.Tests.{Test}
 use Rattle.linking.specs.Linking.{firstLinking}
 use Rattle.linking.specs.Reading.{Words, Answer, firstReading}
 use Rattle.linking.proofs.Reduction.{linking-iff-reduces}
 use Rattle.linking.proofs.FirstLinking.{first-linking-some, first-linking-none, first-linking-greedy}
-use Rattle.linking.proofs.FirstReading.{first-reading-some}
-use Rattle.line.specs.LineFaults.{maxWords}
-use Rattle.line.proofs.Passed.{choice-brief}
-use Rattle.graph.specs.Graph.{Graph, EntersBy, Upward, VanishTo, Boundary, Spells, ended, more}
-use Rattle.choice.specs.Completion.{SlotChoice, done, choose}
-use Rattle.choice.specs.Grown.{chosen}
-use Rattle.figures.specs.Limits.{rowWords}
-use Rattle.bits.specs.Rows.{HasRow, InRow}
-use Rattle.chart.specs.Chart.{FilledFrom}
-use Rattle.choice.specs.First.{Chose, Choosable, Roomy}
-use Rattle.graph.specs.Cells.{maxNodes}
+use Rattle.graph.specs.Graph.{Graph, EntersBy, Upward, Path, VanishTo, Boundary, Spells, ended, more}
 use Rattle.graph.specs.Layout.{Laid, goal, word}
-use Rattle.table.specs.Copy.{pickedString}
-use Rattle.table.proofs.CopyLaws.{picked-string-map}
+use Rattle.chart.specs.Chart.{FilledFrom}
+use Rattle.table.specs.Table.{stringOf}
+use Rattle.table.proofs.Stretches.{length-string}
+use Rattle.table.proofs.TableLaws.{right-of-string}
+use Rattle.choice.specs.Completion.{SlotChoice, done, choose}
+use Rattle.choice.specs.First.{Chose, Choosable, Roomy}
+use Rattle.choice.proofs.Choices.{choice-of-path}
 use Rattle.answer.specs.Entries.{entryNumbers}
+use Rattle.answer.specs.Written.{Linkable, Writable, WroteAnswer}
 use Rattle.answer.proofs.ValueLaws.{entry-numbers-length}
 use Rattle.reader.specs.declared.LineAnswer.the-variants.{Read, Refused}
 use Rattle.reader.specs.Outcome.{valuesOf, given}
-use Rattle.reader.specs.Runs.{Gives, GivesFirst, Drawn, Drawable, Charted, Linkable, Writable, WroteAnswer}
-use Rattle.reader.proofs.Gathering.{Gathered, unread-iff, gathered}
-use Rattle.reader.proofs.WritingLaws.{picked-length}
+use Rattle.reader.specs.Runs.{Gives, Drawn}
+use Rattle.reader.proofs.Brief.{laid-brief}
+use Rattle.reader.proofs.FirstFound.{FirstFound, unread-iff, first-found}
 
 -- What `given` comes to.
 module _ (before : List ℕ) where
@@ -82,165 +80,143 @@ module _ {g : Graph} (up : Upward g) where
   choice-slots {u} h (choose e t c) zero l = omega (arith, e .before, up .slots-there u h)
   choice-slots {u} h (choose {s} {w} e t c) (suc i) l = choice-slots (entry-inside (up .enters-up u s w h e .1) t) c i (omega arith)
 
--- What a choice of m simple types is good for: they can be linked and written, and what is written is what reading the words comes to.
-record Answerable (le : Test) (Le : Relation) (g : Graph) (numbers : List ℕ) (t : Basic) (n m : ℕ) (words : Words) (picked slots : List ℕ) : Type 0 where
-  linkable : Linkable Le (g .bases) (g .exponents) picked m t
-  slots-there : n ≤ length slots
-  numbered : (i : ℕ) → i < n → getD slots i 0 < length numbers
-  short : (before : List ℕ) → length before < 2 + n + m → Gives (given (firstReading le t words) before) (Refused 16 (2 + n + m)) before
-  read : (before after : List ℕ) → 2 + n + m ≤ length before → WroteAnswer Le (g .bases) (g .exponents) picked m t numbers slots n before after
-      → Gives (given (firstReading le t words) before) (Read (2 + n + m)) after
+module _ {le : Test} {Le : Relation} {g : Graph} {numbers : List ℕ} {t : Basic} {n : ℕ} {words : Words} (d : Drawn le Le g numbers t n words) where
+  -- The last node.
+  abbrev end : ℕ
+  end = g .count - 1
 
-module _ {le : Test} {Le : Relation} (decides : Decides le Le) (g : Graph) (numbers : List ℕ) (t : Basic) (n : ℕ) (words : Words) (up : Upward g) (drawn : Drawn g numbers t n words)
-    (end : ℕ) (last : end + 1 ≡ g .count) where
-  begins : Boundary g 0
-  begins = laid-begins (drawn .laid end last)
+  last : end + 1 ≡ g .count
+  last = omega (arith, d .some-nodes)
+
+  laid : Laid g numbers t 0 words end
+  laid = d .laid end last
 
   ends : Boundary g end
-  ends = laid-ends (drawn .laid end last)
+  ends = laid-ends laid
 
   closed : (s w : ℕ) → EntersBy g end s w → ⊥
-  closed s w e = let on = up .enters-up end s w (omega arith) e in omega (arith, on .0, on .1)
+  closed s w e = let on = d .upward .enters-up end s w (omega (arith, last)) e in omega (arith, on .0, on .1, last)
 
-  pub choosable : {rows : List ℕ} → Charted Le g rows → Choosable Le g rows end
-  choosable chart = record {
-    upward = up;
-    filled = chart .filled;
-    rows-there = chart .rows-there;
-    last = last;
-    begins = begins;
-    ends = ends;
-    reads = chart .reads end last;
-  }
+  few-simples : {X : PregroupType} → Path g 0 X end → length X ≤ maxPlaces
+  few-simples p =
+      let short = laid-brief closed laid (d .brief-words) (choice-of-path (laid-begins laid) ends p .1) in
+      omega (arith, d .few-words, d .count)
 
-  pub unread : (VanishTo Le g 0 end → ⊥) → firstReading le t words ≡ none
-  unread nowhere = unread-iff decides g numbers t end ends closed (drawn .laid end last) (drawn .known-words) .1 nowhere
-
-  module _ {picked slots : List ℕ} {count places : ℕ} (c : Chose Le g picked slots end count places) (picked-room : g .count ≤ length picked) (slots-room : g .count ≤ length slots) where
-    all : Gathered le Le g numbers t words picked slots count places
-    all = gathered decides g numbers t end ends closed (drawn .laid end last) (drawn .known-words) c (omega (arith, c .few)) (omega (arith, c .few))
-
-    string-is : pickedString (g .bases) (g .exponents) picked (all .m) ≡ chosen g picked (all .m)
-    string-is = picked-string-map (g .bases) (g .exponents) picked (all .m) (omega (arith, c .few, all .places-are))
-
-    -- There is a first linking, and with it the first reading.
-    linked-by : (o : Option (List ℕ)) → firstLinking le t (chosen g picked (all .m)) ≡ o → (Q : List ℕ) × (firstLinking le t (chosen g picked (all .m)) ≡ some Q)
-    linked-by none e = let k = linking-iff-reduces .0 (all .reduces) in absurd (first-linking-none decides t (chosen g picked (all .m)) .0 e (k .0) (k .1))
-    linked-by (some Q) e = (Q, e)
-
-    some-linking : (Q : List ℕ) × (firstLinking le t (chosen g picked (all .m)) ≡ some Q)
-    some-linking = linked-by (firstLinking le t (chosen g picked (all .m))) refl
-
-    partners-long : (Q : List ℕ) → firstLinking le t (chosen g picked (all .m)) ≡ some Q → length Q ≡ all .m
-    partners-long Q e = first-linking-some decides t (chosen g picked (all .m)) e .0 .count ∙ all .long
-
-    few-places : all .m ≤ 12 * length words
-    few-places =
-        let k = some-linking in
-        let r = first-reading-some decides t (drawn .ascending) (all .first (k .0) (k .1)) .reading in
-        let b = choice-brief (drawn .brief-words) (r .chosen) in
-        omega (arith, r .linking .count, partners-long (k .0) (k .1))
-
-    module _ (m : ℕ) (m-is : m + 1 ≡ places) (few-words : n ≤ maxWords) (numbers-room : length (g .enters) ≤ length numbers) where
-      same : all .m ≡ m
-      same = omega (arith, all .places-are)
-
-      linkable : Linkable Le (g .bases) (g .exponents) picked m t
-      linkable = record {
-        few = omega (arith, same, few-places, drawn .count);
-        picks = omega (arith, c .few);
-        base = λ i h. omega (arith, c .nodes i (omega arith), up .bases-there);
-        exponent = λ i h. omega (arith, c .nodes i (omega arith), up .exponents-there);
-        reduces = subst (λ (k : ℕ). Reduces Le t (pickedString (g .bases) (g .exponents) picked k)) same (rw string-is (all .reduces));
-      }
-
-      slots-there : n ≤ length slots
-      slots-there = omega (arith, all .taken, c .few, drawn .count)
-
-      numbered : (i : ℕ) → i < n → getD slots i 0 < length numbers
-      numbered i h =
-          let long = length-take-le count slots (omega (arith, c .few)) in
-          let inside : i < count = omega (arith, all .taken, drawn .count) in
-          let k = choice-slots up (omega arith) (c .spelled) i (omega arith) in
-          omega (arith, k, getD-take count slots i 0 inside)
-
-      count-values : (Q : List ℕ) → length Q ≡ m → length (valuesOf (entryNumbers numbers slots n, Q)) ≡ 2 + n + m
-      count-values Q e = let k = length-append (entryNumbers numbers slots n) (length Q ∷ Q) in let l = entry-numbers-length numbers slots n slots-there in omega arith
-
-      first-with : (Q : List ℕ) → firstLinking le t (pickedString (g .bases) (g .exponents) picked m) ≡ some Q → firstReading le t words ≡ some (entryNumbers numbers slots n, Q)
-      unfolding entryNumbers
-      first-with Q e =
-          let linked : firstLinking le t (chosen g picked (all .m)) ≡ some Q = ap (firstLinking le t) (sym string-is ∙ ap (pickedString (g .bases) (g .exponents) picked) same) ∙ e in
-          all .first Q linked ∙ ap (λ (k : ℕ). some (map (λ (s : ℕ). getD numbers s 0) (take k slots), Q)) (drawn .count)
-
-      returns-short : (before : List ℕ) → length before < 2 + n + m → Gives (given (firstReading le t words) before) (Refused 16 (2 + n + m)) before
-      returns-short before h = let k = some-linking in gives-short before (first-with (k .0) (ap (firstLinking le t) (ap (pickedString (g .bases) (g .exponents) picked) (sym same) ∙ string-is) ∙ k .1)) (count-values (k .0) (partners-long (k .0) (k .1) ∙ same)) h
-
-      returns-read : (before after : List ℕ) → 2 + n + m ≤ length before → WroteAnswer Le (g .bases) (g .exponents) picked m t numbers slots n before after
-          → Gives (given (firstReading le t words) before) (Read (2 + n + m)) after
-      returns-read before after h w =
-          gives-read before (first-with (w .partners) (first-linking-greedy decides t (pickedString (g .bases) (g .exponents) picked m) (w .whole ∙ sym (picked-length (g .bases) (g .exponents) picked m (linkable .picks))) (w .greedy))) (count-values (w .partners) (w .whole)) h (w .written)
-
-      answerable : Answerable le Le g numbers t n m words picked slots
-      answerable = record { linkable = linkable; slots-there = slots-there; numbered = numbered; short = returns-short; read = returns-read }
-
--- The same for a graph that can be read, whatever words it is of.
-module _ {Le : Relation} {g : Graph} {numbers : List ℕ} {t : Basic} {n : ℕ} (d : Drawable Le g numbers t n) where
-  last-is : g .count - 1 + 1 ≡ g .count
-  last-is = omega (arith, d .some-nodes)
-
-  pub can-choose : {rows : List ℕ} → Charted Le g rows → Choosable Le g rows (g .count - 1)
-  can-choose chart = choosable (d .decides) g numbers t n (d .words) (d .upward) (d .drawn) (g .count - 1) last-is chart
-
-  pub has-rows : (rows : List ℕ) → length rows ≡ maxNodes * rowWords → (j : ℕ) → j < g .count → HasRow rows j
-  has-rows rows e j h = omega (arith, d .few)
-
-  pub has-room : {picked slots backs outs comps : List ℕ} → length picked ≡ maxNodes → length slots ≡ maxNodes → length backs ≡ maxNodes * rowWords → length outs ≡ maxNodes * rowWords → length comps ≡ maxNodes * rowWords
-      → Roomy (g .count) picked slots backs outs comps
-  has-room {backs = backs} {outs} {comps} p s b o c = record {
-    places = omega (arith, d .few);
-    words = omega (arith, d .few);
-    back-rows = has-rows backs b;
-    out-rows = has-rows outs o;
-    comp-rows = has-rows comps c;
-  }
-
-  pub answers-none : (before : List ℕ) → (VanishTo Le g 0 (g .count - 1) → ⊥) → GivesFirst Le g numbers t n before (Refused 15 0) before
-  answers-none before nowhere le decides words drawn = gives-none before (unread decides g numbers t n words (d .upward) drawn (g .count - 1) last-is nowhere)
-
-  module _ {picked slots : List ℕ} {count places : ℕ} (c : Chose Le g picked slots (g .count - 1) count places) (picked-room : length picked ≡ maxNodes) (slots-room : length slots ≡ maxNodes) where
-    pub some-places : 1 ≤ places
-    some-places =
-        let a = all (d .decides) g numbers t n (d .words) (d .upward) (d .drawn) (g .count - 1) last-is c (omega (arith, d .few)) (omega (arith, d .few)) in
-        omega (arith, a .places-are)
-
-    places-more : places - 1 + 1 ≡ places
-    places-more = omega (arith, some-places)
-
-    answers : {le : Test} → Decides le Le → (words : Words) → Drawn g numbers t n words → Answerable le Le g numbers t n (places - 1) words picked slots
-    answers decides words drawn =
-        answerable decides g numbers t n words (d .upward) drawn (g .count - 1) last-is c (omega (arith, d .few)) (omega (arith, d .few)) (places - 1) places-more (d .few-words) (d .numbers-room)
-
-    pub can-link : Linkable Le (g .bases) (g .exponents) picked (places - 1) t
-    can-link = answers (d .decides) (d .words) (d .drawn) .linkable
-
-    pub can-write : (answer : List ℕ) → 2 + n + (places - 1) ≤ length answer → Writable numbers slots n (places - 1) answer
-    can-write answer h =
-        let a = answers (d .decides) (d .words) (d .drawn) in
-        record { few = d .few-words; there = a .slots-there; numbered = a .numbered; space = h }
-
-    pub answers-short : (before : List ℕ) → length before < 2 + n + (places - 1) → GivesFirst Le g numbers t n before (Refused 16 (2 + n + (places - 1))) before
-    answers-short before h le decides words drawn = answers decides words drawn .short before h
-
-    pub answers-read : (before after : List ℕ) → 2 + n + (places - 1) ≤ length before → WroteAnswer Le (g .bases) (g .exponents) picked (places - 1) t numbers slots n before after
-        → GivesFirst Le g numbers t n before (Read (2 + n + (places - 1))) after
-    answers-read before after h w le decides words drawn = answers decides words drawn .read before after h w
+  -- Every node has a row in a chart of the longest graph's.
+  pub has-rows : (rows : List ℕ) → length rows ≡ maxNodes * rowWords → (u : ℕ) → u < g .count → HasRow rows u
+  has-rows rows e u h = omega (arith, d .few)
 
   -- What the bit of the last node in the first node's row says.
-  pub chart-reads : {rows : List ℕ} {b : Bool} → FilledFrom Le g rows 0 → ((b ≡ true) ↔ InRow rows 0 (g .count - 1)) → b ≡ true → (end : ℕ) → end + 1 ≡ g .count
-      → VanishTo Le g 0 end
-  chart-reads filled says e end last =
-      subst (λ (k : ℕ). VanishTo Le g 0 k) (omega arith) (filled 0 (omega arith) (d .some-nodes) (g .count - 1) .0 (says .0 e))
+  pub chart-reads : {rows : List ℕ} {b : Bool} → FilledFrom Le g rows 0 → ((b ≡ true) ↔ InRow rows 0 end) → not b ≡ false → VanishTo Le g 0 end
+  chart-reads {b = true} filled says e = filled 0 (omega arith) (d .some-nodes) end .0 (says .0 refl)
+  chart-reads {b = false} filled says e = absurd (false≢true (sym e))
 
-  pub chart-stops : {rows : List ℕ} {b : Bool} → FilledFrom Le g rows 0 → ((b ≡ true) ↔ InRow rows 0 (g .count - 1)) → b ≡ false → VanishTo Le g 0 (g .count - 1) → ⊥
-  chart-stops filled says e v = false≢true (sym e ∙ says .1 (filled 0 (omega arith) (d .some-nodes) (g .count - 1) .1 v))
+  pub chart-stops : {rows : List ℕ} {b : Bool} → FilledFrom Le g rows 0 → ((b ≡ true) ↔ InRow rows 0 end) → not b ≡ true → VanishTo Le g 0 end → ⊥
+  chart-stops {b = true} filled says e v = false≢true e
+  chart-stops {b = false} filled says e v = false≢true (says .1 (filled 0 (omega arith) (d .some-nodes) end .1 v))
+
+  -- 15: there is no reading.
+  pub answers-none : (before : List ℕ) → (VanishTo Le g 0 end → ⊥) → Gives (given (firstReading le t words) before) (Refused 15 0) before
+  answers-none before nowhere = gives-none before (unread-iff (d .decides) g numbers t end ends closed laid (d .known-words) .1 nowhere)
+
+  -- What the choice asks, of a chart that is filled and reads.
+  pub can-choose : {rows : List ℕ} → length rows ≡ maxNodes * rowWords → FilledFrom Le g rows 0 → VanishTo Le g 0 end → Choosable Le g rows end
+  can-choose {rows} long filled reads = record {
+    upward = d .upward;
+    filled = filled;
+    rows-there = has-rows rows long;
+    last = last;
+    begins = laid-begins laid;
+    ends = ends;
+    reads = reads;
+    brief = few-simples;
+  }
+
+  pub has-room :
+      {string slots table leaving : List ℕ} → length string ≡ maxPlaces → length slots ≡ maxNodes → length table ≡ (maxPlaces + 1) * rowWords
+      → length leaving ≡ (maxPlaces + 1) * rowWords → Roomy (g .count) string slots table leaving
+  has-room p s b o = record {
+    places = omega arith;
+    words = omega (arith, d .few);
+    table-rows = λ j h. omega arith;
+    leaving-rows = λ j h. omega arith;
+  }
+
+  module _ {string slots table : List ℕ} {count places : ℕ} (c : Chose Le g string slots table end count places)
+      (string-room : length string ≡ maxPlaces) (slots-room : length slots ≡ maxNodes) (table-room : length table ≡ (maxPlaces + 1) * rowWords) where
+    found : FirstFound le Le g numbers t words string slots count places
+    found = first-found (d .decides) g numbers t end ends closed laid (d .known-words) c (omega (arith, c .few, d .few))
+
+    pub some-places : 1 ≤ places
+    some-places = omega (arith, found .places-are)
+
+    -- How many simple types the answer has: all but the target's.
+    abbrev m : ℕ
+    m = places - 1
+
+    same : found .m ≡ m
+    same = omega (arith, found .places-are)
+
+    -- There is a first linking, and with it the first reading.
+    linked-by : (o : Option (List ℕ)) → firstLinking le t (stringOf string m) ≡ o → (Q : List ℕ) × (firstLinking le t (stringOf string m) ≡ some Q)
+    linked-by none e = let k = linking-iff-reduces .0 reduces in absurd (first-linking-none (d .decides) t (stringOf string m) .0 e (k .0) (k .1))
+      where
+        reduces : Reduces Le t (stringOf string m)
+        reduces = subst (λ (k : ℕ). Reduces Le t (stringOf string k)) same (found .reduces)
+    linked-by (some Q) e = (Q, e)
+
+    slots-there : n ≤ length slots
+    slots-there = omega (arith, found .taken, c .few, d .count, d .few)
+
+    first-with : (Q : List ℕ) → firstLinking le t (stringOf string m) ≡ some Q → firstReading le t words ≡ some (entryNumbers numbers slots n, Q)
+    unfolding entryNumbers
+    first-with Q e =
+        found .first Q (ap (λ (k : ℕ). firstLinking le t (stringOf string k)) same ∙ e)
+        ∙ ap (λ (k : ℕ). some (map (λ (s : ℕ). getD numbers s 0) (take k slots), Q)) (d .count)
+
+    count-values : (Q : List ℕ) → length Q ≡ m → length (valuesOf (entryNumbers numbers slots n, Q)) ≡ 2 + n + m
+    count-values Q e =
+        let k = length-append (entryNumbers numbers slots n) (length Q ∷ Q) in
+        let l = entry-numbers-length numbers slots n slots-there in
+        omega arith
+
+    -- 16: the first reading takes more values than are lent.
+    pub answers-short : (before : List ℕ) → length before < 2 + n + m → Gives (given (firstReading le t words) before) (Refused 16 (2 + n + m)) before
+    answers-short before h =
+        let k = linked-by (firstLinking le t (stringOf string m)) refl in
+        let long = first-linking-some (d .decides) t (stringOf string m) (k .1) .0 .count ∙ length-string string m in
+        gives-short before (first-with (k .0) (k .1)) (count-values (k .0) long) h
+
+    -- What the writing asks.
+    pub can-link : Linkable Le string table m t
+    can-link = record {
+      string-there = record { few = omega (arith, c .few-places); there = omega (arith, c .few-places) };
+      room = omega (arith, c .few-places);
+      right = right-of-string string table m places m (omega arith) (omega arith) (c .right);
+      reduces = subst (λ (k : ℕ). Reduces Le t (stringOf string k)) same (found .reduces);
+    }
+
+    numbered : (i : ℕ) → i < n → getD slots i 0 < length numbers
+    numbered i h =
+        let long = length-take-le count slots (omega (arith, c .few, d .few)) in
+        let inside : i < count = omega (arith, found .taken, d .count) in
+        let k = choice-slots (d .upward) (d .some-nodes) (c .spelled) i (omega arith) in
+        omega (arith, k, getD-take count slots i 0 inside, d .numbers-room)
+
+    pub can-write : (answer : List ℕ) → 2 + n + m ≤ length answer → Writable numbers slots n m answer
+    can-write answer h = record { few = d .few-words; there = slots-there; numbered = numbered; space = h }
+
+    -- What is written are the values of the first reading.
+    values-are : {before after : List ℕ} (w : WroteAnswer Le string m t numbers slots n before after)
+        → after ≡ valuesOf (entryNumbers numbers slots n, w .partners) ++ drop (2 + n + m) before
+    values-are {before} w =
+        let ns = entryNumbers numbers slots n in
+        w .written ∙ ap (λ (k : ℕ). (k ∷ (ns ++ (m ∷ w .partners))) ++ drop (2 + n + m) before) (sym (entry-numbers-length numbers slots n slots-there))
+        ∙ ap (λ (k : ℕ). (length ns ∷ (ns ++ (k ∷ w .partners))) ++ drop (2 + n + m) before) (sym (w .whole))
+
+    pub answers-read :
+        (before after : List ℕ) → 2 + n + m ≤ length before → WroteAnswer Le string m t numbers slots n before after
+        → Gives (given (firstReading le t words) before) (Read (2 + n + m)) after
+    answers-read before after h w =
+        let linked = first-linking-greedy (d .decides) t (stringOf string m) (w .whole ∙ sym (length-string string m)) (w .greedy) in
+        gives-read before (first-with (w .partners) linked) (count-values (w .partners) (w .whole)) h (values-are w)

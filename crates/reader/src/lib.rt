@@ -1,18 +1,27 @@
-// Reads a line against a book. What reading any bytes comes to is defined in specs/Outcome, and what is promised of it in specs/Demands.
-mod run;
-mod writing;
-
+// Reads a line against a book: the book is scanned and its order closed, the line split and its words looked up, the entries laid out as a
+// graph, its chart filled, the first choice found, and its first linking written. What reading any bytes comes to is defined in specs/Outcome, and
+// what is promised of it in specs/Demands.
+use answer::write_answer;
+use bits::rows::member;
 use book::Scan;
 use book::records::scan_book;
-use graph::MAX_NODES;
+use book::rules::MAX_ENTRIES;
+use chart::fill;
+use choice::choose;
+use figures::limits::CHART_WORDS;
+use figures::limits::MAX_NODES;
+use figures::limits::MAX_PLACES;
+use figures::limits::MAX_TYPES;
+use figures::limits::MAX_WORDS;
+use figures::limits::TABLE_WORDS;
+use figures::refusals::BUFFER_TOO_SHORT;
+use figures::refusals::NO_READING;
 use graph::layout::lay_out;
 use line::CheckedLine;
 use line::lookup::check_line;
-use line::split::MAX_WORDS;
-use run::read_graph;
 ghost use Prim.Native.Nat.{_≤_};
 ghost use lib.ListN.{length};
-ghost use Rattle.line.specs.LineFaults.{maxWords};
+ghost use Rattle.figures.specs.Limits.{maxWords};
 ghost use Rattle.graph.specs.Lists.{Checked};
 ghost use Rattle.reader.specs.Outcome.{outcome};
 ghost use Rattle.reader.specs.Demands.{Promised};
@@ -25,66 +34,8 @@ pub enum LineAnswer {
     Refused { number: u32, value: usize },
 }
 
-// Reads a line that broke none of 11 to 14: lays it out as a graph, and reads that.
-fn read_found(
-    book: &[u8],
-    offsets: &[u16],
-    count: usize,
-    order: &[u64],
-    target: u8,
-    line: &[u8],
-    starts: &[usize],
-    ends: &[usize],
-    words: usize,
-    answer: &mut [u16],
-) -> LineAnswer
-    requires { ⌜ IsOpen (now book) (now offsets) count (now order) target ⌝ }
-    requires { ⌜ Checked (now book) (now offsets) count (now line) (now starts) (now ends) words ⌝ }
-    requires { ⌜ (maxWords ≤ length (now starts)) × (maxWords ≤ length (now ends)) ⌝ }
-    ensures { λ r. ⌜ Gives (outcome (now (book .entry)) (now (line .entry)) (now (answer .entry))) r (now (answer .exit)) ⌝ }
-{
-    let mut bases = [0u8; MAX_NODES];
-    let mut exponents = [0u8; MAX_NODES];
-    let mut nexts = [0u16; MAX_NODES];
-    let mut froms = [0u16; MAX_NODES];
-    let mut tos = [0u16; MAX_NODES];
-    let mut enters = [0u16; MAX_NODES];
-    let mut numbers = [0u16; MAX_NODES];
-    let nodes = lay_out(
-        book,
-        offsets,
-        count,
-        line,
-        starts,
-        ends,
-        words,
-        target,
-        &mut bases,
-        &mut exponents,
-        &mut nexts,
-        &mut froms,
-        &mut tos,
-        &mut enters,
-        &mut numbers,
-    );
-    read_graph(
-        order,
-        target,
-        nodes,
-        &bases,
-        &exponents,
-        &nexts,
-        &froms,
-        &tos,
-        &enters,
-        &numbers,
-        words,
-        answer,
-    )
-}
-
 // Reads a line against a book whose entries and order are kept.
-fn read_words(
+fn read_open(
     book: &[u8],
     offsets: &[u16],
     count: usize,
@@ -98,22 +49,90 @@ fn read_words(
 {
     let mut starts = [0usize; MAX_WORDS];
     let mut ends = [0usize; MAX_WORDS];
-    let found = check_line(book, offsets, count, line, &mut starts, &mut ends);
-    match found {
-        CheckedLine::Refused { number, value } => LineAnswer::Refused { number, value },
-        CheckedLine::Found(words) => read_found(
-            book,
-            offsets,
-            count,
-            order,
-            target,
-            line,
-            &starts,
-            &ends,
-            words,
-            answer,
-        ),
+    let checked = check_line(book, offsets, count, line, &mut starts, &mut ends);
+    let words = match checked {
+        CheckedLine::Refused { number, value } => return LineAnswer::Refused { number, value },
+        CheckedLine::Found(words) => words,
+    };
+    let mut simples = [0u16; MAX_NODES];
+    let mut nexts = [0u16; MAX_NODES];
+    let mut froms = [0u16; MAX_NODES];
+    let mut tos = [0u16; MAX_NODES];
+    let mut enters = [0u16; MAX_NODES];
+    let mut numbers = [0u16; MAX_NODES];
+    let nodes = lay_out(
+        book,
+        offsets,
+        count,
+        line,
+        &starts,
+        &ends,
+        words,
+        target,
+        &mut simples,
+        &mut nexts,
+        &mut froms,
+        &mut tos,
+        &mut enters,
+        &mut numbers,
+    );
+    let mut chart = [0u64; CHART_WORDS];
+    fill(
+        order,
+        nodes,
+        &simples,
+        &nexts,
+        &froms,
+        &tos,
+        &enters,
+        &mut chart,
+    );
+    let end = nodes - 1;
+    if !member(&chart, 0, end) {
+        return LineAnswer::Refused {
+            number: NO_READING,
+            value: 0,
+        };
     }
+    let mut string = [0u16; MAX_PLACES];
+    let mut slots = [0u16; MAX_NODES];
+    let mut table = [0u64; TABLE_WORDS];
+    let mut leaving = [0u64; TABLE_WORDS];
+    let chosen = choose(
+        order,
+        nodes,
+        &simples,
+        &nexts,
+        &froms,
+        &tos,
+        &enters,
+        &chart,
+        end,
+        &mut string,
+        &mut slots,
+        &mut table,
+        &mut leaving,
+    );
+    let m = chosen.places - 1;
+    let needed = 2 + words + m;
+    if answer.len() < needed {
+        return LineAnswer::Refused {
+            number: BUFFER_TOO_SHORT,
+            value: needed,
+        };
+    }
+    write_answer(
+        order,
+        &string,
+        &table,
+        m,
+        target,
+        &numbers,
+        &slots,
+        words,
+        answer,
+    );
+    LineAnswer::Read { values: needed }
 }
 
 // Reads a line against a book: any bytes, of any length, and any lent buffer. Book and line are not written to.
@@ -121,9 +140,9 @@ pub fn read_line(book: &[u8], line: &[u8], answer: &mut [u16]) -> LineAnswer
     ensures { λ r. ⌜ Gives (outcome (now (book .entry)) (now (line .entry)) (now (answer .entry))) r (now (answer .exit)) ⌝ }
     ensures { λ r. ⌜ Promised (now (book .entry)) (now (line .entry)) (now (answer .entry)) r (now (answer .exit)) ⌝ }
 {
-    let mut names = [0u16; order::MAX_TYPES];
-    let mut entries = [0u16; book::rules::MAX_ENTRIES];
-    let mut direct = [0u64; order::MAX_TYPES];
+    let mut names = [0u16; MAX_TYPES];
+    let mut entries = [0u16; MAX_ENTRIES];
+    let mut direct = [0u64; MAX_TYPES];
     let scan = scan_book(book, &mut names, &mut entries, &mut direct);
     match scan {
         Scan::Refused { number, value } => LineAnswer::Refused { number, value },
@@ -133,7 +152,7 @@ pub fn read_line(book: &[u8], line: &[u8], answer: &mut [u16]) -> LineAnswer
             target,
         } => {
             let order = order::close(&direct, types);
-            read_words(book, &entries, count, &order.rows, target, line, answer)
+            read_open(book, &entries, count, &order.rows, target, line, answer)
         }
     }
 }

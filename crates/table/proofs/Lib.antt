@@ -1,5 +1,4 @@
--- The laws of the string's stretches, of the table and of the copied string.
+-- The laws of the walk over a row, of the string's stretches, and of the table.
 pub mod Walking
 pub mod Stretches
 pub mod TableLaws
-pub mod CopyLaws

@@ -1,3 +1,2 @@
--- The table of what vanishes, and the string of picked nodes.
+-- The table of a string: which of its stretches vanish.
 pub mod Table
-pub mod Copy

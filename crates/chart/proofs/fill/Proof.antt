@@ -12,18 +12,18 @@ use Rattle.chart.proofs.fill.Statement.{statement}
 use Rattle.chart.proofs.fill.Tie as tie
 
 abbrev Inv-loop : tie.InvT-loop
-Inv-loop order count bases exponents nexts froms tos enters rows₀ u₀ rows u =
-    (u ≤ count) × (length rows ≡ length rows₀) × FilledFrom (InRows order) (graph count bases exponents nexts froms tos enters) rows u
+Inv-loop order count simples nexts froms tos enters rows₀ u₀ rows u =
+    (u ≤ count) × (length rows ≡ length rows₀) × FilledFrom (InRows order) (graph count simples nexts froms tos enters) rows u
 
 abbrev μ-loop : tie.MeasureT-loop
-μ-loop order count bases exponents nexts froms tos enters rows₀ u₀ rows u = u
+μ-loop order count simples nexts froms tos enters rows₀ u₀ rows u = u
 
 abbrev the-order : tie.Start Inv-loop μ-loop → Relation
 the-order s = InRows (s .args .order .now)
 
 abbrev the-graph : tie.Start Inv-loop μ-loop → Graph
 the-graph s =
-    graph (s .args .count) (s .args .bases .now) (s .args .exponents .now) (s .args .nexts .now) (s .args .froms .now) (s .args .tos .now) (s .args .enters .now)
+    graph (s .args .count) (s .args .simples .now) (s .args .nexts .now) (s .args .froms .now) (s .args .tos .now) (s .args .enters .now)
 
 loop-holds : tie.Need-loop-holds Inv-loop μ-loop
 loop-holds c = (omega arith, refl, λ w h k. absurd (omega arith))
@@ -44,7 +44,7 @@ shared-slice-read-boundary-row : tie.Need-shared-slice-read-boundary-row Inv-loo
 shared-slice-read-boundary-row c = omega arith
 
 cast-boundary-row : tie.Need-cast-boundary-row Inv-loop μ-loop
-cast-boundary-row c = omega (arith, c .shared-slice-known9 .given (c .before .before .before .before .before .loop .u - 1))
+cast-boundary-row c = omega (arith, c .shared-slice-known8 .given (c .before .before .before .before .before .loop .u - 1))
 
 mul-boundary-row-2 : tie.Need-mul-boundary-row-2 Inv-loop μ-loop
 mul-boundary-row-2 c = omega arith
@@ -53,17 +53,17 @@ shared-slice-read-boundary-row-2 : tie.Need-shared-slice-read-boundary-row-2 Inv
 shared-slice-read-boundary-row-2 c = omega arith
 
 cast-boundary-row-2 : tie.Need-cast-boundary-row-2 Inv-loop μ-loop
-cast-boundary-row-2 c = omega (arith, c .shared-slice-known10 .given (c .before .before .before .before .before .before .loop .u - 1))
+cast-boundary-row-2 c = omega (arith, c .shared-slice-known9 .given (c .before .before .before .before .before .before .loop .u - 1))
 
 boundary-row-requires : tie.Need-boundary-row-requires Inv-loop μ-loop
 boundary-row-requires c κs =
-    let s = c .before .before .before .before .before .before .before .before .before .before .before .before .before .before .before in
+    let s = c .before .before .before .before .before .before .before .before .before .before .before .before .before .before in
     let l = c .before .before .before .before .before .before .loop in
     boundary-asks (the-order s) (the-graph s) (s .args .rows .now) (l .rows) (l .u) (s .pre) (l .inv .0) (c .before .before .before .before .before .loop-test .taken) (l .inv .1) (l .inv .2) (c .before .before .before .if1 .taken)
 
 store-requires : tie.Need-store-requires Inv-loop μ-loop
 store-requires c κs =
-    let s = c .before .before .before .before .before .before .before .before .before .before .before .before .before .before .before .before .before in
+    let s = c .before .before .before .before .before .before .before .before .before .before .before .before .before .before .before .before in
     let l = c .before .before .before .before .before .before .before .before .loop in
     turn-row (the-order s) (the-graph s) (s .args .rows .now) (l .rows) (l .u) (s .pre) (l .inv .0) (c .before .before .before .before .before .before .before .loop-test .taken) (l .inv .1) (l .inv .2)
 
@@ -72,19 +72,19 @@ loop-less c = omega arith
 
 loop-again : tie.Need-loop-again Inv-loop μ-loop
 loop-again c =
-    let s = c .before .before .before .before .before .before .before .before .before .before .before .before .before .before .before .before .before .before .before .before in
+    let s = c .before .before .before .before .before .before .before .before .before .before .before .before .before .before .before .before .before .before .before in
     let l = c .before .before .before .before .before .before .before .before .before .before .before .loop in
     boundary-turn (the-order s) (the-graph s) (s .args .rows .now) (l .rows) (l .u) (s .pre) (l .inv .0) (c .before .before .before .before .before .before .before .before .before .before .loop-test .taken) (l .inv .1) (l .inv .2) (c .before .before .store .last .0) (c .before .before .before .before .boundary-row .result .words) (c .before .before .store .ensures) (c .before .before .before .before .before .before .before .before .if1 .taken) (c .before .before .before .before .boundary-row .ensures)
 
 simple-row-requires : tie.Need-simple-row-requires Inv-loop μ-loop
 simple-row-requires c κs =
-    let s = c .before .before .before .before .before .before .before .before .before .before .before .before .before in
+    let s = c .before .before .before .before .before .before .before .before .before .before .before .before in
     let l = c .before .before .before .before .loop in
     simple-asks (the-order s) (the-graph s) (s .args .rows .now) (l .rows) (l .u) (s .pre) (l .inv .0) (c .before .before .before .loop-test .taken) (l .inv .1) (l .inv .2) (c .before .if1 .left)
 
 store-requires-2 : tie.Need-store-requires-2 Inv-loop μ-loop
 store-requires-2 c κs =
-    let s = c .before .before .before .before .before .before .before .before .before .before .before .before .before .before .before in
+    let s = c .before .before .before .before .before .before .before .before .before .before .before .before .before .before in
     let l = c .before .before .before .before .before .before .loop in
     turn-row (the-order s) (the-graph s) (s .args .rows .now) (l .rows) (l .u) (s .pre) (l .inv .0) (c .before .before .before .before .before .loop-test .taken) (l .inv .1) (l .inv .2)
 
@@ -93,7 +93,7 @@ loop-less-2 c = omega arith
 
 loop-again-2 : tie.Need-loop-again-2 Inv-loop μ-loop
 loop-again-2 c =
-    let s = c .before .before .before .before .before .before .before .before .before .before .before .before .before .before .before .before .before .before in
+    let s = c .before .before .before .before .before .before .before .before .before .before .before .before .before .before .before .before .before in
     let l = c .before .before .before .before .before .before .before .before .before .loop in
     simple-turn (the-order s) (the-graph s) (s .args .rows .now) (l .rows) (l .u) (s .pre) (l .inv .0) (c .before .before .before .before .before .before .before .before .loop-test .taken) (l .inv .1) (l .inv .2) (c .before .before .store2 .last .0) (c .before .before .before .before .simple-row .result .words) (c .before .before .store2 .ensures) (c .before .before .before .before .before .before .if1 .left) (c .before .before .before .before .simple-row .ensures)
 

@@ -13,12 +13,12 @@ use Rattle.chart.proofs.simple_row.Statement.{statement}
 use Rattle.chart.proofs.simple_row.Tie as tie
 
 abbrev Inv-loop : tie.InvT-loop
-Inv-loop order bases exponents nexts rows u behind row₀ y₀ row y =
+Inv-loop order simples nexts rows u behind row₀ y₀ row y =
     (y ≤ rowBits) × (behind ≡ getD nexts u 0) × (y < rowBits → InRow rows behind y)
-    × GatheredTo (row .words) (Only u) (LinkPart (InRows order) bases exponents nexts rows u) y
+    × GatheredTo (row .words) (Only u) (LinkPart (InRows order) simples nexts rows u) y
 
 abbrev μ-loop : tie.MeasureT-loop
-μ-loop order bases exponents nexts rows u behind row₀ y₀ row y = rowBits - y
+μ-loop order simples nexts rows u behind row₀ y₀ row y = rowBits - y
 
 mul-behind : tie.Need-mul-behind Inv-loop μ-loop
 mul-behind c = omega arith
@@ -40,11 +40,11 @@ next-member-requires c κs = omega arith
 
 -- The parts that are gathered.
 abbrev link-part : tie.Start Inv-loop μ-loop → ℕ → ℕ → Type 0
-link-part s = LinkPart (InRows (s .args .order .now)) (s .args .bases .now) (s .args .exponents .now) (s .args .nexts .now) (s .args .rows .now) (s .args .u)
+link-part s = LinkPart (InRows (s .args .order .now)) (s .args .simples .now) (s .args .nexts .now) (s .args .rows .now) (s .args .u)
 
 loop-holds : tie.Need-loop-holds Inv-loop μ-loop
 loop-holds c =
-    let s = c .before .before .before .before .before .before .before .before .before in
+    let s = c .before .before .before .before .before .before .before .before in
     let first = c .next-member .ensures in (
       first .within,
       refl,
@@ -56,7 +56,7 @@ loop-holds c =
 join-row-requires : tie.Need-join-row-requires Inv-loop μ-loop
 join-row-requires c κs =
     let l = c .before .loop in
-    let pre = c .before .before .before .before .before .before .before .before .before .before .before .pre .1 in
+    let pre = c .before .before .before .before .before .before .before .before .before .before .pre .1 in
     (pre .node, pre .reached (l .y) (l .inv .2 (c .loop-test .taken)))
 
 add-next-member : tie.Need-add-next-member Inv-loop μ-loop
@@ -70,11 +70,11 @@ loop-less c = omega arith
 
 loop-again : tie.Need-loop-again Inv-loop μ-loop
 loop-again c =
-    let s = c .before .before .before .before .before .before .before .before .before .before .before .before .before in
+    let s = c .before .before .before .before .before .before .before .before .before .before .before .before in
     let l = c .before .before .before .loop in
     let next = c .next-member2 .ensures in
     let one = gather-one (Only (s .args .u)) (link-part s) (l .row .words) (c .before .join-row .result .words) (l .y) (l .inv .3)
-    (part-says {B = Joined (InRows (s .args .order .now)) (s .args .bases .now) (s .args .exponents .now) (s .args .nexts .now) (s .args .rows .now) (s .args .u) (l .y)} (c .before .join-row .result .words) (c .before .join-row .ensures)
+    (part-says {B = Joined (InRows (s .args .order .now)) (s .args .simples .now) (s .args .nexts .now) (s .args .rows .now) (s .args .u) (l .y)} (c .before .join-row .result .words) (c .before .join-row .ensures)
     (λ v. (λ j. record { reached = l .inv .2 (c .before .before .loop-test .taken); joined = j }, λ p. p .joined))) in (
       next .within,
       refl,
@@ -85,7 +85,7 @@ loop-again c =
 
 returns : tie.Need-returns Inv-loop μ-loop
 returns c =
-    let s = c .before .before .before .before .before .before .before .before .before .before .before in
+    let s = c .before .before .before .before .before .before .before .before .before .before in
     let l = c .before .loop in
     gather-ends (Only (s .args .u)) (link-part s) (l .row .words) (l .y) (λ m v p. omega (arith, p .reached .small)) (l .inv .3)
 

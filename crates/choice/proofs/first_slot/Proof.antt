@@ -5,22 +5,22 @@ use mathlib.Core.Path.{_≡_, refl, sym, _∙_}
 use mathlib.Core.Bool.{true≢false}
 use lib.ListN.{getD}
 use Rattle.figures.specs.Limits.{rowBits}
-use Rattle.choice.specs.Sets.{some}
+use Rattle.bits.specs.Gathered.{within}
 use Rattle.choice.proofs.Searching.{Passed, Tried, try-starts, try-next, none-tried, pass-slot, search-found, search-fails}
 use Rattle.choice.proofs.first_slot.Statement.{statement}
 use Rattle.choice.proofs.first_slot.Tie as tie
 
 abbrev Inv-loop : tie.InvT-loop
-Inv-loop enters backs outs n from to s node m₀ m = (node ≡ getD enters s 0) × Tried backs outs n node m
+Inv-loop enters table leaving n from to s node m₀ m = (node ≡ getD enters s 0) × Tried table leaving n node m
 
 abbrev μ-loop : tie.MeasureT-loop
-μ-loop enters backs outs n from to s node m₀ m = rowBits - m
+μ-loop enters table leaving n from to s node m₀ m = rowBits - m
 
 abbrev Inv-search : tie.InvT-search
-Inv-search enters backs outs n from to s₀ s = Passed enters backs outs n from s
+Inv-search enters table leaving n from to s₀ s = Passed enters table leaving n from s
 
 abbrev μ-search : tie.MeasureT-search
-μ-search enters backs outs n from to s₀ s = to - s
+μ-search enters table leaving n from to s₀ s = to - s
 
 search-holds : tie.Need-search-holds Inv-loop μ-loop Inv-search μ-search
 search-holds c = record { from-on = omega arith; none = λ r l h. absurd (omega arith) }
@@ -35,19 +35,19 @@ cast-node : tie.Need-cast-node Inv-loop μ-loop Inv-search μ-search
 cast-node c = omega (arith, c .shared-slice-known4 .given (c .before .before .search .s))
 
 next-member-requires : tie.Need-next-member-requires Inv-loop μ-loop Inv-search μ-search
-next-member-requires c κs = (c .before .before .before .before .before .before .pre .back-room, omega arith)
+next-member-requires c κs = (c .before .before .before .before .before .before .pre .table-room, omega arith)
 
 loop-holds : tie.Need-loop-holds Inv-loop μ-loop Inv-search μ-search
 loop-holds c = (refl, try-starts _ _ _ _ (c .next-member .result) (c .next-member .ensures))
 
 member-requires : tie.Need-member-requires Inv-loop μ-loop Inv-search μ-search
-member-requires c κs = c .before .before .before .before .before .before .before .before .before .pre .out-room (c .before .loop .m) (c .before .loop .inv .1 .member (c .loop-test .taken))
+member-requires c κs = c .before .before .before .before .before .before .before .before .before .pre .leaving-room (c .before .loop .m) (c .before .loop .inv .1 .member (c .loop-test .taken))
 
 add-next-member : tie.Need-add-next-member Inv-loop μ-loop Inv-search μ-search
 add-next-member c = omega arith
 
 next-member-requires-2 : tie.Need-next-member-requires-2 Inv-loop μ-loop Inv-search μ-search
-next-member-requires-2 c κs = (c .before .before .before .before .before .before .before .before .before .before .before .pre .back-room, omega arith)
+next-member-requires-2 c κs = (c .before .before .before .before .before .before .before .before .before .before .before .pre .table-room, omega arith)
 
 loop-less : tie.Need-loop-less Inv-loop μ-loop Inv-search μ-search
 loop-less c = omega (arith, c .next-member2 .ensures .from-on)
@@ -70,20 +70,20 @@ search-again c =
     let l = c .before .loop in
     let s = c .before .before .before .before .before .search .s in
     let all : l .m ≡ rowBits = omega (arith, l .inv .1 .within) in
-    let tried : Tried (a .backs .now) (a .outs .now) (a .n) (getD (a .enters .now) s 0) rowBits = rw all at (l .inv .1) in
-    pass-slot (a .enters .now) (a .backs .now) (a .outs .now) (a .n) (a .from) s (c .before .before .before .before .before .search .inv) (none-tried (a .backs .now) (a .outs .now) (a .n) (getD (a .enters .now) s 0) tried)
+    let tried : Tried (a .table .now) (a .leaving .now) (a .n) (getD (a .enters .now) s 0) rowBits = rw all at (l .inv .1) in
+    pass-slot (a .enters .now) (a .table .now) (a .leaving .now) (a .n) (a .from) s (c .before .before .before .before .before .search .inv) (none-tried (a .table .now) (a .leaving .now) (a .n) (getD (a .enters .now) s 0) tried)
 
 returns : tie.Need-returns Inv-loop μ-loop Inv-search μ-search
 returns c =
     let a = c .before .before .before .before .before .args in
-    search-fails (a .enters .now) (a .backs .now) (a .outs .now) (a .n) (a .from) (c .before .search .s) (c .before .search .inv) (a .to) (c .search-test .left)
+    search-fails (a .enters .now) (a .table .now) (a .leaving .now) (a .n) (a .from) (c .before .search .s) (c .before .search .inv) (a .to) (c .search-test .left)
 
 returns-2 : tie.Need-returns-2 Inv-loop μ-loop Inv-search μ-search
 returns-2 c =
     let a = c .before .before .before .before .before .before .before .before .before .before .before .args in
     let l = c .before .before .before .loop in
-    search-found (a .enters .now) (a .backs .now) (a .outs .now) (a .n) (a .from) (c .before .before .before .before .before .before .before .search .s) (c .before .before .before .before .before .before .before .search .inv) (a .to)
-    (some (l .m) (record { stretch = l .inv .1 .member (c .before .before .loop-test .taken); leaving = c .before .member .ensures .0 (c .if1 .taken) }))
+    search-found (a .enters .now) (a .table .now) (a .leaving .now) (a .n) (a .from) (c .before .before .before .before .before .before .before .search .s) (c .before .before .before .before .before .before .before .search .inv) (a .to)
+    (within (l .m) (record { stretch = l .inv .1 .member (c .before .before .loop-test .taken); leaving-there = c .before .member .ensures .0 (c .if1 .taken) }))
 
 pub first-slot-spec : {M : Type 1} → statement M
 first-slot-spec =

@@ -11,7 +11,13 @@ add-if1 : tie.Need-add-if1
 add-if1 c = search needs
 
 returns : tie.Need-returns
-returns c = let a = c .before .before .args in false-iff (held-apart (InRows (a .rows .now)) (a .a) (a .b) (a .x) (a .y) (c .if1 .taken))
+returns c = let a = c .before .before .args in false-iff (held-apart (InRows (a .rows .now)) (a .x) (a .y) (c .if1 .taken))
+
+cast-a : tie.Need-cast-a
+cast-a c = search needs
+
+cast-b : tie.Need-cast-b
+cast-b c = search needs
 
 stands-below-requires : tie.Need-stands-below-requires
 stands-below-requires c κs = search needs
@@ -23,15 +29,15 @@ returns-2 : tie.Need-returns-2
 returns-2 c =
     let a = c .before .before .before .before .args in
     Iff·trans (c .stands-below .ensures)
-    (held-even (InRows (a .rows .now)) (a .a) (a .b) (a .x) (a .y) (c .before .before .if1 .left) (c .before .if2 .taken))
+    (held-even (InRows (a .rows .now)) (a .x) (a .y) (c .before .before .if1 .left) (c .before .if2 .taken))
 
 returns-3 : tie.Need-returns-3
 returns-3 c =
     let a = c .before .before .before .before .args in
     Iff·trans (c .stands-below2 .ensures)
-    (held-odd (InRows (a .rows .now)) (a .a) (a .b) (a .x) (a .y) (c .before .before .if1 .left) (c .before .if2 .left))
+    (held-odd (InRows (a .rows .now)) (a .x) (a .y) (c .before .before .if1 .left) (c .before .if2 .left))
 
 pub may-contract-spec : {M : Type 1} → statement M
 may-contract-spec =
     tie.close
-    (tie.spec add-if1 returns stands-below-requires stands-below-requires-2 returns-2 returns-3)
+    (tie.spec add-if1 returns cast-a cast-b stands-below-requires stands-below-requires-2 returns-2 returns-3)

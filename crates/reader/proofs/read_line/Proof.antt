@@ -28,11 +28,11 @@ close-requires c κs =
     let o = rw (c .before .before .scan2 .given .1) at (c .before .before .before .before .before .before .before .scan-book .ensures) in
     opened-rows _ _ _ _ _ (o .0) (o .1)
 
-slice-aggregate-read-words : tie.Need-slice-aggregate-read-words
-slice-aggregate-read-words c = search needs
+slice-aggregate-read-open : tie.Need-slice-aggregate-read-open
+slice-aggregate-read-open c = search needs
 
-read-words-requires : tie.Need-read-words-requires
-read-words-requires c κs =
+read-open-requires : tie.Need-read-open-requires
+read-open-requires c κs =
     let o = rw (c .before .before .before .before .before .before .before .before .scan2 .given .1) at (c .before .before .before .before .before .before .before .before .before .before .before .before .before .scan-book .ensures) in
     (o .0, is-open _ _ _ _ _ (o .0) _ (o .1) (c .before .before .before .before .before .close .ensures))
 
@@ -47,7 +47,7 @@ same-length c = search needs
 
 returns-2 : tie.Need-returns-2
 returns-2 c =
-    let g = c .before .before .read-words .ensures in
+    let g = c .before .before .read-open .ensures in
     (g, gives-promised _ _ _ g)
 
 pub read-line-spec : {M : Type 1} → statement M
@@ -61,8 +61,8 @@ read-line-spec =
     enum-known-scan
     enum-known-scan-2
     close-requires
-    slice-aggregate-read-words
-    read-words-requires
+    slice-aggregate-read-open
+    read-open-requires
     returns
     same-length
     returns-2)

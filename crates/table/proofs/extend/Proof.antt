@@ -7,7 +7,7 @@ use Rattle.table.proofs.extend.Tie as tie
 
 next-row-requires : tie.Need-next-row-requires
 next-row-requires c κs =
-    let s = c .before .before .before .before .before in
+    let s = c .before .before .before .before in
     (s .pre .0, (omega arith, λ j h. s .pre .1 .1 (s .args .k) (omega arith) j .0 h .ordered))
 
 add-store : tie.Need-add-store
@@ -21,8 +21,8 @@ same-length c = search needs
 
 returns : tie.Need-returns
 returns c =
-    let s = c .before .before .before .before .before .before .before .before .before .before in
-    string-extends (s .args .bases .now) (s .args .exponents .now) (s .args .rows .now) _ _ (s .args .k) (s .pre .1 .1) (c .before .before .before .before .next-row .ensures)
+    let s = c .before .before .before .before .before .before .before .before .before in
+    string-extends (s .args .string .now) (s .args .table .now) _ _ (s .args .k) (s .pre .1 .1) (c .before .before .before .before .next-row .ensures)
     (c .before .before .store .ensures)
 
 pub extend-spec : {M : Type 1} → statement M

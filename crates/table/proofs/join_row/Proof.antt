@@ -6,17 +6,17 @@ use Rattle.bits.proofs.Gathering.{part-says, none-says}
 use Rattle.table.proofs.join_row.Statement.{statement}
 use Rattle.table.proofs.join_row.Tie as tie
 
+mul-may-contract : tie.Need-mul-may-contract
+mul-may-contract c = search needs
+
 shared-slice-read-may-contract : tie.Need-shared-slice-read-may-contract
 shared-slice-read-may-contract c = search needs
 
+mul-may-contract-2 : tie.Need-mul-may-contract-2
+mul-may-contract-2 c = search needs
+
 shared-slice-read-may-contract-2 : tie.Need-shared-slice-read-may-contract-2
 shared-slice-read-may-contract-2 c = search needs
-
-shared-slice-read-may-contract-3 : tie.Need-shared-slice-read-may-contract-3
-shared-slice-read-may-contract-3 c = search needs
-
-shared-slice-read-may-contract-4 : tie.Need-shared-slice-read-may-contract-4
-shared-slice-read-may-contract-4 c = search needs
 
 may-contract-requires : tie.Need-may-contract-requires
 may-contract-requires c κs = search needs
@@ -32,7 +32,7 @@ returns c =
 
 returns-2 : tie.Need-returns-2
 returns-2 c =
-    let a = c .before .before .before .before .before .before .before .before .before .before .args in
+    let a = c .before .before .before .before .before .before .before .args in
     let may = c .before .may-contract .ensures in
     none-says (a .row .words) (λ v j. true≢false (sym (may .1 (j .fits)) ∙ c .if1 .left))
 
@@ -40,10 +40,10 @@ pub join-row-spec : {M : Type 1} → statement M
 join-row-spec =
     tie.close
     (tie.spec
+    mul-may-contract
     shared-slice-read-may-contract
+    mul-may-contract-2
     shared-slice-read-may-contract-2
-    shared-slice-read-may-contract-3
-    shared-slice-read-may-contract-4
     may-contract-requires
     unite-requires
     returns

@@ -11,10 +11,10 @@ use Rattle.table.proofs.next_row.Statement.{statement}
 use Rattle.table.proofs.next_row.Tie as tie
 
 abbrev Inv-loop : tie.InvT-loop
-Inv-loop order bases exponents rows k row₀ j₀ row j = Walking (Only (suc k)) (ContractsAt (InRows order) bases exponents k) rows k (row .words) j
+Inv-loop order string table k row₀ j₀ row j = Walking (Only (suc k)) (ContractsAt (InRows order) string k) table k (row .words) j
 
 abbrev μ-loop : tie.MeasureT-loop
-μ-loop order bases exponents rows k row₀ j₀ row j = rowBits - j
+μ-loop order string table k row₀ j₀ row j = rowBits - j
 
 empty-requires : tie.Need-empty-requires Inv-loop μ-loop
 empty-requires c κs = omega arith
@@ -39,7 +39,7 @@ sub-join-row c = omega arith
 join-row-requires : tie.Need-join-row-requires Inv-loop μ-loop
 join-row-requires c κs =
     let l = c .before .loop in
-    let inside = c .before .before .before .before .before .before .before .before .before .pre .1 .1 (l .j) (l .inv .member (c .loop-test .taken)) in
+    let inside = c .before .before .before .before .before .before .before .before .pre .1 .1 (l .j) (l .inv .member (c .loop-test .taken)) in
     omega arith
 
 add-next-member : tie.Need-add-next-member Inv-loop μ-loop

@@ -6,6 +6,12 @@ use Rattle.bits.proofs.Gathering.{part-says, none-says}
 use Rattle.answer.proofs.links.join_remaining.Statement.{statement}
 use Rattle.answer.proofs.links.join_remaining.Tie as tie
 
+mul-may-remain : tie.Need-mul-may-remain
+mul-may-remain c = search needs
+
+shared-slice-read-may-remain : tie.Need-shared-slice-read-may-remain
+shared-slice-read-may-remain c = search needs
+
 may-remain-requires : tie.Need-may-remain-requires
 may-remain-requires c κs = search needs
 
@@ -25,4 +31,4 @@ returns-2 c =
     none-says (a .row .words) (λ v j. true≢false (sym (may .1 (j .fits)) ∙ c .if1 .left))
 
 pub join-remaining-spec : {M : Type 1} → statement M
-join-remaining-spec = tie.close (tie.spec may-remain-requires unite-requires returns returns-2)
+join-remaining-spec = tie.close (tie.spec mul-may-remain shared-slice-read-may-remain may-remain-requires unite-requires returns returns-2)

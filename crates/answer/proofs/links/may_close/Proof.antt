@@ -6,17 +6,17 @@ use Rattle.bits.proofs.Cases.{false-iff}
 use Rattle.answer.proofs.links.may_close.Statement.{statement}
 use Rattle.answer.proofs.links.may_close.Tie as tie
 
+mul-may-contract : tie.Need-mul-may-contract
+mul-may-contract c = search needs
+
 shared-slice-read-may-contract : tie.Need-shared-slice-read-may-contract
 shared-slice-read-may-contract c = search needs
 
+mul-may-contract-2 : tie.Need-mul-may-contract-2
+mul-may-contract-2 c = search needs
+
 shared-slice-read-may-contract-2 : tie.Need-shared-slice-read-may-contract-2
 shared-slice-read-may-contract-2 c = search needs
-
-shared-slice-read-may-contract-3 : tie.Need-shared-slice-read-may-contract-3
-shared-slice-read-may-contract-3 c = search needs
-
-shared-slice-read-may-contract-4 : tie.Need-shared-slice-read-may-contract-4
-shared-slice-read-may-contract-4 c = search needs
 
 may-contract-requires : tie.Need-may-contract-requires
 may-contract-requires c κs = search needs
@@ -42,10 +42,10 @@ pub may-close-spec : {M : Type 1} → statement M
 may-close-spec =
     tie.close
     (tie.spec
+    mul-may-contract
     shared-slice-read-may-contract
+    mul-may-contract-2
     shared-slice-read-may-contract-2
-    shared-slice-read-may-contract-3
-    shared-slice-read-may-contract-4
     may-contract-requires
     add-member
     member-requires

@@ -6,6 +6,12 @@ use Rattle.bits.proofs.Cases.{false-iff}
 use Rattle.answer.proofs.links.may_stay.Statement.{statement}
 use Rattle.answer.proofs.links.may_stay.Tie as tie
 
+mul-may-remain : tie.Need-mul-may-remain
+mul-may-remain c = search needs
+
+shared-slice-read-may-remain : tie.Need-shared-slice-read-may-remain
+shared-slice-read-may-remain c = search needs
+
 may-remain-requires : tie.Need-may-remain-requires
 may-remain-requires c κs = search needs
 
@@ -28,4 +34,4 @@ returns-2 c =
 
 pub may-stay-spec : {M : Type 1} → statement M
 may-stay-spec =
-    tie.close (tie.spec may-remain-requires add-member member-requires returns returns-2)
+    tie.close (tie.spec mul-may-remain shared-slice-read-may-remain may-remain-requires add-member member-requires returns returns-2)

@@ -3,16 +3,16 @@ use Prim.Native.Nat.{_-_}
 use native.Mathlib.Omega.{arith}
 use Rattle.pregroup.specs.Held.{InRows}
 use Rattle.figures.specs.Limits.{rowBits}
-use Rattle.answer.specs.Links.{Remains}
+use Rattle.answer.specs.Links.{RemainsAt}
 use Rattle.table.proofs.Walking.{Walking, walking-starts, walking-turns, walking-ends}
 use Rattle.answer.proofs.links.reducing_row.Statement.{statement}
 use Rattle.answer.proofs.links.reducing_row.Tie as tie
 
 abbrev Inv-loop : tie.InvT-loop
-Inv-loop order bases exponents target rows m row₀ j₀ row j = Walking (λ u. ⊥) (Remains (InRows order) target bases exponents) rows m (row .words) j
+Inv-loop order string target table m row₀ j₀ row j = Walking (λ u. ⊥) (RemainsAt (InRows order) target string) table m (row .words) j
 
 abbrev μ-loop : tie.MeasureT-loop
-μ-loop order bases exponents target rows m row₀ j₀ row j = rowBits - j
+μ-loop order string target table m row₀ j₀ row j = rowBits - j
 
 empty-requires : tie.Need-empty-requires Inv-loop μ-loop
 empty-requires c κs = omega arith
@@ -29,7 +29,7 @@ sub-join-remaining c = omega arith
 join-remaining-requires : tie.Need-join-remaining-requires Inv-loop μ-loop
 join-remaining-requires c κs =
     let l = c .before .loop in
-    let inside = c .before .before .before .before .before .before .before .before .pre .1 .1 (l .j) (l .inv .member (c .loop-test .taken)) in
+    let inside = c .before .before .before .before .before .before .before .pre .1 .1 (l .j) (l .inv .member (c .loop-test .taken)) in
     omega arith
 
 add-next-member : tie.Need-add-next-member Inv-loop μ-loop

@@ -15,25 +15,19 @@ shared-slice-read-next : tie.Need-shared-slice-read-next
 shared-slice-read-next c = search needs
 
 returns : tie.Need-returns
-returns c = false-iff (λ (l : LinksTo _ _ _ _ _ _ _ _). omega (arith, l .simple))
+returns c = false-iff (λ (l : LinksTo _ _ _ _ _ _). omega (arith, l .simple))
+
+mul-may-contract : tie.Need-mul-may-contract
+mul-may-contract c = search needs
 
 shared-slice-read-may-contract : tie.Need-shared-slice-read-may-contract
 shared-slice-read-may-contract c = search needs
-
-shared-slice-read-may-contract-2 : tie.Need-shared-slice-read-may-contract-2
-shared-slice-read-may-contract-2 c = search needs
-
-shared-slice-read-may-contract-3 : tie.Need-shared-slice-read-may-contract-3
-shared-slice-read-may-contract-3 c = search needs
-
-shared-slice-read-may-contract-4 : tie.Need-shared-slice-read-may-contract-4
-shared-slice-read-may-contract-4 c = search needs
 
 may-contract-requires : tie.Need-may-contract-requires
 may-contract-requires c κs = search needs
 
 cast-member : tie.Need-cast-member
-cast-member c = omega (arith, c .before .before .before .before .before .before .before .shared-slice-known6 .given (c .before .before .before .before .before .before .before .before .before .before .before .before .before .args .u))
+cast-member c = omega (arith, c .before .before .before .before .shared-slice-known5 .given (c .before .before .before .before .before .before .before .before .before .args .u))
 
 member-requires : tie.Need-member-requires
 member-requires c κs = search needs
@@ -58,10 +52,8 @@ links-to-spec =
     mul-next
     shared-slice-read-next
     returns
+    mul-may-contract
     shared-slice-read-may-contract
-    shared-slice-read-may-contract-2
-    shared-slice-read-may-contract-3
-    shared-slice-read-may-contract-4
     may-contract-requires
     cast-member
     member-requires

@@ -7,99 +7,95 @@ use Rattle.graph.proofs.layout.lay_entries.Statement.{statement}
 use Rattle.graph.proofs.layout.lay_entries.Tie as tie
 
 abbrev Inv-loop : tie.InvT-loop
-Inv-loop book offsets found n boundary bases₀ exponents₀ nexts₀ enters₀ numbers₀ place₀ k₀ bases exponents nexts enters numbers place k =
-    Entering book offsets found n boundary place₀ (cells bases₀ exponents₀ nexts₀ enters₀ numbers₀) place (cells bases exponents nexts enters numbers) k
+Inv-loop book offsets found n boundary simples₀ nexts₀ enters₀ numbers₀ place₀ k₀ simples nexts enters numbers place k =
+    Entering book offsets found n boundary place₀ (cells simples₀ nexts₀ enters₀ numbers₀) place (cells simples nexts enters numbers) k
 
 abbrev μ-loop : tie.MeasureT-loop
-μ-loop book offsets found n boundary bases₀ exponents₀ nexts₀ enters₀ numbers₀ place₀ k₀ bases exponents nexts enters numbers place k =
+μ-loop book offsets found n boundary simples₀ nexts₀ enters₀ numbers₀ place₀ k₀ simples nexts enters numbers place k =
     n - k
 
 loop-holds : tie.Need-loop-holds Inv-loop μ-loop
 loop-holds c =
-    let a = c .before .before .before .before .before .before .before .before .args in
-    entering-start (a .book .now) (a .offsets .now) (a .found .now) (a .n) (a .boundary) (a .p) (cells (a .bases .now) (a .exponents .now) (a .nexts .now) (a .enters .now) (a .numbers .now)) (c .before .before .before .before .before .before .before .before .pre)
+    let a = c .before .before .before .before .before .before .before .args in
+    entering-start (a .book .now) (a .offsets .now) (a .found .now) (a .n) (a .boundary) (a .p) (cells (a .simples .now) (a .nexts .now) (a .enters .now) (a .numbers .now)) (c .before .before .before .before .before .before .before .pre)
 
 mul-offset : tie.Need-mul-offset Inv-loop μ-loop
-mul-offset c = omega (arith, c .loop-test .taken, c .before .before .before .before .before .before .before .before .before .before .pre .named .few, c .before .before .before .before .before .before .before .before .before .before .pre .lexicon .entries .few)
+mul-offset c = omega (arith, c .loop-test .taken, c .before .before .before .before .before .before .before .before .before .pre .named .few, c .before .before .before .before .before .before .before .before .before .pre .lexicon .entries .few)
 
 shared-slice-read-offset : tie.Need-shared-slice-read-offset Inv-loop μ-loop
-shared-slice-read-offset c = omega (arith, c .before .loop-test .taken, c .before .before .before .before .before .before .before .before .before .before .before .pre .named .room)
+shared-slice-read-offset c = omega (arith, c .before .loop-test .taken, c .before .before .before .before .before .before .before .before .before .before .pre .named .room)
 
 offset-requires : tie.Need-offset-requires Inv-loop μ-loop
 offset-requires c κs = omega arith
 
 mul-offset-2 : tie.Need-mul-offset-2 Inv-loop μ-loop
 mul-offset-2 c =
-    let low = c .before .before .before .before .before .before .before .before .before .before .before .before .pre .named .low (c .before .before .before .loop .k) (c .before .before .loop-test .taken) in
-    omega (arith, low, c .offset .ensures, c .before .before .before .before .before .before .before .before .before .before .before .before .pre .lexicon .entries .few)
+    let low = c .before .before .before .before .before .before .before .before .before .before .before .pre .named .low (c .before .before .before .loop .k) (c .before .before .loop-test .taken) in
+    omega (arith, low, c .offset .ensures, c .before .before .before .before .before .before .before .before .before .before .before .pre .lexicon .entries .few)
 
 shared-slice-read-offset-2 : tie.Need-shared-slice-read-offset-2 Inv-loop μ-loop
 shared-slice-read-offset-2 c =
-    let low = c .before .before .before .before .before .before .before .before .before .before .before .before .before .pre .named .low (c .before .before .before .before .loop .k) (c .before .before .before .loop-test .taken) in
-    omega (arith, low, c .before .offset .ensures, c .before .before .before .before .before .before .before .before .before .before .before .before .before .pre .lexicon .entries .whole .room)
+    let low = c .before .before .before .before .before .before .before .before .before .before .before .before .pre .named .low (c .before .before .before .before .loop .k) (c .before .before .before .loop-test .taken) in
+    omega (arith, low, c .before .offset .ensures, c .before .before .before .before .before .before .before .before .before .before .before .before .pre .lexicon .entries .whole .room)
 
 offset-requires-2 : tie.Need-offset-requires-2 Inv-loop μ-loop
 offset-requires-2 c κs = omega arith
 
 body-at-requires : tie.Need-body-at-requires Inv-loop μ-loop
 body-at-requires c κs =
-    let low = c .before .before .before .before .before .before .before .before .before .before .before .before .before .before .pre .named .low (c .before .before .before .before .before .loop .k) (c .before .before .before .before .loop-test .taken) in
-    rw (c .offset2 .ensures, c .before .before .offset .ensures) (c .before .before .before .before .before .before .before .before .before .before .before .before .before .before .pre .lexicon .entries .whole .whole _ low)
+    let low = c .before .before .before .before .before .before .before .before .before .before .before .before .before .pre .named .low (c .before .before .before .before .before .loop .k) (c .before .before .before .before .loop-test .taken) in
+    rw (c .offset2 .ensures, c .before .before .offset .ensures) (c .before .before .before .before .before .before .before .before .before .before .before .before .before .pre .lexicon .entries .whole .whole _ low)
 
 type-part-requires : tie.Need-type-part-requires Inv-loop μ-loop
 type-part-requires c κs =
-    let low = c .before .before .before .before .before .before .before .before .before .before .before .before .before .before .before .pre .named .low (c .before .before .before .before .before .before .loop .k) (c .before .before .before .before .before .loop-test .taken) in
-    rw (c .body-at .ensures, c .before .offset2 .ensures, c .before .before .before .offset .ensures) (c .before .before .before .before .before .before .before .before .before .before .before .before .before .before .before .pre .lexicon .entries .layouts _ low)
+    let low = c .before .before .before .before .before .before .before .before .before .before .before .before .before .before .pre .named .low (c .before .before .before .before .before .before .loop .k) (c .before .before .before .before .before .loop-test .taken) in
+    rw (c .body-at .ensures, c .before .offset2 .ensures, c .before .before .before .offset .ensures) (c .before .before .before .before .before .before .before .before .before .before .before .before .before .before .pre .lexicon .entries .layouts _ low)
 
 lay-slot-requires : tie.Need-lay-slot-requires Inv-loop μ-loop
 lay-slot-requires c κs =
-    let a = c .before .before .before .before .before .before .before .before .before .before .before .before .before .before .before .before .before .before .before .before .before .args in
-    let l = c .before .before .before .before .before .before .before .before .before .before .before .before .loop in
-    let part = rw (c .before .before .before .before .before .before .body-at .ensures, c .before .before .before .before .before .before .before .offset2 .ensures) at (c .before .before .before .before .before .type-part .ensures) in
-    entering-fits (a .book .now) (a .offsets .now) (a .found .now) (a .n) (a .boundary) (a .p) (cells (a .bases .now) (a .exponents .now) (a .nexts .now) (a .enters .now) (a .numbers .now)) (c .before .before .before .before .before .before .before .before .before .before .before .before .before .before .before .before .before .before .before .before .before .pre) (l .place) (cells (l .bases) (l .exponents) (l .nexts) (l .enters) (l .numbers)) (l .k) (l .inv) (c .before .before .before .before .before .before .before .before .before .before .before .loop-test .taken) (c .before .before .before .before .before .before .before .before .before .offset .result) (c .before .before .before .before .before .before .before .before .before .offset .ensures) (c .before .before .before .before .before .type-part .result .now) part
+    let a = c .before .before .before .before .before .before .before .before .before .before .before .before .before .before .before .before .before .before .before .args in
+    let l = c .before .before .before .before .before .before .before .before .before .before .before .loop in
+    let part = rw (c .before .before .before .before .before .body-at .ensures, c .before .before .before .before .before .before .offset2 .ensures) at (c .before .before .before .before .type-part .ensures) in
+    entering-fits (a .book .now) (a .offsets .now) (a .found .now) (a .n) (a .boundary) (a .p) (cells (a .simples .now) (a .nexts .now) (a .enters .now) (a .numbers .now)) (c .before .before .before .before .before .before .before .before .before .before .before .before .before .before .before .before .before .before .before .pre) (l .place) (cells (l .simples) (l .nexts) (l .enters) (l .numbers)) (l .k) (l .inv) (c .before .before .before .before .before .before .before .before .before .before .loop-test .taken) (c .before .before .before .before .before .before .before .before .offset .result) (c .before .before .before .before .before .before .before .before .offset .ensures) (c .before .before .before .before .type-part .result .now) part
 
 add-k : tie.Need-add-k Inv-loop μ-loop
-add-k c = omega (arith, c .before .before .before .before .before .before .before .before .before .before .before .before .before .before .before .before .before .before .before .before .before .before .loop-test .taken, c .before .before .before .before .before .before .before .before .before .before .before .before .before .before .before .before .before .before .before .before .before .before .before .before .before .before .before .before .before .before .before .before .pre .named .few, c .before .before .before .before .before .before .before .before .before .before .before .before .before .before .before .before .before .before .before .before .before .before .before .before .before .before .before .before .before .before .before .before .pre .lexicon .entries .few)
+add-k c = omega (arith, c .before .before .before .before .before .before .before .before .before .before .before .before .before .before .before .before .before .before .before .loop-test .taken, c .before .before .before .before .before .before .before .before .before .before .before .before .before .before .before .before .before .before .before .before .before .before .before .before .before .before .before .before .pre .named .few, c .before .before .before .before .before .before .before .before .before .before .before .before .before .before .before .before .before .before .before .before .before .before .before .before .before .before .before .before .pre .lexicon .entries .few)
 
 loop-less : tie.Need-loop-less Inv-loop μ-loop
-loop-less c = omega (arith, c .before .before .before .before .before .before .before .before .before .before .before .before .before .before .before .before .before .before .before .before .before .before .loop-test .taken)
+loop-less c = omega (arith, c .before .before .before .before .before .before .before .before .before .before .before .before .before .before .before .before .before .before .before .loop-test .taken)
 
 loop-again : tie.Need-loop-again Inv-loop μ-loop
 loop-again c =
-    let a = c .before .before .before .before .before .before .before .before .before .before .before .before .before .before .before .before .before .before .before .before .before .before .before .before .before .before .before .before .before .before .before .before .args in
-    let l = c .before .before .before .before .before .before .before .before .before .before .before .before .before .before .before .before .before .before .before .before .before .before .before .loop in
-    let part = rw (c .before .before .before .before .before .before .before .before .before .before .before .before .before .before .before .before .before .body-at .ensures, c .before .before .before .before .before .before .before .before .before .before .before .before .before .before .before .before .before .before .offset2 .ensures) at (c .before .before .before .before .before .before .before .before .before .before .before .before .before .before .before .before .type-part .ensures) in
-    let m = c .before .before .before .before .before .before .before .before .before .before .lay-slot .last .1 .1 .1 .1 in
+    let a = c .before .before .before .before .before .before .before .before .before .before .before .before .before .before .before .before .before .before .before .before .before .before .before .before .before .before .before .before .args in
+    let l = c .before .before .before .before .before .before .before .before .before .before .before .before .before .before .before .before .before .before .before .before .loop in
+    let part = rw (c .before .before .before .before .before .before .before .before .before .before .before .before .before .before .body-at .ensures, c .before .before .before .before .before .before .before .before .before .before .before .before .before .before .before .offset2 .ensures) at (c .before .before .before .before .before .before .before .before .before .before .before .before .before .type-part .ensures) in
+    let m = c .before .before .before .before .before .before .before .before .lay-slot .last .1 .1 .1 .1 in
     record {
-      inside = omega (arith, c .before .before .before .before .before .before .before .before .before .before .before .before .before .before .before .before .before .before .before .before .before .before .loop-test .taken);
-      lays = entering-next (a .book .now) (a .offsets .now) (a .found .now) (a .n) (a .boundary) (a .p) (cells (a .bases .now) (a .exponents .now) (a .nexts .now) (a .enters .now) (a .numbers .now)) (c .before .before .before .before .before .before .before .before .before .before .before .before .before .before .before .before .before .before .before .before .before .before .before .before .before .before .before .before .before .before .before .before .pre) (l .place) (cells (l .bases) (l .exponents) (l .nexts) (l .enters) (l .numbers)) (l .k) (l .inv) (c .before .before .before .before .before .before .before .before .before .before .before .before .before .before .before .before .before .before .before .before .before .before .loop-test .taken) (c .before .before .before .before .before .before .before .before .before .before .before .before .before .before .before .before .before .before .before .before .offset .result) (c .before .before .before .before .before .before .before .before .before .before .before .before .before .before .before .before .before .before .before .before .offset .ensures) (c .before .before .before .before .before .before .before .before .before .before .before .before .before .before .before .before .type-part .result .now) part (c .before .before .before .before .before .before .before .before .before .before .lay-slot .result) (cells (m .0) (m .1 .0) (m .1 .1 .0) (m .1 .1 .1 .0) (m .1 .1 .1 .1 .0)) (c .before .before .before .before .before .before .before .before .before .before .lay-slot .ensures);
-      bases-length = omega (arith, l .inv .bases-length);
-      exponents-length = omega (arith, l .inv .exponents-length);
+      inside = omega (arith, c .before .before .before .before .before .before .before .before .before .before .before .before .before .before .before .before .before .before .before .loop-test .taken);
+      lays = entering-next (a .book .now) (a .offsets .now) (a .found .now) (a .n) (a .boundary) (a .p) (cells (a .simples .now) (a .nexts .now) (a .enters .now) (a .numbers .now)) (c .before .before .before .before .before .before .before .before .before .before .before .before .before .before .before .before .before .before .before .before .before .before .before .before .before .before .before .before .pre) (l .place) (cells (l .simples) (l .nexts) (l .enters) (l .numbers)) (l .k) (l .inv) (c .before .before .before .before .before .before .before .before .before .before .before .before .before .before .before .before .before .before .before .loop-test .taken) (c .before .before .before .before .before .before .before .before .before .before .before .before .before .before .before .before .before .offset .result) (c .before .before .before .before .before .before .before .before .before .before .before .before .before .before .before .before .before .offset .ensures) (c .before .before .before .before .before .before .before .before .before .before .before .before .before .type-part .result .now) part (c .before .before .before .before .before .before .before .before .lay-slot .result) (cells (m .0) (m .1 .0) (m .1 .1 .0) (m .1 .1 .1 .0)) (c .before .before .before .before .before .before .before .before .lay-slot .ensures);
+      simples-length = omega (arith, l .inv .simples-length);
       nexts-length = omega (arith, l .inv .nexts-length);
       enters-length = omega (arith, l .inv .enters-length);
       numbers-length = omega (arith, l .inv .numbers-length);
     }
 
 same-length : tie.Need-same-length Inv-loop μ-loop
-same-length c = c .before .loop .inv .bases-length
+same-length c = c .before .loop .inv .simples-length
 
 same-length-2 : tie.Need-same-length-2 Inv-loop μ-loop
-same-length-2 c = c .before .loop .inv .exponents-length
+same-length-2 c = c .before .loop .inv .nexts-length
 
 same-length-3 : tie.Need-same-length-3 Inv-loop μ-loop
-same-length-3 c = c .before .loop .inv .nexts-length
+same-length-3 c = c .before .loop .inv .enters-length
 
 same-length-4 : tie.Need-same-length-4 Inv-loop μ-loop
-same-length-4 c = c .before .loop .inv .enters-length
-
-same-length-5 : tie.Need-same-length-5 Inv-loop μ-loop
-same-length-5 c = c .before .loop .inv .numbers-length
+same-length-4 c = c .before .loop .inv .numbers-length
 
 returns : tie.Need-returns Inv-loop μ-loop
 returns c =
-    let a = c .before .before .before .before .before .before .before .before .before .before .args in
+    let a = c .before .before .before .before .before .before .before .before .before .args in
     let l = c .before .loop in
-    entering-end (a .book .now) (a .offsets .now) (a .found .now) (a .n) (a .boundary) (a .p) (cells (a .bases .now) (a .exponents .now) (a .nexts .now) (a .enters .now) (a .numbers .now)) (c .before .before .before .before .before .before .before .before .before .before .pre) (l .place) (cells (l .bases) (l .exponents) (l .nexts) (l .enters) (l .numbers)) (l .k) (l .inv) (omega arith)
+    entering-end (a .book .now) (a .offsets .now) (a .found .now) (a .n) (a .boundary) (a .p) (cells (a .simples .now) (a .nexts .now) (a .enters .now) (a .numbers .now)) (c .before .before .before .before .before .before .before .before .before .pre) (l .place) (cells (l .simples) (l .nexts) (l .enters) (l .numbers)) (l .k) (l .inv) (omega arith)
 
 pub lay-entries-spec : {M : Type 1} → statement M
 lay-entries-spec =
@@ -124,5 +120,4 @@ lay-entries-spec =
     same-length-2
     same-length-3
     same-length-4
-    same-length-5
     returns)

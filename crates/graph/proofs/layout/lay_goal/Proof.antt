@@ -11,97 +11,97 @@ use Rattle.graph.proofs.layout.lay_goal.Tie as tie
 
 add-goal : tie.Need-add-goal
 add-goal c =
-    let room = c .before .before .before .before .before .before .pre .0 .room in
-    omega (arith, c .before .before .before .before .before .before .pre .1, c .before .before .before .before .before .before .pre .0 .few, room .bases, room .exponents, room .nexts, room .froms, room .tos, room .enters)
+    let room = c .before .before .before .before .before .pre .0 .room in
+    omega (arith, c .before .before .before .before .before .pre .1, c .before .before .before .before .before .pre .0 .few, room .simples, room .nexts, room .froms, room .tos, room .enters)
 
 add-end : tie.Need-add-end
 add-end c =
-    let room = c .before .before .before .before .before .before .pre .0 .room in
-    omega (arith, c .before .before .before .before .before .before .pre .1, c .before .before .before .before .before .before .pre .0 .few, room .bases, room .exponents, room .nexts, room .froms, room .tos, room .enters)
+    let room = c .before .before .before .before .before .pre .0 .room in
+    omega (arith, c .before .before .before .before .before .pre .1, c .before .before .before .before .before .pre .0 .few, room .simples, room .nexts, room .froms, room .tos, room .enters)
 
-raise-requires : tie.Need-raise-requires
+hold-simple-requires : tie.Need-hold-simple-requires
 unfolding exponentOf exponentListed
-raise-requires c κs = refl
+hold-simple-requires c κs = refl
 
 cast-froms : tie.Need-cast-froms
 cast-froms c =
-    let room = c .before .before .before .before .before .before .before .pre .0 .room in
-    omega (arith, c .before .before .before .before .before .before .before .pre .1, c .before .before .before .before .before .before .before .pre .0 .few, room .bases, room .exponents, room .nexts, room .froms, room .tos, room .enters)
+    let room = c .before .before .before .before .before .before .pre .0 .room in
+    omega (arith, c .before .before .before .before .before .before .pre .1, c .before .before .before .before .before .before .pre .0 .few, room .simples, room .nexts, room .froms, room .tos, room .enters)
 
 mul-froms : tie.Need-mul-froms
 mul-froms c =
-    let room = c .before .before .before .before .before .before .before .pre .0 .room in
-    omega (arith, c .before .before .before .before .before .before .before .pre .1, c .before .before .before .before .before .before .before .pre .0 .few, room .bases, room .exponents, room .nexts, room .froms, room .tos, room .enters)
+    let room = c .before .before .before .before .before .before .pre .0 .room in
+    omega (arith, c .before .before .before .before .before .before .pre .1, c .before .before .before .before .before .before .pre .0 .few, room .simples, room .nexts, room .froms, room .tos, room .enters)
 
 slice-write-froms : tie.Need-slice-write-froms
 slice-write-froms c =
-    let room = c .before .before .before .before .before .before .before .pre .0 .room in
-    omega (arith, c .before .before .before .before .before .before .before .pre .1, c .before .before .before .before .before .before .before .pre .0 .few, room .bases, room .exponents, room .nexts, room .froms, room .tos, room .enters)
+    let room = c .before .before .before .before .before .before .pre .0 .room in
+    omega (arith, c .before .before .before .before .before .before .pre .1, c .before .before .before .before .before .before .pre .0 .few, room .simples, room .nexts, room .froms, room .tos, room .enters)
 
 add-tos : tie.Need-add-tos
 add-tos c =
-    let room = c .before .before .before .before .before .before .before .pre .0 .room in
-    omega (arith, c .before .before .before .before .before .before .before .pre .1, c .before .before .before .before .before .before .before .pre .0 .few, room .bases, room .exponents, room .nexts, room .froms, room .tos, room .enters)
+    let room = c .before .before .before .before .before .before .pre .0 .room in
+    omega (arith, c .before .before .before .before .before .before .pre .1, c .before .before .before .before .before .before .pre .0 .few, room .simples, room .nexts, room .froms, room .tos, room .enters)
 
 cast-tos : tie.Need-cast-tos
 cast-tos c =
-    let room = c .before .before .before .before .before .before .before .pre .0 .room in
-    omega (arith, c .before .before .before .before .before .before .before .pre .1, c .before .before .before .before .before .before .before .pre .0 .few, room .bases, room .exponents, room .nexts, room .froms, room .tos, room .enters)
+    let room = c .before .before .before .before .before .before .pre .0 .room in
+    omega (arith, c .before .before .before .before .before .before .pre .1, c .before .before .before .before .before .before .pre .0 .few, room .simples, room .nexts, room .froms, room .tos, room .enters)
 
 mul-tos : tie.Need-mul-tos
 mul-tos c =
-    let room = c .before .before .before .before .before .before .before .pre .0 .room in
-    omega (arith, c .before .before .before .before .before .before .before .pre .1, c .before .before .before .before .before .before .before .pre .0 .few, room .bases, room .exponents, room .nexts, room .froms, room .tos, room .enters)
+    let room = c .before .before .before .before .before .before .pre .0 .room in
+    omega (arith, c .before .before .before .before .before .before .pre .1, c .before .before .before .before .before .before .pre .0 .few, room .simples, room .nexts, room .froms, room .tos, room .enters)
 
 slice-write-tos : tie.Need-slice-write-tos
 slice-write-tos c =
-    let room = c .before .before .before .before .before .before .before .pre .0 .room in
-    omega (arith, c .before .before .before .before .before .before .before .pre .1, c .before .before .before .before .before .before .before .pre .0 .few, room .bases, room .exponents, room .nexts, room .froms, room .tos, room .enters)
+    let room = c .before .before .before .before .before .before .pre .0 .room in
+    omega (arith, c .before .before .before .before .before .before .pre .1, c .before .before .before .before .before .before .pre .0 .few, room .simples, room .nexts, room .froms, room .tos, room .enters)
 
 cast-enters : tie.Need-cast-enters
 cast-enters c =
-    let room = c .before .before .before .before .before .before .before .pre .0 .room in
-    omega (arith, c .before .before .before .before .before .before .before .pre .1, c .before .before .before .before .before .before .before .pre .0 .few, room .bases, room .exponents, room .nexts, room .froms, room .tos, room .enters)
+    let room = c .before .before .before .before .before .before .pre .0 .room in
+    omega (arith, c .before .before .before .before .before .before .pre .1, c .before .before .before .before .before .before .pre .0 .few, room .simples, room .nexts, room .froms, room .tos, room .enters)
 
 mul-enters : tie.Need-mul-enters
 mul-enters c =
-    let room = c .before .before .before .before .before .before .before .pre .0 .room in
-    omega (arith, c .before .before .before .before .before .before .before .pre .1, c .before .before .before .before .before .before .before .pre .0 .few, room .bases, room .exponents, room .nexts, room .froms, room .tos, room .enters)
+    let room = c .before .before .before .before .before .before .pre .0 .room in
+    omega (arith, c .before .before .before .before .before .before .pre .1, c .before .before .before .before .before .before .pre .0 .few, room .simples, room .nexts, room .froms, room .tos, room .enters)
 
 slice-write-enters : tie.Need-slice-write-enters
 slice-write-enters c =
-    let room = c .before .before .before .before .before .before .before .pre .0 .room in
-    omega (arith, c .before .before .before .before .before .before .before .pre .1, c .before .before .before .before .before .before .before .pre .0 .few, room .bases, room .exponents, room .nexts, room .froms, room .tos, room .enters)
+    let room = c .before .before .before .before .before .before .pre .0 .room in
+    omega (arith, c .before .before .before .before .before .before .pre .1, c .before .before .before .before .before .before .pre .0 .few, room .simples, room .nexts, room .froms, room .tos, room .enters)
 
-slice-write-bases : tie.Need-slice-write-bases
-slice-write-bases c =
-    let room = c .before .before .before .before .before .before .before .pre .0 .room in
-    omega (arith, c .before .before .before .before .before .before .before .pre .1, c .before .before .before .before .before .before .before .pre .0 .few, room .bases, room .exponents, room .nexts, room .froms, room .tos, room .enters)
+mul-simples : tie.Need-mul-simples
+mul-simples c =
+    let room = c .before .before .before .before .before .before .pre .0 .room in
+    omega (arith, c .before .before .before .before .before .before .pre .1, c .before .before .before .before .before .before .pre .0 .few, room .simples, room .nexts, room .froms, room .tos, room .enters)
 
-slice-write-exponents : tie.Need-slice-write-exponents
-slice-write-exponents c =
-    let room = c .before .before .before .before .before .before .before .pre .0 .room in
-    omega (arith, c .before .before .before .before .before .before .before .pre .1, c .before .before .before .before .before .before .before .pre .0 .few, room .bases, room .exponents, room .nexts, room .froms, room .tos, room .enters)
+slice-write-simples : tie.Need-slice-write-simples
+slice-write-simples c =
+    let room = c .before .before .before .before .before .before .pre .0 .room in
+    omega (arith, c .before .before .before .before .before .before .pre .1, c .before .before .before .before .before .before .pre .0 .few, room .simples, room .nexts, room .froms, room .tos, room .enters)
 
 cast-nexts : tie.Need-cast-nexts
 cast-nexts c =
-    let room = c .before .before .before .before .before .before .before .pre .0 .room in
-    omega (arith, c .before .before .before .before .before .before .before .pre .1, c .before .before .before .before .before .before .before .pre .0 .few, room .bases, room .exponents, room .nexts, room .froms, room .tos, room .enters)
+    let room = c .before .before .before .before .before .before .pre .0 .room in
+    omega (arith, c .before .before .before .before .before .before .pre .1, c .before .before .before .before .before .before .pre .0 .few, room .simples, room .nexts, room .froms, room .tos, room .enters)
 
 mul-nexts : tie.Need-mul-nexts
 mul-nexts c =
-    let room = c .before .before .before .before .before .before .before .pre .0 .room in
-    omega (arith, c .before .before .before .before .before .before .before .pre .1, c .before .before .before .before .before .before .before .pre .0 .few, room .bases, room .exponents, room .nexts, room .froms, room .tos, room .enters)
+    let room = c .before .before .before .before .before .before .pre .0 .room in
+    omega (arith, c .before .before .before .before .before .before .pre .1, c .before .before .before .before .before .before .pre .0 .few, room .simples, room .nexts, room .froms, room .tos, room .enters)
 
 slice-write-nexts : tie.Need-slice-write-nexts
 slice-write-nexts c =
-    let room = c .before .before .before .before .before .before .before .pre .0 .room in
-    omega (arith, c .before .before .before .before .before .before .before .pre .1, c .before .before .before .before .before .before .before .pre .0 .few, room .bases, room .exponents, room .nexts, room .froms, room .tos, room .enters)
+    let room = c .before .before .before .before .before .before .pre .0 .room in
+    omega (arith, c .before .before .before .before .before .before .pre .1, c .before .before .before .before .before .before .pre .0 .few, room .simples, room .nexts, room .froms, room .tos, room .enters)
 
 add-result : tie.Need-add-result
 add-result c =
-    let room = c .before .before .before .before .before .before .before .pre .0 .room in
-    omega (arith, c .before .before .before .before .before .before .before .pre .1, c .before .before .before .before .before .before .before .pre .0 .few, room .bases, room .exponents, room .nexts, room .froms, room .tos, room .enters)
+    let room = c .before .before .before .before .before .before .pre .0 .room in
+    omega (arith, c .before .before .before .before .before .before .pre .1, c .before .before .before .before .before .before .pre .0 .few, room .simples, room .nexts, room .froms, room .tos, room .enters)
 
 same-length : tie.Need-same-length
 same-length c = search needs
@@ -118,13 +118,10 @@ same-length-4 c = search needs
 same-length-5 : tie.Need-same-length-5
 same-length-5 c = search needs
 
-same-length-6 : tie.Need-same-length-6
-same-length-6 c = search needs
-
 returns : tie.Need-returns
 returns c =
-    let a = c .before .before .before .before .before .before .before .args in
-    goal-ended (a .target) (a .p) (lists (a .bases .now) (a .exponents .now) (a .nexts .now) (a .froms .now) (a .tos .now) (a .enters .now) []) (c .before .before .before .before .before .before .before .pre .0) (c .before .before .before .before .before .before .before .pre .1) _ (c .raise .ensures)
+    let a = c .before .before .before .before .before .before .args in
+    goal-ended (a .target) (a .p) (lists (a .simples .now) (a .nexts .now) (a .froms .now) (a .tos .now) (a .enters .now) []) (c .before .before .before .before .before .before .pre .0) (c .before .before .before .before .before .before .pre .1) _ (c .hold-simple .ensures)
 
 pub lay-goal-spec : {M : Type 1} → statement M
 lay-goal-spec =
@@ -132,7 +129,7 @@ lay-goal-spec =
     (tie.spec
     add-goal
     add-end
-    raise-requires
+    hold-simple-requires
     cast-froms
     mul-froms
     slice-write-froms
@@ -143,8 +140,8 @@ lay-goal-spec =
     cast-enters
     mul-enters
     slice-write-enters
-    slice-write-bases
-    slice-write-exponents
+    mul-simples
+    slice-write-simples
     cast-nexts
     mul-nexts
     slice-write-nexts
@@ -154,5 +151,4 @@ lay-goal-spec =
     same-length-3
     same-length-4
     same-length-5
-    same-length-6
     returns)

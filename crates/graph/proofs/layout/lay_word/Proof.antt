@@ -6,7 +6,8 @@ use mathlib.Core.Path.{_≡_, refl, sym, ap, _∙_}
 use mathlib.Core.List.{List}
 use Rattle.linking.specs.Reading.{NumberedEntry}
 use Rattle.line.specs.LineFaults.{simplesIn}
-use Rattle.graph.specs.Cells.{maxNodes, cells, entriesOfWord}
+use Rattle.figures.specs.Limits.{maxNodes}
+use Rattle.graph.specs.Cells.{cells, entriesOfWord}
 use Rattle.graph.specs.Lists.{lists}
 use Rattle.graph.proofs.WordLaws.{word-placed, word-lined}
 use Rattle.graph.proofs.layout.lay_word.Statement.{statement}
@@ -15,38 +16,38 @@ use Rattle.graph.proofs.layout.lay_word.Tie as tie
 -- The next boundary, by the word's entries.
 module _ (c : tie.After-tally-found) where
   abbrev words-entries : List NumberedEntry
-  words-entries = let a = c .before .before .before .before .before .before .before .before .before .before .before .before .before .before .before .args in entriesOfWord (a .book .now) (a .offsets .now) (a .count) (a .word .now)
+  words-entries = let a = c .before .before .before .before .before .before .before .before .before .before .before .before .before .before .args in entriesOfWord (a .book .now) (a .offsets .now) (a .count) (a .word .now)
 
   abbrev boundary : ℕ
-  boundary = c .before .before .before .before .before .before .before .before .before .before .before .before .before .before .before .args .p .node + 1 + c .tally-found .result
+  boundary = c .before .before .before .before .before .before .before .before .before .before .before .before .before .before .args .p .node + 1 + c .tally-found .result
 
-  next : boundary ≡ c .before .before .before .before .before .before .before .before .before .before .before .before .before .before .before .args .p .node + 1 + simplesIn words-entries
-  next = ap (λ (m : ℕ). c .before .before .before .before .before .before .before .before .before .before .before .before .before .before .before .args .p .node + 1 + m) (c .tally-found .ensures .total ∙ ap simplesIn (c .before .before .before .find-entries .ensures .all))
+  next : boundary ≡ c .before .before .before .before .before .before .before .before .before .before .before .before .before .before .args .p .node + 1 + simplesIn words-entries
+  next = ap (λ (m : ℕ). c .before .before .before .before .before .before .before .before .before .before .before .before .before .before .args .p .node + 1 + m) (c .tally-found .ensures .total ∙ ap simplesIn (c .before .before .before .find-entries .ensures .all))
 
   low : boundary < maxNodes
-  low = omega (arith, next, c .before .before .before .before .before .before .before .before .before .before .before .before .before .before .before .pre .fits)
+  low = omega (arith, next, c .before .before .before .before .before .before .before .before .before .before .before .before .before .before .pre .fits)
 
 -- What is stored, and where, is below the number of nodes.
-module _ (c : tie.After-slice-known12) where
-  stored : (c .before .before .before .before .before .before .before .before .before .before .before .before .before .before .before .before .before .before .before .before .before .before .before .before .before .before .before .before .before .before .before .before .args .p .node < maxNodes) × (c .before .before .before .before .before .before .before .before .before .before .before .before .before .before .before .before .before .before .before .before .before .before .before .before .before .before .before .before .before .before .before .before .args .p .slot < maxNodes) × (c .before .before .before .before .before .before .before .before .before .before .lay-entries .result .slot < maxNodes)
+module _ (c : tie.After-slice-known10) where
+  stored : (c .before .before .before .before .before .before .before .before .before .before .before .before .before .before .before .before .before .before .before .before .before .before .before .before .before .before .before .before .args .p .node < maxNodes) × (c .before .before .before .before .before .before .before .before .before .before .before .before .before .before .before .before .before .before .before .before .before .before .before .before .before .before .before .before .args .p .slot < maxNodes) × (c .before .before .before .before .before .before .before .before .lay-entries .result .slot < maxNodes)
   stored =
-      let l = c .before .before .before .before .before .before .before .before .before .before .lay-entries .ensures in
-      (omega (arith, low (c .before .before .before .before .before .before .before .before .before .before .before .before .before .before .before .before .before)), omega (arith, low (c .before .before .before .before .before .before .before .before .before .before .before .before .before .before .before .before .before), c .before .before .before .before .before .before .before .before .before .before .before .before .before .before .before .before .before .before .before .before .before .before .before .before .before .before .before .before .before .before .before .before .pre .standing .few), omega (arith, l .placed .few, l .placed .inside, l .placed .small))
+      let l = c .before .before .before .before .before .before .before .before .lay-entries .ensures in
+      (omega (arith, low (c .before .before .before .before .before .before .before .before .before .before .before .before .before .before)), omega (arith, low (c .before .before .before .before .before .before .before .before .before .before .before .before .before .before), c .before .before .before .before .before .before .before .before .before .before .before .before .before .before .before .before .before .before .before .before .before .before .before .before .before .before .before .before .pre .standing .few), omega (arith, l .placed .few, l .placed .inside, l .placed .small))
 
 slice-aggregate-find-entries : tie.Need-slice-aggregate-find-entries
 slice-aggregate-find-entries c = refl
 
 find-entries-requires : tie.Need-find-entries-requires
-find-entries-requires c κs = (c .before .before .before .before .before .before .before .before .before .before .before .pre .lexicon .entries, omega (arith, c .before .before .before .before .before .before .before .before .before .before .before .pre .lexicon .entries .few))
+find-entries-requires c κs = (c .before .before .before .before .before .before .before .before .before .before .pre .lexicon .entries, omega (arith, c .before .before .before .before .before .before .before .before .before .before .pre .lexicon .entries .few))
 
 add-boundary : tie.Need-add-boundary
-add-boundary c = omega (arith, c .before .before .before .before .before .before .before .before .before .before .before .before .before .pre .fits)
+add-boundary c = omega (arith, c .before .before .before .before .before .before .before .before .before .before .before .before .pre .fits)
 
 slice-aggregate-tally-found : tie.Need-slice-aggregate-tally-found
 slice-aggregate-tally-found c = sym (c .before .before .find-entries .kept .1 .1 .1 .1 .0)
 
 tally-found-requires : tie.Need-tally-found-requires
-tally-found-requires c κs = record { count = c .before .before .before .before .before .before .before .before .before .before .before .before .before .before .args .count; entries = c .before .before .before .before .before .before .before .before .before .before .before .before .before .before .pre .lexicon .entries; numbers = c .before .before .find-entries .ensures .numbers }
+tally-found-requires c κs = record { count = c .before .before .before .before .before .before .before .before .before .before .before .before .before .args .count; entries = c .before .before .before .before .before .before .before .before .before .before .before .before .before .pre .lexicon .entries; numbers = c .before .before .find-entries .ensures .numbers }
 
 add-boundary-2 : tie.Need-add-boundary-2
 add-boundary-2 c = omega (arith, low c)
@@ -59,33 +60,33 @@ slice-aggregate-lay-entries c = sym (c .before .before .before .before .find-ent
 
 lay-entries-requires : tie.Need-lay-entries-requires
 lay-entries-requires c κs =
-    let a = c .before .before .before .before .before .before .before .before .before .before .before .before .before .before .before .before .before .before .before .before .before .args in
-    let f = c .before .before .before .before .before .before .before .before .before .find-entries .ensures in
+    let a = c .before .before .before .before .before .before .before .before .before .before .before .before .before .before .before .before .before .before .before .args in
+    let f = c .before .before .before .before .before .before .before .before .find-entries .ensures in
     record {
       count = a .count;
-      lexicon = c .before .before .before .before .before .before .before .before .before .before .before .before .before .before .before .before .before .before .before .before .before .pre .lexicon;
+      lexicon = c .before .before .before .before .before .before .before .before .before .before .before .before .before .before .before .before .before .before .before .pre .lexicon;
       named = f .numbers;
-      placed = word-placed (a .p) (lists (a .bases .now) (a .exponents .now) (a .nexts .now) (a .froms .now) (a .tos .now) (a .enters .now) (a .numbers .now)) (c .before .before .before .before .before .before .before .before .before .before .before .before .before .before .before .before .before .before .before .before .before .pre .standing) (c .before .before .before .before .before .before .before .before .before .before .before .before .before .before .before .before .before .before .before .before .before .pre .numbers-room) _ _ (next (c .before .before .before .before .before .before)) (low (c .before .before .before .before .before .before));
-      fits = omega (arith, c .before .before .before .before .before .before .tally-found .ensures .total);
+      placed = word-placed (a .p) (lists (a .simples .now) (a .nexts .now) (a .froms .now) (a .tos .now) (a .enters .now) (a .numbers .now)) (c .before .before .before .before .before .before .before .before .before .before .before .before .before .before .before .before .before .before .before .pre .standing) (c .before .before .before .before .before .before .before .before .before .before .before .before .before .before .before .before .before .before .before .pre .numbers-room) _ _ (next (c .before .before .before .before .before)) (low (c .before .before .before .before .before));
+      fits = omega (arith, c .before .before .before .before .before .tally-found .ensures .total);
     }
 
 cast-froms : tie.Need-cast-froms
-cast-froms c = omega (arith, stored c .0, stored c .1, stored c .2)
+cast-froms c = omega (arith, stored (c) .0, stored (c) .1, stored (c) .2)
 
 mul-froms : tie.Need-mul-froms
-mul-froms c = omega (arith, stored c .0, stored c .1, stored c .2)
+mul-froms c = omega (arith, stored (c) .0, stored (c) .1, stored (c) .2)
 
 slice-write-froms : tie.Need-slice-write-froms
-slice-write-froms c = omega (arith, stored c .0, c .before .before .before .before .before .before .before .before .before .before .before .before .before .before .before .before .before .before .before .before .before .before .before .before .before .before .before .before .before .before .before .before .pre .standing .room .froms)
+slice-write-froms c = omega (arith, stored (c) .0, c .before .before .before .before .before .before .before .before .before .before .before .before .before .before .before .before .before .before .before .before .before .before .before .before .before .before .before .before .pre .standing .room .froms)
 
 cast-tos : tie.Need-cast-tos
-cast-tos c = omega (arith, stored c .0, stored c .1, stored c .2)
+cast-tos c = omega (arith, stored (c) .0, stored (c) .1, stored (c) .2)
 
 mul-tos : tie.Need-mul-tos
-mul-tos c = omega (arith, stored c .0, stored c .1, stored c .2)
+mul-tos c = omega (arith, stored (c) .0, stored (c) .1, stored (c) .2)
 
 slice-write-tos : tie.Need-slice-write-tos
-slice-write-tos c = omega (arith, stored c .0, c .before .before .before .before .before .before .before .before .before .before .before .before .before .before .before .before .before .before .before .before .before .before .before .before .before .before .before .before .before .before .before .before .pre .standing .room .tos)
+slice-write-tos c = omega (arith, stored (c) .0, c .before .before .before .before .before .before .before .before .before .before .before .before .before .before .before .before .before .before .before .before .before .before .before .before .before .before .before .before .pre .standing .room .tos)
 
 same-length : tie.Need-same-length
 same-length c = search needs
@@ -105,14 +106,11 @@ same-length-5 c = search needs
 same-length-6 : tie.Need-same-length-6
 same-length-6 c = search needs
 
-same-length-7 : tie.Need-same-length-7
-same-length-7 c = search needs
-
 returns : tie.Need-returns
 returns c =
-    let a = c .before .before .before .before .before .before .before .before .before .before .before .before .before .before .before .before .before .before .before .before .before .before .before .before .before .before .before .before .before .before .before .before .args in
-    let m = c .before .before .before .before .before .before .before .before .before .before .lay-entries .last .1 .1 .1 .1 .1 .1 in
-    word-lined (a .p) (lists (a .bases .now) (a .exponents .now) (a .nexts .now) (a .froms .now) (a .tos .now) (a .enters .now) (a .numbers .now)) (c .before .before .before .before .before .before .before .before .before .before .before .before .before .before .before .before .before .before .before .before .before .before .before .before .before .before .before .before .before .before .before .before .pre .standing) (c .before .before .before .before .before .before .before .before .before .before .before .before .before .before .before .before .before .before .before .before .before .before .before .before .before .before .before .before .before .before .before .before .pre .numbers-room) (words-entries (c .before .before .before .before .before .before .before .before .before .before .before .before .before .before .before .before .before)) (boundary (c .before .before .before .before .before .before .before .before .before .before .before .before .before .before .before .before .before)) (next (c .before .before .before .before .before .before .before .before .before .before .before .before .before .before .before .before .before)) (low (c .before .before .before .before .before .before .before .before .before .before .before .before .before .before .before .before .before)) (c .before .before .before .before .before .before .before .before .before .before .lay-entries .result) (cells (m .0) (m .1 .0) (m .1 .1 .0) (m .1 .1 .1 .0) (m .1 .1 .1 .1 .0)) (rw (c .before .before .before .before .before .before .before .before .before .before .before .before .before .before .before .before .before .before .before .before .find-entries .ensures .all) at (c .before .before .before .before .before .before .before .before .before .before .lay-entries .ensures))
+    let a = c .before .before .before .before .before .before .before .before .before .before .before .before .before .before .before .before .before .before .before .before .before .before .before .before .before .before .before .before .args in
+    let m = c .before .before .before .before .before .before .before .before .lay-entries .last .1 .1 .1 .1 .1 .1 in
+    word-lined (a .p) (lists (a .simples .now) (a .nexts .now) (a .froms .now) (a .tos .now) (a .enters .now) (a .numbers .now)) (c .before .before .before .before .before .before .before .before .before .before .before .before .before .before .before .before .before .before .before .before .before .before .before .before .before .before .before .before .pre .standing) (c .before .before .before .before .before .before .before .before .before .before .before .before .before .before .before .before .before .before .before .before .before .before .before .before .before .before .before .before .pre .numbers-room) (words-entries (c .before .before .before .before .before .before .before .before .before .before .before .before .before .before)) (boundary (c .before .before .before .before .before .before .before .before .before .before .before .before .before .before)) (next (c .before .before .before .before .before .before .before .before .before .before .before .before .before .before)) (low (c .before .before .before .before .before .before .before .before .before .before .before .before .before .before)) (c .before .before .before .before .before .before .before .before .lay-entries .result) (cells (m .0) (m .1 .0) (m .1 .1 .0) (m .1 .1 .1 .0)) (rw (c .before .before .before .before .before .before .before .before .before .before .before .before .before .before .before .before .before .find-entries .ensures .all) at (c .before .before .before .before .before .before .before .before .lay-entries .ensures))
 
 pub lay-word-spec : {M : Type 1} → statement M
 lay-word-spec =
@@ -139,5 +137,4 @@ lay-word-spec =
     same-length-4
     same-length-5
     same-length-6
-    same-length-7
     returns)

@@ -1,13 +1,13 @@
 -- From the first choice in a line's graph to the values of its answer: which numbers are written for the entries, which string is linked,
 -- that it reduces to the target, and that the first reading is what the entries and any first linking of the string make.
-use Prim.Native.Nat.{ℕ, zero, suc, _+_, _≤_, _<_}
+use Prim.Native.Nat.{ℕ, _+_, _≤_, _<_}
 use native.Mathlib.Omega.{arith}
 use mathlib.Core.Path.{_≡_, refl, sym, ap, subst, _∙_}
 use mathlib.Core.Logic.{_↔_}
 use mathlib.Core.List.{List, [], _∷_, _++_, map}
 use mathlib.Core.Option.{Option, none, some}
 use lib.IntN.{pos}
-use lib.ListN.{getD, length, take, length-append, length-map}
+use lib.ListN.{getD, length, take, length-append}
 use lib.Seq.{take-take, take-at, length-take-le}
 use Rattle.pregroup.specs.Types.{Basic, PregroupType, _⁽_⁾}
 use Rattle.pregroup.specs.Order.{Relation}
@@ -17,17 +17,13 @@ use Rattle.pregroup.proofs.Switching.{reduces-iff-vanish}
 use Rattle.linking.specs.Linking.{firstLinking}
 use Rattle.linking.specs.Reading.{Words, firstReading}
 use Rattle.line.specs.Passing.{AllKnown}
-use Rattle.graph.specs.Graph.{Graph, labelOf, EntersBy, VanishTo, along, Boundary}
+use Rattle.graph.specs.Graph.{Graph, EntersBy, VanishTo, along, Boundary}
 use Rattle.choice.specs.Completion.{Finishes, finishes, Completes, completes}
-use Rattle.choice.specs.Grown.{chosen}
+use Rattle.table.specs.Table.{stringOf}
+use Rattle.table.proofs.Stretches.{length-string, take-string}
 use Rattle.choice.specs.First.{Chose}
 use Rattle.graph.specs.Layout.{Laid}
 use Rattle.reader.proofs.Selection.{withNumber, withNumbers, lastAnswer, Answered, laid-none, scanned-answers}
-
-take-map : {A B : Type 0} (f : A → B) (n : ℕ) (l : List A) → take n (map f l) ≡ map f (take n l)
-take-map f zero l = refl
-take-map f (suc n) [] = refl
-take-map f (suc n) (x ∷ l) = ap (λ k. f x ∷ k) (take-map f n l)
 
 with-numbers : (ns Q : List ℕ) → withNumbers ns (some ([], Q)) ≡ some (ns, Q)
 with-numbers [] Q = refl
@@ -41,13 +37,13 @@ module _ {Le : Relation} {g : Graph} {u end : ℕ} where
   vanish-of (finishes p v) = along p v
 
 -- What is known of a line once its first choice is found.
-pub record Gathered (le : Test) (Le : Relation) (g : Graph) (numbers : List ℕ) (t : Basic) (words : Words) (picked slots : List ℕ) (count places : ℕ) : Type 0 where
+pub record FirstFound (le : Test) (Le : Relation) (g : Graph) (numbers : List ℕ) (t : Basic) (words : Words) (string slots : List ℕ) (count places : ℕ) : Type 0 where
   pub m : ℕ
   pub places-are : places ≡ m + 1
-  pub long : length (chosen g picked m) ≡ m
-  pub reduces : Reduces Le t (chosen g picked m)
+  pub long : length (stringOf string m) ≡ m
+  pub reduces : Reduces Le t (stringOf string m)
   pub taken : length words < count
-  pub first : (Q : List ℕ) → firstLinking le t (chosen g picked m) ≡ some Q → firstReading le t words ≡ some (map (λ (s : ℕ). getD numbers s 0) (take (length words) slots), Q)
+  pub first : (Q : List ℕ) → firstLinking le t (stringOf string m) ≡ some Q → firstReading le t words ≡ some (map (λ (s : ℕ). getD numbers s 0) (take (length words) slots), Q)
 
 module _ {le : Test} {Le : Relation} (decides : Decides le Le) (g : Graph) (numbers : List ℕ) (t : Basic) (end : ℕ) (last : Boundary g end)
     (closed : (s w : ℕ) → EntersBy g end s w → ⊥) {words : Words} (laid : Laid g numbers t 0 words end) (known-words : AllKnown words) where
@@ -56,12 +52,12 @@ module _ {le : Test} {Le : Relation} (decides : Decides le Le) (g : Graph) (numb
   unfolding firstReading
   unread-iff = let h = laid-none decides g numbers t end last closed laid known-words [] in (λ e v. h .0 e (finishes-of v), λ n. h .1 (λ f. n (vanish-of f)))
 
-  module _ {picked slots : List ℕ} {count places : ℕ} (c : Chose Le g picked slots end count places) (picked-room : places ≤ length picked) (slots-room : count ≤ length slots) where
+  module _ {string slots table : List ℕ} {count places : ℕ} (c : Chose Le g string slots table end count places) (slots-room : count ≤ length slots) where
     answered : Answered decides g numbers t end last closed [] 0 words (take count slots)
     answered = scanned-answers decides g numbers t end last closed laid known-words [] (take count slots) (c .scanned)
 
-    whole : (chosen g picked places ≡ answered .string ++ (t ⁽ pos 1 ⁾ ∷ [])) × (length (take count slots) ≡ length words + 1)
-    whole = answered .spelt (chosen g picked places) (c .spelled)
+    whole : (stringOf string places ≡ answered .string ++ (t ⁽ pos 1 ⁾ ∷ [])) × (length (take count slots) ≡ length words + 1)
+    whole = answered .spelt (stringOf string places) (c .spelled)
 
     -- How many simple types the choice has, without the target's.
     abbrev m : ℕ
@@ -69,13 +65,11 @@ module _ {le : Test} {Le : Relation} (decides : Decides le Le) (g : Graph) (numb
 
     places-are : places ≡ m + 1
     places-are =
-        let long : length (chosen g picked places) ≡ places = length-map (take places picked) (labelOf g) ∙ length-take-le places picked picked-room in
-        sym long ∙ ap length (whole .0) ∙ length-append (answered .string) (t ⁽ pos 1 ⁾ ∷ [])
+        sym (length-string string places) ∙ ap length (whole .0) ∙ length-append (answered .string) (t ⁽ pos 1 ⁾ ∷ [])
 
-    string-is : chosen g picked m ≡ answered .string
+    string-is : stringOf string m ≡ answered .string
     string-is =
-        ap (map (labelOf g)) (sym (take-take m places picked (omega (arith, places-are)))) ∙ sym (take-map (labelOf g) m (take places picked))
-        ∙ ap (take m) (whole .0) ∙ take-at (answered .string) (t ⁽ pos 1 ⁾ ∷ []) m refl
+        sym (take-string string m places (omega (arith, places-are))) ∙ ap (take m) (whole .0) ∙ take-at (answered .string) (t ⁽ pos 1 ⁾ ∷ []) m refl
 
     vanishes : Completes Le g [] 0 (take count slots) end → Vanish Le (answered .string ++ (t ⁽ pos 1 ⁾ ∷ []))
     vanishes (completes {X} k v) = subst (λ (Y : PregroupType). Vanish Le Y) (answered .spelt X k .0) v
@@ -85,13 +79,13 @@ module _ {le : Test} {Le : Relation} (decides : Decides le Le) (g : Graph) (numb
         answered .numbers-are
         ∙ ap (map (λ (s : ℕ). getD numbers s 0)) (take-take (length words) count slots (omega (arith, whole .1, length-take-le count slots slots-room)))
 
-    pub gathered : Gathered le Le g numbers t words picked slots count places
+    pub first-found : FirstFound le Le g numbers t words string slots count places
     unfolding firstReading
-    gathered = record {
+    first-found = record {
       m = m;
       places-are = places-are;
       long = ap length string-is;
-      reduces = reduces-iff-vanish (chosen g picked m) .1 (rw string-is (vanishes (c .first .reads)));
+      reduces = reduces-iff-vanish (stringOf string m) .1 (rw string-is (vanishes (c .first .reads)));
       taken = omega (arith, whole .1, length-take-le count slots slots-room);
       first = λ Q e.
           answered .answer ∙ ap (λ (o : Option (List ℕ)). withNumbers (answered .ns) (lastAnswer o)) (ap (firstLinking le t) (sym string-is) ∙ e)

@@ -1,0 +1,34 @@
+-- What the writing of a whole answer asks and gives.
+use Prim.Native.Nat.{ℕ, _+_, _≤_, _<_}
+use mathlib.Core.Path.{_≡_}
+use mathlib.Core.List.{List, _∷_, _++_}
+use lib.ListN.{getD, length, drop}
+use Rattle.figures.specs.Limits.{maxWords}
+use Rattle.bits.specs.Rows.{HasRow}
+use Rattle.pregroup.specs.Types.{Basic}
+use Rattle.pregroup.specs.Order.{Relation}
+use Rattle.pregroup.specs.Vanish.{Reduces}
+use Rattle.linking.specs.Greedy.{GreedyFrom}
+use Rattle.table.specs.Table.{stringOf, Right, StringThere}
+use Rattle.answer.specs.Entries.{entryNumbers}
+
+-- The string of m simple types can be linked: it is there with its table, and reduces to the target.
+pub record Linkable (Le : Relation) (string table : List ℕ) (m : ℕ) (t : Basic) : Type 0 where
+  pub string-there : StringThere string m
+  pub room : HasRow table m
+  pub right : Right Le (stringOf string m) table m
+  pub reduces : Reduces Le t (stringOf string m)
+
+-- What the writing of an answer of n words and m simple types asks besides.
+pub record Writable (numbers slots : List ℕ) (n m : ℕ) (answer : List ℕ) : Type 0 where
+  pub few : n ≤ maxWords
+  pub there : n ≤ length slots
+  pub numbered : (i : ℕ) → i < n → getD slots i 0 < length numbers
+  pub space : 2 + n + m ≤ length answer
+
+-- The answer is written: n, the entries of the slots, m, and the first linking of the string. What stands behind it is kept.
+pub record WroteAnswer (Le : Relation) (string : List ℕ) (m : ℕ) (t : Basic) (numbers slots : List ℕ) (n : ℕ) (before after : List ℕ) : Type 0 where
+  pub partners : List ℕ
+  pub whole : length partners ≡ m
+  pub greedy : GreedyFrom Le t (stringOf string m) partners 1
+  pub written : after ≡ (n ∷ (entryNumbers numbers slots n ++ (m ∷ partners))) ++ drop (2 + n + m) before
