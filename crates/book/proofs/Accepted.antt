@@ -11,14 +11,15 @@ use lib.ListN.{length, getD, length-append}
 use borrow.Author.Tests.{eqb-true}
 use Rattle.pregroup.specs.Types.{Basic}
 use Rattle.order.specs.Closed.{Pair, DeclaredPairs}
-use Rattle.book.specs.Format.{Bytes, Book, Entry, Draft, Parsed, accepted, refused, Kind, basic-type, order-pair, entry, target, unlisted, maxBytes, maxSimples, nothingYet, isSome, kindAt, bodyAt, nextAt, bodyFault, recordFault, add, ended, recordsFrom, parse, simplesOf, typePart, isEntry, entryOf}
+use Rattle.figures.specs.Limits.{maxBook, maxEntrySimples}
+use Rattle.book.specs.Format.{Bytes, Book, Entry, Draft, Parsed, accepted, refused, Kind, basic-type, order-pair, entry, target, unlisted, nothingYet, isSome, kindAt, bodyAt, nextAt, bodyFault, recordFault, add, ended, recordsFrom, parse, simplesOf, typePart, isEntry, entryOf}
 use Rattle.book.proofs.NoFault.{no-fault-body, pair-no-fault, entry-no-fault, target-no-fault}
 use Rattle.book.proofs.Layouts.{entry-shape}
 use Rattle.book.proofs.Keeping.{listed-more}
 
 -- No entry has more than 12 simple types.
 abbrev pub AllShort : List Entry → Type 0
-AllShort entries = (e : Entry) → List·Memᴰ e entries → length (e .type) ≤ maxSimples
+AllShort entries = (e : Entry) → List·Memᴰ e entries → length (e .type) ≤ maxEntrySimples
 
 -- The pairs and the target, if there is one, are declared among so many basic types, and the entries are short.
 pub record Declares (types : ℕ) (listed : List Pair) (entries : List Entry) (goal : Option Basic) : Type 0 where
@@ -110,7 +111,7 @@ records-declare (suc more) bytes at d s =
 pub accepted-declares : (bytes : Bytes) (B : Book) → parse bytes ≡ accepted B → BookDeclares B
 unfolding parse
 accepted-declares bytes B e =
-    subst IfAccepted e (go (ltb maxBytes (length bytes)))
+    subst IfAccepted e (go (ltb maxBook (length bytes)))
   where
     go : (long : Bool) → IfAccepted (cond long (refused 1 0) (recordsFrom (length bytes) bytes 0 nothingYet))
     go true = tt

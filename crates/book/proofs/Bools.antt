@@ -59,7 +59,7 @@ exponent-up byte h = rw (lt-ltb byte 128 (omega arith), le-leb byte 8 h)
 
 pub exponent-down : (byte : ℕ) → 248 ≤ byte → true ≡ exponentListed (exponentOf byte)
 unfolding exponentListed exponentOf
-exponent-down byte h = rw (le-ltb byte 128 (omega arith), le-leb (255 - byte) 7 (omega arith))
+exponent-down byte h = rw (le-ltb byte 128 (omega arith), lt-ltb (255 - byte) 8 (omega arith))
 
 pub exponent-no : (byte : ℕ) → 8 < byte → byte < 248 → false ≡ exponentListed (exponentOf byte)
 unfolding exponentListed exponentOf
@@ -67,4 +67,4 @@ exponent-no byte h k = go (decLt byte 128)
   where
     go : Dec (byte < 128) → false ≡ exponentListed (exponentOf byte)
     go (yes l) = rw (lt-ltb byte 128 l, lt-leb byte 8 h)
-    go (no n) = rw (le-ltb byte 128 (omega (arith, n)), lt-leb (255 - byte) 7 (omega arith))
+    go (no n) = rw (le-ltb byte 128 (omega (arith, n)), le-ltb (255 - byte) 8 (omega arith))

@@ -7,9 +7,9 @@ use mathlib.Core.List.{List, [], _∷_}
 use lib.Dec.{leb, eqb}
 use borrow.Author.Tests.{lt-ltb, le-ltb}
 use lib.ListN.{length, getD}
-use Rattle.order.specs.Rows.{maxTypes}
+use Rattle.figures.specs.Limits.{maxTypes, maxEntries}
 use Rattle.book.proofs.Bools.{and-true}
-use Rattle.book.specs.Format.{Bytes, basic-type, order-pair, entry, target, unlisted, every, notListed, isName, isEntry, badLayout, numbersIn, declaredAmong, undeclared, exponentsIn, exponentListed, exponentOutside, nameUsed, secondTarget, tooMany, maxEntries, firstFault, bodyFault, bases, exponents, simplesOf, typePart}
+use Rattle.book.specs.Format.{Bytes, basic-type, order-pair, entry, target, unlisted, every, notListed, isName, isEntry, badLayout, numbersIn, declaredAmong, undeclared, exponentsIn, exponentListed, exponentOutside, nameUsed, secondTarget, tooMany, firstFault, bodyFault, bases, exponents, simplesOf, typePart}
 
 -- Every one of one, and of two.
 pub every-one : (test : ℕ → Bool) (body : Bytes) → length body ≡ 1 → every test body ≡ test (getD {A = ℕ} body 0 0)

@@ -15,8 +15,9 @@ use borrow.Author.Tests.{lt-ltb, ltb-true}
 use Rattle.bits.specs.Bits.{Has, Members}
 use Rattle.pregroup.specs.Held.{InRows}
 use Rattle.order.specs.Closed.{Pair, Within, Listed}
-use Rattle.order.specs.Rows.{maxTypes, Hold}
-use Rattle.book.specs.Format.{Bytes, Entry, Draft, Kind, basic-type, order-pair, entry, target, twoBytes, bodyAt, nextAt, kindAt, bodyFault, recordFault, isSome, entryOf, add, maxEntries, every, declaredAmong}
+use Rattle.figures.specs.Limits.{maxTypes, maxEntries}
+use Rattle.order.specs.Rows.{Hold}
+use Rattle.book.specs.Format.{Bytes, Entry, Draft, Kind, basic-type, order-pair, entry, target, twoBytes, bodyAt, nextAt, kindAt, bodyFault, recordFault, isSome, entryOf, add, every, declaredAmong}
 use Rattle.book.specs.Kept.{bodiesAt, Whole, Formed, AllFormed, Store, store, Sound, Keeps, nextFault, Taking}
 use Rattle.book.specs.declared.Progress.{Progress}
 use Rattle.book.proofs.Bools.{both}

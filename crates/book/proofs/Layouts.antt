@@ -6,7 +6,8 @@ use mathlib.Core.Bool.{Bool, true, false}
 use lib.Dec.{leb}
 use lib.ListN.{length, getD, take, drop, length-drop, List·getD-eq-default}
 use borrow.Author.Tests.{lt-ltb, le-ltb, eq-eqb, ne-eqb, leb-true, ltb-true, eqb-true}
-use Rattle.book.specs.Format.{Bytes, every, letter, nameByte, isName, wordLength, wordOf, wordByte, typePart, isEntry, maxName, maxWord, maxSimples}
+use Rattle.figures.specs.Limits.{maxName, maxWord, maxEntrySimples}
+use Rattle.book.specs.Format.{Bytes, every, letter, nameByte, isName, wordLength, wordOf, wordByte, typePart, isEntry}
 use Rattle.book.proofs.Bools.{inside, outside, and-true, both}
 
 module _ (body : Bytes) where
@@ -65,7 +66,7 @@ pub record EntryShape (body : Bytes) : Type 0 where
   pub fits : wordLength body < length body
   pub word : every wordByte (wordOf body) ≡ true
   pub pairs : length (typePart body) % 2 ≡ 0
-  pub short : length (typePart body) ≤ 2 * maxSimples
+  pub short : length (typePart body) ≤ 2 * maxEntrySimples
 
 pub entry-shape : (body : Bytes) → isEntry body ≡ true → EntryShape body
 unfolding isEntry

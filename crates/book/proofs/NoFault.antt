@@ -7,8 +7,8 @@ use mathlib.Core.List.{List}
 use lib.Dec.{leb, eqb}
 use lib.ListN.{length, getD}
 use borrow.Author.Tests.{not-false, eqb-true, ltb-true, leb-false}
-use Rattle.order.specs.Rows.{maxTypes}
-use Rattle.book.specs.Format.{Bytes, Kind, basic-type, order-pair, entry, target, unlisted, every, declaredAmong, isName, isEntry, nameUsed, bases, simplesOf, typePart, exponents, exponentListed, maxEntries, kindAt, bodyAt, nextAt, cutShort, bodyFault, recordFault}
+use Rattle.figures.specs.Limits.{maxTypes, maxEntries}
+use Rattle.book.specs.Format.{Bytes, Kind, basic-type, order-pair, entry, target, unlisted, every, declaredAmong, isName, isEntry, nameUsed, bases, simplesOf, typePart, exponents, exponentListed, kindAt, bodyAt, nextAt, cutShort, bodyFault, recordFault}
 use Rattle.book.proofs.Bools.{both}
 use Rattle.book.proofs.Faults.{every-one, every-two, name-rules, pair-rules, entry-rules, target-rules, unlisted-faults}
 use Rattle.book.proofs.WholeRecords.{cut-whole}

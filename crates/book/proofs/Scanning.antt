@@ -8,15 +8,15 @@ use mathlib.Core.List.{List, List·Memᴰ·not-nil}
 use mathlib.Core.Option.{some, none}
 use lib.ListN.{length}
 use borrow.Author.Tests.{lt-ltb, le-ltb, ne-eqb}
-use Rattle.order.specs.Rows.{maxTypes}
-use Rattle.book.specs.Format.{Bytes, Book, Draft, nothingYet, refused, parse, recordsFrom, ended, maxBytes, nextAt}
+use Rattle.figures.specs.Limits.{maxTypes, maxBook}
+use Rattle.book.specs.Format.{Bytes, Book, Draft, nothingYet, refused, parse, recordsFrom, ended, nextAt}
 use Rattle.book.specs.Kept.{Whole, Store, Roomy, NoPairs, Sound, Keeps, targetKept, nextFault, nextDraft, Taking, Refusing, Opened}
 use Rattle.book.specs.declared.Progress.{Progress}
 
 -- 1: book over 65,535 bytes.
-pub too-long : (bytes : Bytes) → maxBytes < length bytes → parse bytes ≡ refused 1 0
+pub too-long : (bytes : Bytes) → maxBook < length bytes → parse bytes ≡ refused 1 0
 unfolding parse
-too-long bytes h = rw (lt-ltb maxBytes (length bytes) h)
+too-long bytes h = rw (lt-ltb maxBook (length bytes) h)
 
 records-end : (more : ℕ) (bytes : Bytes) (at : ℕ) (d : Draft) → length bytes ≤ at → recordsFrom more bytes at d ≡ ended bytes d (d .target)
 unfolding recordsFrom
@@ -49,7 +49,7 @@ pub record Standing (bytes : Bytes) (s₀ s : Store) (p : Progress) : Type 0 whe
 
 -- Nothing is read yet.
 pub standing-start :
-    (bytes : Bytes) (s : Store) → length bytes ≤ maxBytes → Roomy s → NoPairs (s .direct) → Standing bytes s s (record { at = 0; types = 0; entries = 0; target = 64 })
+    (bytes : Bytes) (s : Store) → length bytes ≤ maxBook → Roomy s → NoPairs (s .direct) → Standing bytes s s (record { at = 0; types = 0; entries = 0; target = 64 })
 unfolding parse
 standing-start bytes s short roomy empty =
     let none-yet : (offsets : List ℕ) → Whole bytes offsets 0 = λ offsets. record { room = omega arith; whole = λ i h. absurd (omega arith) } in
@@ -73,7 +73,7 @@ standing-start bytes s short roomy empty =
       keeps = record { names = refl; pairs = λ p q. (λ h. absurd (empty p q h), λ m. absurd (List·Memᴰ·not-nil m)); entries = refl; target = refl };
       more = length bytes;
       enough = omega arith;
-      same = sym (ap (λ (b : Bool). cond b (refused 1 0) (recordsFrom (length bytes) bytes 0 nothingYet)) (le-ltb maxBytes (length bytes) short));
+      same = sym (ap (λ (b : Bool). cond b (refused 1 0) (recordsFrom (length bytes) bytes 0 nothingYet)) (le-ltb maxBook (length bytes) short));
     }
 
 module _ (bytes : Bytes) (s₀ s : Store) (p : Progress) (w : Standing bytes s₀ s p) where

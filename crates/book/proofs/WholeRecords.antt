@@ -9,23 +9,23 @@ use lib.Dec.{ltb}
 use lib.ListN.{length, drop, length-drop}
 use lib.Seq.{length-take-le}
 use borrow.Author.Tests.{lt-ltb, le-ltb, ne-eqb}
-use Rattle.book.specs.Format.{Bytes, Kind, basic-type, order-pair, entry, target, unlisted, twoBytes, kindOf, kindAt, bodyAt, nextAt, cutShort, bodyFault, recordFault}
+use Rattle.book.specs.Format.{Bytes, Kind, basic-type, order-pair, entry, target, unlisted, twoBytes, kindOf, kindAt, bodyAt, headLength, nextAt, cutShort, bodyFault, recordFault}
 
 or-true : (b : Bool) → b || true ≡ true
 or-true true = refl
 or-true false = refl
 
-pub cut-head : (bytes : Bytes) (at : ℕ) → length bytes < at + 4 → cutShort bytes at ≡ true
+pub cut-head : (bytes : Bytes) (at : ℕ) → length bytes < at + headLength → cutShort bytes at ≡ true
 unfolding cutShort
-cut-head bytes at h = rw (lt-ltb (length bytes) (at + 4) h)
+cut-head bytes at h = rw (lt-ltb (length bytes) (at + headLength) h)
 
 pub cut-body : (bytes : Bytes) (at : ℕ) → length bytes < nextAt bytes at → cutShort bytes at ≡ true
 unfolding cutShort
-cut-body bytes at h = rw (lt-ltb (length bytes) (nextAt bytes at) h, or-true (ltb (length bytes) (at + 4)))
+cut-body bytes at h = rw (lt-ltb (length bytes) (nextAt bytes at) h, or-true (ltb (length bytes) (at + headLength)))
 
 pub not-cut : (bytes : Bytes) (at : ℕ) → nextAt bytes at ≤ length bytes → cutShort bytes at ≡ false
 unfolding cutShort
-not-cut bytes at h = rw (le-ltb (length bytes) (at + 4) (omega arith), le-ltb (length bytes) (nextAt bytes at) h)
+not-cut bytes at h = rw (le-ltb (length bytes) (at + headLength) (omega arith), le-ltb (length bytes) (nextAt bytes at) h)
 
 pub cut-whole : (bytes : Bytes) (at : ℕ) → cutShort bytes at ≡ false → nextAt bytes at ≤ length bytes
 cut-whole bytes at h = go (decLt (length bytes) (nextAt bytes at))
@@ -66,4 +66,4 @@ module _ (bytes : Bytes) (at : ℕ) (names : List Bytes) (entries : ℕ) (seen :
 
 -- The body of a whole record is as long as its head says.
 pub whole-length : (bytes : Bytes) (at : ℕ) → nextAt bytes at ≤ length bytes → length (bodyAt bytes at) ≡ twoBytes bytes at
-whole-length bytes at h = length-take-le (twoBytes bytes at) (drop (at + 4) bytes) (omega (arith, length-drop (at + 4) bytes))
+whole-length bytes at h = length-take-le (twoBytes bytes at) (drop (at + headLength) bytes) (omega (arith, length-drop (at + headLength) bytes))

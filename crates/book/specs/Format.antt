@@ -10,26 +10,10 @@ use lib.IntN.{ℤ, pos, negsuc}
 use lib.ListN.{length, getD, take, drop}
 use Rattle.pregroup.specs.Types.{Basic, Simple, PregroupType, _⁽_⁾}
 use Rattle.order.specs.Closed.{Pair}
-use Rattle.order.specs.Rows.{maxTypes}
+use Rattle.figures.specs.Limits.{maxBook, maxTypes, maxEntries, maxName, maxWord, maxEntrySimples, maxExponent}
 
 abbrev pub Bytes : Type 0
 Bytes = List ℕ
-
--- The figures of the paper.
-abbrev pub maxBytes : ℕ
-maxBytes = 65535
-
-abbrev pub maxEntries : ℕ
-maxEntries = 1024
-
-abbrev pub maxName : ℕ
-maxName = 15
-
-abbrev pub maxWord : ℕ
-maxWord = 31
-
-abbrev pub maxSimples : ℕ
-maxSimples = 12
 
 -- An entry (the lexical entry of a pregroup lexicon): a word with one of its types.
 pub record Entry : Type 0 where
@@ -71,6 +55,10 @@ unfoldable pub kindOf : ℕ → Kind
 kindOf number =
     cond (eqb number 1) basic-type (cond (eqb number 2) order-pair (cond (eqb number 3) entry (cond (eqb number 4) target unlisted)))
 
+-- The bytes of a record's head.
+abbrev pub headLength : ℕ
+headLength = 4
+
 abbrev pub bodyLength : Bytes → ℕ → ℕ
 bodyLength bytes at = twoBytes bytes at
 
@@ -78,11 +66,11 @@ abbrev pub kindAt : Bytes → ℕ → Kind
 kindAt bytes at = kindOf (twoBytes bytes (at + 2))
 
 abbrev pub bodyAt : Bytes → ℕ → Bytes
-bodyAt bytes at = take (bodyLength bytes at) (drop (at + 4) bytes)
+bodyAt bytes at = take (bodyLength bytes at) (drop (at + headLength) bytes)
 
 -- Where the record behind the one at this offset starts.
 abbrev pub nextAt : Bytes → ℕ → ℕ
-nextAt bytes at = at + 4 + bodyLength bytes at
+nextAt bytes at = at + headLength + bodyLength bytes at
 
 -- Kind 1, a basic type: its name, 1 to 15 bytes, a–z and 0–9, a letter first.
 
@@ -128,7 +116,7 @@ isEntry body =
     ∷ ltb (wordLength body) (length body)
     ∷ every wordByte (wordOf body)
     ∷ eqb (length (typePart body) % 2) 0
-    ∷ leb (length (typePart body)) (2 * maxSimples)
+    ∷ leb (length (typePart body)) (2 * maxEntrySimples)
     ∷ [])
 
 abbrev pub entryOf : Bytes → Entry
@@ -139,7 +127,7 @@ entryOf body = record { word = wordOf body; type = simplesOf (typePart body) }
 
 -- 2: head or body cut short.
 unfoldable pub cutShort : Bytes → ℕ → Bool
-cutShort bytes at = ltb (length bytes) (at + 4) || ltb (length bytes) (nextAt bytes at)
+cutShort bytes at = ltb (length bytes) (at + headLength) || ltb (length bytes) (nextAt bytes at)
 
 -- 3: kind not listed.
 unfoldable pub notListed : Kind → Bool
@@ -188,8 +176,8 @@ exponentsIn unlisted body = []
 
 -- −8 to 8.
 unfoldable pub exponentListed : ℤ → Bool
-exponentListed (pos n) = leb n 8
-exponentListed (negsuc n) = leb n 7
+exponentListed (pos n) = leb n maxExponent
+exponentListed (negsuc n) = ltb n maxExponent
 
 -- 6: exponent outside −8 to 8.
 unfoldable pub exponentOutside : Kind → Bytes → Bool
@@ -300,4 +288,4 @@ recordsFrom (suc more) bytes at d =
 unfoldable pub parse : Bytes → Parsed
 parse bytes =
     let read = recordsFrom (length bytes) bytes 0 nothingYet in
-    cond (ltb maxBytes (length bytes)) (refused 1 0) read
+    cond (ltb maxBook (length bytes)) (refused 1 0) read

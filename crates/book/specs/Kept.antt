@@ -11,8 +11,9 @@ use lib.ListN.{length, getD, take}
 use Rattle.pregroup.specs.Types.{Basic}
 use Rattle.pregroup.specs.Held.{InRows}
 use Rattle.order.specs.Closed.{Within, Listed}
-use Rattle.order.specs.Rows.{maxTypes, Hold}
-use Rattle.book.specs.Format.{Bytes, Book, Draft, accepted, refused, parse, bodyAt, nextAt, every, declaredAmong, bases, exponents, exponentListed, simplesOf, typePart, isEntry, entryOf, maxBytes, maxEntries, kindAt, add, recordFault, isSome}
+use Rattle.figures.specs.Limits.{maxTypes, maxEntries, maxBook}
+use Rattle.order.specs.Rows.{Hold}
+use Rattle.book.specs.Format.{Bytes, Book, Draft, accepted, refused, parse, bodyAt, nextAt, every, declaredAmong, bases, exponents, exponentListed, simplesOf, typePart, isEntry, entryOf, kindAt, add, recordFault, isSome}
 use Rattle.book.specs.declared.Progress.{Progress}
 use Rattle.book.specs.declared.Taken.{Taken}
 use Rattle.book.specs.declared.Taken.the-variants.{Next, Bad}
@@ -63,7 +64,7 @@ NoPairs direct = (p q : ℕ) → InRows direct p q → ⊥
 
 -- The numbers that are kept lie within their limits, and the offsets are those of whole records.
 pub record Sound (bytes : Bytes) (s : Store) (p : Progress) : Type 0 where
-  pub short : length bytes ≤ maxBytes
+  pub short : length bytes ≤ maxBook
   pub reached : p .at ≤ length bytes
   pub roomy : Roomy s
   pub few-types : p .types ≤ maxTypes

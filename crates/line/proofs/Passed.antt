@@ -12,7 +12,8 @@ use lib.ListN.{length, length-append}
 use borrow.Author.Tests.{ltb-false}
 use Rattle.pregroup.specs.Types.{PregroupType}
 use Rattle.linking.specs.Reading.{NumberedEntry, Words, Choice, take, empty as empty-choice, Ascending, empty, more, AllAscending}
-use Rattle.book.specs.Format.{Bytes, Book, Entry, maxSimples as maxType}
+use Rattle.figures.specs.Limits.{maxEntrySimples}
+use Rattle.book.specs.Format.{Bytes, Book, Entry}
 use Rattle.book.proofs.Accepted.{AllShort}
 use Rattle.line.specs.Words.{Word, wordsOf}
 use Rattle.line.specs.LineFaults.{maxSimples, sameWord, entriesFrom, entriesOf, entriesOfLine, byteFault, wordFault, entryFault, isEmpty, simplesOfWords, LineCheck, passed, stopped, orElse, lineCheck}
@@ -101,14 +102,14 @@ line-passing B line words h =
 
 -- No entry of a word has more than 12 simple types ..
 abbrev pub Brief : List NumberedEntry → Type 0
-Brief es = (f : NumberedEntry) → List·Memᴰ f es → length (f .type) ≤ maxType
+Brief es = (f : NumberedEntry) → List·Memᴰ f es → length (f .type) ≤ maxEntrySimples
 
 -- .. and none of any word of a line.
 pub data AllBrief : Words → Type 0 where
   no-words : AllBrief []
   brief : {es : List NumberedEntry} {words : Words} → Brief es → AllBrief words → AllBrief (es ∷ words)
 
-brief-cons : (e : NumberedEntry) (es : List NumberedEntry) → length (e .type) ≤ maxType → Brief es → Brief (e ∷ es)
+brief-cons : (e : NumberedEntry) (es : List NumberedEntry) → length (e .type) ≤ maxEntrySimples → Brief es → Brief (e ∷ es)
 brief-cons e es h k f m = ⊎-elim (λ q. let same = ap (λ (x : NumberedEntry). length (x .type)) q in omega arith) (λ l. k f l) (List·Memᴰ·cases-cons m)
 
 entries-brief : (n : ℕ) (entries : List Entry) (word : Bytes) → AllShort entries → Brief (entriesFrom n entries word)
@@ -133,6 +134,6 @@ pub line-brief : (B : Book) (line : Bytes) (words : Words) → AllShort (B .entr
 line-brief B line words short p = subst AllBrief (sym (p .words-are)) (words-brief B short (wordsOf line))
 
 -- So a choice has at most 12 simple types a word.
-pub choice-brief : {words : Words} {ns : List ℕ} {X : PregroupType} → AllBrief words → Choice words ns X → length X ≤ maxType * length words
+pub choice-brief : {words : Words} {ns : List ℕ} {X : PregroupType} → AllBrief words → Choice words ns X → length X ≤ maxEntrySimples * length words
 choice-brief no-words empty-choice = omega arith
 choice-brief (brief b rest) (take {e} {X} m c) = let h = choice-brief rest c in let k = b e m in let n = length-append (e .type) X in omega arith

@@ -121,9 +121,9 @@ pub fn read_line(book: &[u8], line: &[u8], answer: &mut [u16]) -> LineAnswer
     ensures { λ r. ⌜ Gives (outcome (now (book .entry)) (now (line .entry)) (now (answer .entry))) r (now (answer .exit)) ⌝ }
     ensures { λ r. ⌜ Promised (now (book .entry)) (now (line .entry)) (now (answer .entry)) r (now (answer .exit)) ⌝ }
 {
-    let mut names = [0u16; order::MAX_TYPES];
-    let mut entries = [0u16; book::rules::MAX_ENTRIES];
-    let mut direct = [0u64; order::MAX_TYPES];
+    let mut names = [0u16; figures::limits::MAX_TYPES];
+    let mut entries = [0u16; figures::limits::MAX_ENTRIES];
+    let mut direct = [0u64; figures::limits::MAX_TYPES];
     let scan = scan_book(book, &mut names, &mut entries, &mut direct);
     match scan {
         Scan::Refused { number, value } => LineAnswer::Refused { number, value },

@@ -8,7 +8,8 @@ use mathlib.Core.Option.{Option, none, some}
 use lib.Dec.{ltb, eqb}
 use lib.ListN.{length}
 use borrow.Author.Tests.{eq-eqb, ne-eqb}
-use Rattle.book.specs.Format.{Bytes, Book, Draft, Parsed, accepted, refused, parse, recordsFrom, ended, recordFault, nextAt, add, kindAt, bodyAt, isSome, nothingYet, maxBytes}
+use Rattle.figures.specs.Limits.{maxBook}
+use Rattle.book.specs.Format.{Bytes, Book, Draft, Parsed, accepted, refused, parse, recordsFrom, ended, recordFault, nextAt, add, kindAt, bodyAt, isSome, nothingYet}
 use Rattle.book.specs.Check.{bookCheck, answerFor}
 use Rattle.book.specs.declared.BookCheck.{BookCheck}
 use Rattle.book.specs.declared.BookCheck.the-variants.{Accepted, Refused}
@@ -51,7 +52,7 @@ records-named (suc more) bytes at d =
 
 parse-named : (bytes : Bytes) → NamedParse (parse bytes)
 unfolding parse
-parse-named bytes = either-side NamedParse (ltb maxBytes (length bytes)) _ _ (omega arith) (records-named (length bytes) bytes 0 nothingYet)
+parse-named bytes = either-side NamedParse (ltb maxBook (length bytes)) _ _ (omega arith) (records-named (length bytes) bytes 0 nothingYet)
 
 abbrev NamedLine : LineCheck → Type 0
 NamedLine (passed words) = Unit {0}
