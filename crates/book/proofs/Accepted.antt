@@ -12,8 +12,9 @@ use borrow.Author.Tests.{eqb-true}
 use Rattle.pregroup.specs.Types.{Basic}
 use Rattle.order.specs.Closed.{Pair, DeclaredPairs}
 use Rattle.figures.specs.Limits.{maxBook, maxEntrySimples}
-use Rattle.book.specs.Format.{Bytes, Book, Entry, Draft, Parsed, accepted, refused, Kind, basic-type, order-pair, entry, target, unlisted, nothingYet, isSome, kindAt, bodyAt, nextAt, bodyFault, recordFault, add, ended, recordsFrom, parse, simplesOf, typePart, isEntry, entryOf}
-use Rattle.book.proofs.NoFault.{no-fault-body, pair-no-fault, entry-no-fault, target-no-fault}
+use Rattle.figures.specs.Refusals.{bookTooLong}
+use Rattle.book.specs.Format.{Bytes, Book, Entry, Draft, Parsed, accepted, refused, nothingYet, isSome, kindAt, bodyAt, nextAt, bodyRules, firstBroken, nextFault, nextDraft, add, ended, recordsFrom, parse, simplesOf, typePart, isEntry, entryOf}
+use Rattle.book.proofs.NoFault.{Kind, basic-type, order-pair, entry, target, no-fault-kind, no-fault-body, pair-no-fault, entry-no-fault, target-no-fault}
 use Rattle.book.proofs.Layouts.{entry-shape}
 use Rattle.book.proofs.Keeping.{listed-more}
 
@@ -49,7 +50,7 @@ short-more entries body whole short e m =
     let all = entry-shape body whole .short in
     omega arith) (List·Memᴰ·append-cases entries m)
 
-declares-add : (kind : Kind) (body : Bytes) (d : Draft) (entries : ℕ) (seen : Bool) → bodyFault kind body (d .names) entries seen ≡ 0 → DraftDeclares d
+declares-add : {kind : ℕ} → Kind kind → (body : Bytes) (d : Draft) (entries : ℕ) (seen : Bool) → firstBroken (bodyRules kind body (d .names) entries seen) ≡ 0 → DraftDeclares d
     → DraftDeclares (add kind body d)
 unfolding add
 declares-add basic-type body d entries seen fine s =
@@ -71,7 +72,6 @@ declares-add entry body d entries seen fine s =
 declares-add target body d entries seen fine s =
     let one = target-no-fault body (d .names) entries seen fine in
     record { short = s .short; pairs = s .pairs; target = λ t e. let q = some-same (getD {A = ℕ} body 0 0) t e in omega (arith, one .1) }
-declares-add unlisted body d entries seen fine s = s
 
 -- What the book's end and its records come to, where that is an accepted book.
 abbrev BookDeclares : Book → Type 0
@@ -94,13 +94,15 @@ records-declare : (more : ℕ) (bytes : Bytes) (at : ℕ) (d : Draft) → DraftD
 unfolding recordsFrom
 records-declare zero bytes at d s = ended-declares bytes d s
 records-declare (suc more) bytes at d s =
-    let fault = recordFault bytes at (d .names) (length (d .entries)) (isSome (d .target)) in
+    let fault = nextFault bytes at d in
     go (ltb at (length bytes)) (eqb fault 0) fault refl
-    (λ z. records-declare more bytes (nextAt bytes at) (add (kindAt bytes at) (bodyAt bytes at) d)
-    (declares-add (kindAt bytes at) (bodyAt bytes at) d (length (d .entries)) (isSome (d .target)) (no-fault-body bytes at (d .names) (length (d .entries)) (isSome (d .target)) (eqb-true fault 0 z) refl) s))
+    (λ z.
+    let fine = no-fault-body bytes at (d .names) (length (d .entries)) (isSome (d .target)) (eqb-true fault 0 z) refl in
+    let kind = no-fault-kind (bodyAt bytes at) (d .names) (length (d .entries)) (isSome (d .target)) (kindAt bytes at) fine in
+    records-declare more bytes (nextAt bytes at) (nextDraft bytes at d) (declares-add kind (bodyAt bytes at) d (length (d .entries)) (isSome (d .target)) fine s))
   where
     rest : Parsed
-    rest = recordsFrom more bytes (nextAt bytes at) (add (kindAt bytes at) (bodyAt bytes at) d)
+    rest = recordsFrom more bytes (nextAt bytes at) (nextDraft bytes at d)
 
     go : (inside sound : Bool) (fault : ℕ) → eqb fault 0 ≡ sound → (eqb fault 0 ≡ true → IfAccepted rest)
         → IfAccepted (cond inside (cond sound rest (refused fault at)) (ended bytes d (d .target)))
@@ -113,6 +115,6 @@ unfolding parse
 accepted-declares bytes B e =
     subst IfAccepted e (go (ltb maxBook (length bytes)))
   where
-    go : (long : Bool) → IfAccepted (cond long (refused 1 0) (recordsFrom (length bytes) bytes 0 nothingYet))
+    go : (long : Bool) → IfAccepted (cond long (refused bookTooLong 0) (recordsFrom (length bytes) bytes 0 nothingYet))
     go true = tt
     go false = records-declare (length bytes) bytes 0 nothingYet (record { short = λ e m. absurd (List·Memᴰ·not-nil m); pairs = λ p q m. absurd (List·Memᴰ·not-nil m); target = λ t q. let z : _≡_ {A = ℕ} 0 1 = cc in absurd (omega arith) })

@@ -5,7 +5,7 @@ use native.Mathlib.Decide.{decLe, decLt}
 use mathlib.Core.Path.{_≡_, refl}
 use mathlib.Core.Bool.{Bool, true, false, _&&_, false≢true}
 use borrow.Author.Tests.{le-leb, lt-leb, lt-ltb, le-ltb}
-use Rattle.book.specs.Format.{between, letter, nameByte, wordByte, exponentOf, exponentListed}
+use Rattle.book.specs.Format.{between, letter, nameByte, exponentOf, exponentListed}
 
 pub and-true : (b : Bool) → b && true ≡ b
 and-true true = refl
@@ -32,14 +32,6 @@ letter-yes byte h = rw (inside 97 122 byte h)
 pub letter-no : (byte : ℕ) → (97 ≤ byte → byte ≤ 122 → ⊥) → false ≡ letter byte
 unfolding letter
 letter-no byte h = rw (outside 97 122 byte h)
-
-pub word-byte-yes : (byte : ℕ) → (33 ≤ byte) × (byte ≤ 126) → true ≡ wordByte byte
-unfolding wordByte
-word-byte-yes byte h = rw (inside 33 126 byte h)
-
-pub word-byte-no : (byte : ℕ) → (33 ≤ byte → byte ≤ 126 → ⊥) → false ≡ wordByte byte
-unfolding wordByte
-word-byte-no byte h = rw (outside 33 126 byte h)
 
 pub name-letter : (byte : ℕ) → (97 ≤ byte) × (byte ≤ 122) → true ≡ nameByte byte
 unfolding nameByte

@@ -9,12 +9,13 @@ use mathlib.Core.Option.{some, none}
 use lib.ListN.{length}
 use borrow.Author.Tests.{lt-ltb, le-ltb, ne-eqb}
 use Rattle.figures.specs.Limits.{maxTypes, maxBook}
-use Rattle.book.specs.Format.{Bytes, Book, Draft, nothingYet, refused, parse, recordsFrom, ended, nextAt}
-use Rattle.book.specs.Kept.{Whole, Store, Roomy, NoPairs, Sound, Keeps, targetKept, nextFault, nextDraft, Taking, Refusing, Opened}
+use Rattle.figures.specs.Refusals.{bookTooLong, noTarget}
+use Rattle.book.specs.Format.{Bytes, Book, Draft, nothingYet, refused, parse, recordsFrom, ended, nextAt, nextFault, nextDraft}
+use Rattle.book.specs.Kept.{Whole, Store, Roomy, NoPairs, Sound, Keeps, targetKept, Taking, Refusing, Opened}
 use Rattle.book.specs.declared.Progress.{Progress}
 
 -- 1: book over 65,535 bytes.
-pub too-long : (bytes : Bytes) → maxBook < length bytes → parse bytes ≡ refused 1 0
+pub too-long : (bytes : Bytes) → maxBook < length bytes → parse bytes ≡ refused bookTooLong 0
 unfolding parse
 too-long bytes h = rw (lt-ltb maxBook (length bytes) h)
 
@@ -24,13 +25,13 @@ records-end zero bytes at d h = refl
 records-end (suc more) bytes at d h = rw (le-ltb at (length bytes) h)
 
 records-next :
-    (more : ℕ) (bytes : Bytes) (p : Progress) (d : Draft) → p .at < length bytes → nextFault bytes p d ≡ 0
-    → recordsFrom (suc more) bytes (p .at) d ≡ recordsFrom more bytes (nextAt bytes (p .at)) (nextDraft bytes p d)
+    (more : ℕ) (bytes : Bytes) (p : Progress) (d : Draft) → p .at < length bytes → nextFault bytes (p .at) d ≡ 0
+    → recordsFrom (suc more) bytes (p .at) d ≡ recordsFrom more bytes (nextAt bytes (p .at)) (nextDraft bytes (p .at) d)
 unfolding recordsFrom
 records-next more bytes p d h e = rw (lt-ltb (p .at) (length bytes) h, e)
 
 records-bad :
-    (more : ℕ) (bytes : Bytes) (p : Progress) (d : Draft) (number : ℕ) → p .at < length bytes → nextFault bytes p d ≡ number → (number ≡ 0 → ⊥)
+    (more : ℕ) (bytes : Bytes) (p : Progress) (d : Draft) (number : ℕ) → p .at < length bytes → nextFault bytes (p .at) d ≡ number → (number ≡ 0 → ⊥)
     → recordsFrom (suc more) bytes (p .at) d ≡ refused number (p .at)
 unfolding recordsFrom
 records-bad more bytes p d number h e n = rw (lt-ltb (p .at) (length bytes) h, e, ne-eqb number 0 n)
@@ -73,7 +74,7 @@ standing-start bytes s short roomy empty =
       keeps = record { names = refl; pairs = λ p q. (λ h. absurd (empty p q h), λ m. absurd (List·Memᴰ·not-nil m)); entries = refl; target = refl };
       more = length bytes;
       enough = omega arith;
-      same = sym (ap (λ (b : Bool). cond b (refused 1 0) (recordsFrom (length bytes) bytes 0 nothingYet)) (le-ltb maxBook (length bytes) short));
+      same = sym (ap (λ (b : Bool). cond b (refused bookTooLong 0) (recordsFrom (length bytes) bytes 0 nothingYet)) (le-ltb maxBook (length bytes) short));
     }
 
 module _ (bytes : Bytes) (s₀ s : Store) (p : Progress) (w : Standing bytes s₀ s p) where
@@ -91,7 +92,7 @@ module _ (bytes : Bytes) (s₀ s : Store) (p : Progress) (w : Standing bytes s�
             entries-length = b ∙ w .entries-length;
             direct-length = c ∙ w .direct-length;
             sound = t .sound;
-            draft = nextDraft bytes p (w .draft);
+            draft = nextDraft bytes (p .at) (w .draft);
             keeps = k .1;
             more = more;
             enough = omega (arith, t .on);
@@ -110,7 +111,7 @@ module _ (bytes : Bytes) (s₀ s : Store) (p : Progress) (w : Standing bytes s�
   at-end h = sym (w .same) ∙ records-end (w .more) bytes (p .at) (w .draft) h ∙ ap (ended bytes (w .draft)) (w .keeps .target)
 
   -- 10: book ends without a target.
-  pub standing-none : length bytes ≤ p .at → p .target ≡ maxTypes → parse bytes ≡ refused 10 (length bytes)
+  pub standing-none : length bytes ≤ p .at → p .target ≡ maxTypes → parse bytes ≡ refused noTarget (length bytes)
   unfolding ended
   standing-none h e = at-end h ∙ ap (λ (b : Bool). ended bytes (w .draft) (cond b (some (p .target)) none)) (le-ltb (p .target) maxTypes (omega arith))
 

@@ -13,7 +13,7 @@ use Rattle.pregroup.specs.Held.{InRows}
 use Rattle.order.specs.Closed.{Within, Listed}
 use Rattle.figures.specs.Limits.{maxTypes, maxEntries, maxBook}
 use Rattle.order.specs.Rows.{Hold}
-use Rattle.book.specs.Format.{Bytes, Book, Draft, accepted, refused, parse, bodyAt, nextAt, every, declaredAmong, bases, exponents, exponentListed, simplesOf, typePart, isEntry, entryOf, kindAt, add, recordFault, isSome}
+use Rattle.book.specs.Format.{Bytes, Book, Draft, accepted, refused, parse, bodyAt, nextAt, every, declaredAmong, bases, exponents, exponentListed, simplesOf, typePart, isEntry, entryOf, nextFault, nextDraft}
 use Rattle.book.specs.declared.Progress.{Progress}
 use Rattle.book.specs.declared.Taken.{Taken}
 use Rattle.book.specs.declared.Taken.the-variants.{Next, Bad}
@@ -82,23 +82,16 @@ pub record Keeps (bytes : Bytes) (s : Store) (p : Progress) (d : Draft) : Type 0
   pub entries : d .entries ≡ map entryOf (bodiesAt bytes (s .entries) (p .entries))
   pub target : d .target ≡ targetKept (p .target)
 
--- The fault of the record that comes next, and the draft with it.
-abbrev pub nextFault : Bytes → Progress → Draft → ℕ
-nextFault bytes p d = recordFault bytes (p .at) (d .names) (length (d .entries)) (isSome (d .target))
-
-abbrev pub nextDraft : Bytes → Progress → Draft → Draft
-nextDraft bytes p d = add (kindAt bytes (p .at)) (bodyAt bytes (p .at)) d
-
 -- A record taken in: s and p become s′ and p′.
 pub record Taking (bytes : Bytes) (s : Store) (p : Progress) (s′ : Store) (p′ : Progress) : Type 0 where
   pub sound : Sound bytes s′ p′
   pub on : p′ .at ≡ nextAt bytes (p .at)
-  pub right : (d : Draft) → Keeps bytes s p d → (nextFault bytes p d ≡ 0) × Keeps bytes s′ p′ (nextDraft bytes p d)
+  pub right : (d : Draft) → Keeps bytes s p d → (nextFault bytes (p .at) d ≡ 0) × Keeps bytes s′ p′ (nextDraft bytes (p .at) d)
 
 -- A record refused with a number.
 pub record Refusing (bytes : Bytes) (s : Store) (p : Progress) (number : ℕ) : Type 0 where
   pub some-number : number ≡ 0 → ⊥
-  pub faulty : (d : Draft) → Keeps bytes s p d → nextFault bytes p d ≡ number
+  pub faulty : (d : Draft) → Keeps bytes s p d → nextFault bytes (p .at) d ≡ number
 
 abbrev pub TakenSays : Bytes → Store → Progress → Store → Taken → Type 0
 TakenSays bytes s p s′ (Next p′) = Taking bytes s p s′ p′

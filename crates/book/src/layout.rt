@@ -10,7 +10,7 @@ ghost use mathlib.Core.Bool.{true};
 ghost use Prim.Native.Nat.{_+_, _≤_, _<_};
 ghost use lib.ListN.{length};
 ghost use Rattle.book.specs.Compare.{ReadsNumber};
-ghost use Rattle.book.specs.Format.{twoBytes, bodyAt, nextAt, letter, nameByte, isName, wordByte, exponentOf, exponentListed, isEntry, wordOf, typePart, every};
+ghost use Rattle.book.specs.Format.{twoBytes, bodyAt, nextAt, letter, nameByte, isName, between, exponentOf, exponentListed, isEntry, wordOf, typePart, every};
 
 // The bytes of a record's head: the body's length and the kind.
 pub const HEAD: usize = 4;
@@ -56,7 +56,7 @@ fn is_name_byte(byte: u8) -> bool
 }
 
 fn is_word_byte(byte: u8) -> bool
-    ensures { λ r. ⌜ r ≡ wordByte byte ⌝ }
+    ensures { λ r. ⌜ r ≡ between 33 126 byte ⌝ }
 {
     match byte {
         33..=126 => true,
@@ -88,7 +88,7 @@ fn all_name_bytes(bytes: &[u8]) -> bool
 }
 
 fn all_word_bytes(bytes: &[u8]) -> bool
-    ensures { λ r. ⌜ r ≡ every wordByte (now (bytes .entry)) ⌝ }
+    ensures { λ r. ⌜ r ≡ every (between 33 126) (now (bytes .entry)) ⌝ }
 {
     let mut i = 0;
     while i < bytes.len() {

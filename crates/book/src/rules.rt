@@ -25,7 +25,7 @@ ghost use mathlib.Core.Bool.{Bool};
 ghost use mathlib.Core.List.{List};
 ghost use Prim.Native.Nat.{ℕ, _+_, _%_, _≤_, _<_};
 ghost use lib.ListN.{length};
-ghost use Rattle.book.specs.Format.{Bytes, Kind, every, simplesOf, bases, declaredAmong, exponents, exponentListed, nameUsed, bodyFault, recordFault};
+ghost use Rattle.book.specs.Format.{Bytes, every, simplesOf, bases, declaredAmong, exponents, exponentListed, isAmong, bodyRules, firstBroken, recordFault};
 ghost use Rattle.book.specs.Kept.{bodiesAt, Whole};
 
 // Whether all type numbers of a type are below the number of basic types.
@@ -61,7 +61,7 @@ fn all_exponents(part: &[u8]) -> bool
 // Whether a body is the name of one of the basic types whose records start at the kept offsets.
 fn name_used(book: &[u8], names: &[u16], types: usize, body: &[u8]) -> bool
     requires { ⌜ Whole (now book) (now names) types ⌝ }
-    ensures { λ r. ⌜ r ≡ nameUsed Kind.basic-type (now (body .entry)) (bodiesAt (now (book .entry)) (now (names .entry)) types) ⌝ }
+    ensures { λ r. ⌜ r ≡ isAmong (bodiesAt (now (book .entry)) (now (names .entry)) types) (now (body .entry)) ⌝ }
 {
     let mut i = 0;
     while i < types {
@@ -76,7 +76,7 @@ fn name_used(book: &[u8], names: &[u16], types: usize, body: &[u8]) -> bool
 // The rules for a basic type: its layout, a name used before, one too many.
 fn name_fault(book: &[u8], names: &[u16], types: usize, body: &[u8]) -> u32
     requires { ⌜ Whole (now book) (now names) types ⌝ }
-    ensures { λ r. ⌜ ((entries : ℕ) (seen : Bool) → r ≡ bodyFault Kind.basic-type (now (body .entry)) (bodiesAt (now (book .entry)) (now (names .entry)) types) entries seen) ⌝ }
+    ensures { λ r. ⌜ ((entries : ℕ) (seen : Bool) → r ≡ firstBroken (bodyRules 1 (now (body .entry)) (bodiesAt (now (book .entry)) (now (names .entry)) types) entries seen)) ⌝ }
 {
     if !is_name(body) {
         return BAD_LAYOUT;
@@ -92,7 +92,7 @@ fn name_fault(book: &[u8], names: &[u16], types: usize, body: &[u8]) -> u32
 
 // The rules for an order pair: its layout, and two declared type numbers.
 fn pair_fault(body: &[u8], types: usize) -> u32
-    ensures { λ r. ⌜ ((names : List Bytes) (entries : ℕ) (seen : Bool) → length names ≡ types → r ≡ bodyFault Kind.order-pair (now (body .entry)) names entries seen) ⌝ }
+    ensures { λ r. ⌜ ((names : List Bytes) (entries : ℕ) (seen : Bool) → length names ≡ types → r ≡ firstBroken (bodyRules 2 (now (body .entry)) names entries seen)) ⌝ }
 {
     if body.len() != 2 {
         return BAD_LAYOUT;
@@ -108,7 +108,7 @@ fn pair_fault(body: &[u8], types: usize) -> u32
 
 // The rules for an entry: its layout, declared type numbers, exponents from -8 to 8, one too many.
 fn entry_fault(body: &[u8], types: usize, entries: usize) -> u32
-    ensures { λ r. ⌜ ((names : List Bytes) (seen : Bool) → length names ≡ types → r ≡ bodyFault Kind.entry (now (body .entry)) names entries seen) ⌝ }
+    ensures { λ r. ⌜ ((names : List Bytes) (seen : Bool) → length names ≡ types → r ≡ firstBroken (bodyRules 3 (now (body .entry)) names entries seen)) ⌝ }
 {
     if !is_entry(body) {
         return BAD_LAYOUT;
@@ -128,7 +128,7 @@ fn entry_fault(body: &[u8], types: usize, entries: usize) -> u32
 
 // The rules for a target: its layout, a declared type number, no target before.
 fn target_fault(body: &[u8], types: usize, seen: bool) -> u32
-    ensures { λ r. ⌜ ((names : List Bytes) (entries : ℕ) → length names ≡ types → r ≡ bodyFault Kind.target (now (body .entry)) names entries seen) ⌝ }
+    ensures { λ r. ⌜ ((names : List Bytes) (entries : ℕ) → length names ≡ types → r ≡ firstBroken (bodyRules 4 (now (body .entry)) names entries seen)) ⌝ }
 {
     if body.len() != 1 {
         return BAD_LAYOUT;

@@ -8,7 +8,7 @@ use Rattle.book.specs.Format.{Bytes, sameBytes}
 use Rattle.book.proofs.Names.{differs, same-test, bodies-length, name-found, name-other}
 use Rattle.book.proofs.Every.{every-end}
 use Rattle.book.specs.Kept.{bodiesAt}
-use Rattle.book.specs.Format.{every, bodyAt, nameUsed}
+use Rattle.book.specs.Format.{every, bodyAt}
 use Rattle.book.proofs.rules.name_used.Statement.{statement}
 use Rattle.book.proofs.rules.name_used.Tie as tie
 
@@ -40,7 +40,6 @@ same-requires : tie.Need-same-requires Inv-loop μ-loop
 same-requires c κs = omega arith
 
 returns : tie.Need-returns Inv-loop μ-loop
-unfolding nameUsed
 returns c =
     let a = c .before .before .before .before .before .before .before .before .before .before .args in
     let l = c .before .before .before .before .before .before .loop in
@@ -63,7 +62,6 @@ loop-again c =
     (omega arith, l .inv .1 ∙ name-other (a .book .now) (a .names .now) (a .types) (c .before .before .before .before .before .before .before .before .before .before .pre .room) (a .body .now) (l .i) (omega arith) _ found (c .if1 .left))
 
 returns-2 : tie.Need-returns-2 Inv-loop μ-loop
-unfolding nameUsed
 returns-2 c =
     let a = c .before .before .before .before .before .args in
     let l = c .before .loop in
