@@ -8,7 +8,7 @@ use lib.IntN.{pos, negsuc}
 use Rattle.bits.specs.Totals.{total}
 use Rattle.pregroup.specs.Types.{PregroupType, _⁽_⁾, plain}
 use Rattle.order.specs.Closed.{below, closedCount}
-use Rattle.book.specs.Format.{Bytes, Entry, accepted, every, twoBytes, letter, nameByte, isName, exponentOf, simplesOf, isEntry, exponentListed, sameBytes, bodyRules, recordRules, firstBroken, recordFault, add, ended, recordsFrom, parse}
+use Rattle.book.specs.Format.{Bytes, Entry, accepted, every, twoBytes, letter, nameByte, isName, exponentOf, simplesOf, isEntry, exponentListed, sameBytes, bodyRules, recordRules, firstBroken, add, ended, recordsFrom, parse}
 use Rattle.book.specs.Check.{bookCheck}
 use Rattle.book.specs.declared.BookCheck.{BookCheck}
 use Rattle.book.specs.declared.BookCheck.the-variants.{Accepted, Refused}
@@ -34,7 +34,7 @@ contents : parse firstBook ≡ accepted (record {
       ∷ [];
   target = 0;
 })
-unfolding every twoBytes letter nameByte isName exponentOf simplesOf isEntry exponentListed sameBytes bodyRules recordRules firstBroken recordFault add ended recordsFrom parse
+unfolding every twoBytes letter nameByte isName exponentOf simplesOf isEntry exponentListed sameBytes bodyRules recordRules firstBroken add ended recordsFrom parse
 contents = refl
 
 -- A book, and what its check answers.
@@ -90,5 +90,5 @@ rows =
     ∷ []
 
 evaluated : map (λ (r : Row). bookCheck (r .0)) rows ≡ map (λ (r : Row). r .1) rows
-unfolding every twoBytes letter nameByte isName exponentOf simplesOf isEntry exponentListed sameBytes bodyRules recordRules firstBroken recordFault add ended recordsFrom parse below closedCount total typesOf
+unfolding every twoBytes letter nameByte isName exponentOf simplesOf isEntry exponentListed sameBytes bodyRules recordRules firstBroken add ended recordsFrom parse below closedCount total typesOf
 evaluated = refl

@@ -17,7 +17,7 @@ use Rattle.pregroup.specs.Held.{InRows}
 use Rattle.order.specs.Closed.{Pair, Within, Listed}
 use Rattle.figures.specs.Limits.{maxTypes, maxEntries}
 use Rattle.order.specs.Rows.{Hold}
-use Rattle.book.specs.Format.{Bytes, Entry, Draft, twoBytes, bodyAt, nextAt, kindAt, bodyRules, firstBroken, recordFault, nextFault, isSome, entryOf, add, every, declaredAmong}
+use Rattle.book.specs.Format.{Bytes, Entry, Draft, twoBytes, bodyAt, nextAt, kindAt, bodyRules, recordRules, firstBroken, nextFault, isSome, entryOf, add, every, declaredAmong}
 use Rattle.book.specs.Kept.{bodiesAt, Whole, Formed, AllFormed, Store, store, Sound, Keeps, Taking}
 use Rattle.book.specs.declared.Progress.{Progress}
 use Rattle.book.proofs.Bools.{both}
@@ -123,12 +123,12 @@ module _ (bytes : Bytes) (s : Store) (p : Progress) (sound : Sound bytes s p) wh
 
   -- The fault of the next record, by what is kept.
   abbrev pub Found : ℕ → Type 0
-  Found fault = fault ≡ recordFault bytes (p .at) (bodiesAt bytes (s .names) (p .types)) (p .entries) (ltb (p .target) maxTypes)
+  Found fault = fault ≡ firstBroken (recordRules bytes (p .at) (bodiesAt bytes (s .names) (p .types)) (p .entries) (ltb (p .target) maxTypes))
 
   pub fault-kept : (fault : ℕ) → Found fault → (d : Draft) → Keeps bytes s p d → nextFault bytes (p .at) d ≡ fault
   fault-kept fault found d k =
-      ap (λ (names : List Bytes). recordFault bytes (p .at) names (length (d .entries)) (isSome (d .target))) (k .names)
-      ∙ ap₂ (λ (n : ℕ) (seen : Bool). recordFault bytes (p .at) (bodiesAt bytes (s .names) (p .types)) n seen) (entries-count d k)
+      ap (λ (names : List Bytes). firstBroken (recordRules bytes (p .at) names (length (d .entries)) (isSome (d .target)))) (k .names)
+      ∙ ap₂ (λ (n : ℕ) (seen : Bool). firstBroken (recordRules bytes (p .at) (bodiesAt bytes (s .names) (p .types)) n seen)) (entries-count d k)
       (ap isSome (k .target) ∙ some-kept (p .target) (ltb (p .target) maxTypes))
       ∙ sym found
 

@@ -8,7 +8,7 @@ use lib.Dec.{leb, eqb}
 use lib.ListN.{length, getD}
 use borrow.Author.Tests.{not-false, eqb-true, ltb-true, leb-false}
 use Rattle.figures.specs.Limits.{maxTypes, maxEntries}
-use Rattle.book.specs.Format.{Bytes, every, between, declaredAmong, isName, isEntry, isAmong, bases, simplesOf, typePart, exponents, exponentListed, kindAt, bodyAt, nextAt, bodyRules, recordRules, firstBroken, recordFault}
+use Rattle.book.specs.Format.{Bytes, every, between, declaredAmong, isName, isEntry, isAmong, bases, simplesOf, typePart, exponents, exponentListed, kindAt, bodyAt, nextAt, bodyRules, recordRules, firstBroken}
 use Rattle.book.proofs.Bools.{outside, both}
 use Rattle.book.proofs.Faults.{every-one, every-two, name-rules, pair-rules, entry-rules, target-rules}
 use Rattle.book.proofs.WholeRecords.{isCut, cut-whole}
@@ -34,15 +34,15 @@ listed-kind (suc (suc (suc (suc zero)))) h = target
 listed-kind (suc (suc (suc (suc (suc n))))) h = absurd (false≢true (sym (outside 1 4 (suc (suc (suc (suc (suc n))))) (omega arith)) ∙ h))
 
 module _ (bytes : Bytes) (at : ℕ) (names : List Bytes) (entries : ℕ) (seen : Bool) where
-  parts : recordFault bytes at names entries seen ≡ 0
+  parts : firstBroken (recordRules bytes at names entries seen) ≡ 0
       → (isCut bytes at ≡ false) × (firstBroken (bodyRules (kindAt bytes at) (bodyAt bytes at) names entries seen) ≡ 0)
-  unfolding recordFault recordRules firstBroken isCut
+  unfolding recordRules firstBroken isCut
   parts h = none (isCut bytes at) 2 (firstBroken (bodyRules (kindAt bytes at) (bodyAt bytes at) names entries seen)) (omega arith) h
 
-  pub no-fault-whole : recordFault bytes at names entries seen ≡ 0 → nextAt bytes at ≤ length bytes
+  pub no-fault-whole : firstBroken (recordRules bytes at names entries seen) ≡ 0 → nextAt bytes at ≤ length bytes
   no-fault-whole h = cut-whole bytes at (parts h .0)
 
-  pub no-fault-body : {kind : ℕ} → recordFault bytes at names entries seen ≡ 0 → kindAt bytes at ≡ kind → firstBroken (bodyRules kind (bodyAt bytes at) names entries seen) ≡ 0
+  pub no-fault-body : {kind : ℕ} → firstBroken (recordRules bytes at names entries seen) ≡ 0 → kindAt bytes at ≡ kind → firstBroken (bodyRules kind (bodyAt bytes at) names entries seen) ≡ 0
   no-fault-body h k = rw k at (parts h .1)
 
 module _ (body : Bytes) (names : List Bytes) (entries : ℕ) (seen : Bool) where

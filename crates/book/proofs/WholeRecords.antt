@@ -10,7 +10,7 @@ use lib.ListN.{length, drop, length-drop}
 use lib.Seq.{length-take-le}
 use borrow.Author.Tests.{lt-ltb, le-ltb}
 use Rattle.book.proofs.Bools.{outside}
-use Rattle.book.specs.Format.{Bytes, between, twoBytes, headLength, kindAt, bodyAt, nextAt, bodyRules, recordRules, firstBroken, recordFault}
+use Rattle.book.specs.Format.{Bytes, between, twoBytes, headLength, kindAt, bodyAt, nextAt, bodyRules, recordRules, firstBroken}
 
 or-true : (b : Bool) → b || true ≡ true
 or-true true = refl
@@ -49,13 +49,13 @@ kind-other (suc (suc (suc (suc zero)))) a b c d = absurd (d refl)
 kind-other (suc (suc (suc (suc (suc n))))) a b c d = outside 1 4 (suc (suc (suc (suc (suc n))))) (omega arith)
 
 module _ (bytes : Bytes) (at : ℕ) (names : List Bytes) (entries : ℕ) (seen : Bool) where
-  pub record-cut : isCut bytes at ≡ true → 2 ≡ recordFault bytes at names entries seen
-  unfolding recordFault recordRules firstBroken isCut
+  pub record-cut : isCut bytes at ≡ true → 2 ≡ firstBroken (recordRules bytes at names entries seen)
+  unfolding recordRules firstBroken isCut
   record-cut h = rw h
 
   -- A whole record of a kind has the fault of its body.
-  pub record-whole : {kind : ℕ} → nextAt bytes at ≤ length bytes → kindAt bytes at ≡ kind → firstBroken (bodyRules kind (bodyAt bytes at) names entries seen) ≡ recordFault bytes at names entries seen
-  unfolding recordFault recordRules firstBroken isCut
+  pub record-whole : {kind : ℕ} → nextAt bytes at ≤ length bytes → kindAt bytes at ≡ kind → firstBroken (bodyRules kind (bodyAt bytes at) names entries seen) ≡ firstBroken (recordRules bytes at names entries seen)
+  unfolding recordRules firstBroken isCut
   record-whole h k = rw (not-cut bytes at h, k)
 
 -- The body of a whole record is as long as its head says.

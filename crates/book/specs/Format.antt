@@ -158,9 +158,6 @@ unfoldable pub firstBroken : List (ℕ × Bool) → ℕ
 firstBroken [] = 0
 firstBroken (rule ∷ rules) = cond (rule .1) (rule .0) (firstBroken rules)
 
-unfoldable pub recordFault : Bytes → ℕ → List Bytes → ℕ → Bool → ℕ
-recordFault bytes at names entries seen = firstBroken (recordRules bytes at names entries seen)
-
 -- What has been read of a book.
 pub record Draft : Type 0 where
   pub names : List Bytes
@@ -185,9 +182,12 @@ add kind body d =
     (record { names = d .names; pairs = d .pairs; entries = d .entries ++ (entryOf body ∷ []); target = d .target })
     (record { names = d .names; pairs = d .pairs; entries = d .entries; target = some (getD {A = ℕ} body 0 0) })
 
--- The fault of the record at an offset behind what has been read, and what has been read with it.
+-- The record at an offset behind what has been read: its rules, its fault, and what has been read with it.
+abbrev pub nextRules : Bytes → ℕ → Draft → List (ℕ × Bool)
+nextRules bytes at d = recordRules bytes at (d .names) (length (d .entries)) (isSome (d .target))
+
 abbrev pub nextFault : Bytes → ℕ → Draft → ℕ
-nextFault bytes at d = recordFault bytes at (d .names) (length (d .entries)) (isSome (d .target))
+nextFault bytes at d = firstBroken (nextRules bytes at d)
 
 abbrev pub nextDraft : Bytes → ℕ → Draft → Draft
 nextDraft bytes at d = add (kindAt bytes at) (bodyAt bytes at) d

@@ -25,7 +25,7 @@ ghost use mathlib.Core.Bool.{Bool};
 ghost use mathlib.Core.List.{List};
 ghost use Prim.Native.Nat.{ℕ, _+_, _%_, _≤_, _<_};
 ghost use lib.ListN.{length};
-ghost use Rattle.book.specs.Format.{Bytes, every, simplesOf, bases, declaredAmong, exponents, exponentListed, isAmong, bodyRules, firstBroken, recordFault};
+ghost use Rattle.book.specs.Format.{Bytes, every, simplesOf, bases, declaredAmong, exponents, exponentListed, isAmong, bodyRules, recordRules, firstBroken};
 ghost use Rattle.book.specs.Kept.{bodiesAt, Whole};
 
 // Whether all type numbers of a type are below the number of basic types.
@@ -152,7 +152,7 @@ pub(crate) fn record_fault(
     seen: bool,
 ) -> u32
     requires { ⌜ (at ≤ length (now book)) × Whole (now book) (now names) types ⌝ }
-    ensures { λ r. ⌜ r ≡ recordFault (now (book .entry)) at (bodiesAt (now (book .entry)) (now (names .entry)) types) entries seen ⌝ }
+    ensures { λ r. ⌜ r ≡ firstBroken (recordRules (now (book .entry)) at (bodiesAt (now (book .entry)) (now (names .entry)) types) entries seen) ⌝ }
 {
     if book.len() - at < HEAD {
         return CUT_SHORT;

@@ -9,7 +9,7 @@ use lib.Dec.{ltb, eqb}
 use lib.ListN.{length}
 use borrow.Author.Tests.{eq-eqb, ne-eqb}
 use Rattle.figures.specs.Limits.{maxBook}
-use Rattle.book.specs.Format.{Bytes, Book, Draft, Parsed, accepted, refused, parse, recordsFrom, ended, recordFault, nextAt, add, kindAt, bodyAt, isSome, nothingYet}
+use Rattle.book.specs.Format.{Bytes, Book, Draft, Parsed, accepted, refused, parse, recordsFrom, ended, nextAt, nextFault, nextDraft, nothingYet}
 use Rattle.book.specs.Check.{bookCheck, answerFor}
 use Rattle.book.specs.declared.BookCheck.{BookCheck}
 use Rattle.book.specs.declared.BookCheck.the-variants.{Accepted, Refused}
@@ -47,7 +47,7 @@ unfolding recordsFrom
 records-named zero bytes at d = ended-named bytes d (d .target)
 records-named (suc more) bytes at d =
     either-side NamedParse (ltb at (length bytes)) _ _
-    (fault-named (recordFault bytes at (d .names) (length (d .entries)) (isSome (d .target))) at _ (records-named more bytes (nextAt bytes at) (add (kindAt bytes at) (bodyAt bytes at) d)))
+    (fault-named (nextFault bytes at d) at _ (records-named more bytes (nextAt bytes at) (nextDraft bytes at d)))
     (ended-named bytes d (d .target))
 
 parse-named : (bytes : Bytes) → NamedParse (parse bytes)
