@@ -5,7 +5,7 @@ use native.Mathlib.Decide.{decLe, decLt}
 use mathlib.Core.Path.{_≡_, refl}
 use mathlib.Core.Bool.{Bool, true, false, _&&_, false≢true}
 use borrow.Author.Tests.{le-leb, lt-leb, lt-ltb, le-ltb}
-use Rattle.book.specs.Format.{between, letter, nameByte, exponentOf, exponentListed}
+use Rattle.book.specs.Format.{between, nameByte, exponentOf, exponentListed}
 
 pub and-true : (b : Bool) → b && true ≡ b
 and-true true = refl
@@ -24,14 +24,6 @@ outside low high byte never = go (decLe low byte)
     go : Dec (low ≤ byte) → between low high byte ≡ false
     go (yes l) = rw (le-leb low byte l, lt-leb byte high (omega (arith, never l)))
     go (no n) = rw (lt-leb low byte (omega (arith, n)))
-
-pub letter-yes : (byte : ℕ) → (97 ≤ byte) × (byte ≤ 122) → true ≡ letter byte
-unfolding letter
-letter-yes byte h = rw (inside 97 122 byte h)
-
-pub letter-no : (byte : ℕ) → (97 ≤ byte → byte ≤ 122 → ⊥) → false ≡ letter byte
-unfolding letter
-letter-no byte h = rw (outside 97 122 byte h)
 
 pub name-letter : (byte : ℕ) → (97 ≤ byte) × (byte ≤ 122) → true ≡ nameByte byte
 unfolding nameByte

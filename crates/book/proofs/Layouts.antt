@@ -7,7 +7,7 @@ use lib.Dec.{leb}
 use lib.ListN.{length, getD, take, drop, length-drop, List·getD-eq-default}
 use borrow.Author.Tests.{lt-ltb, le-ltb, eq-eqb, ne-eqb, leb-true, ltb-true, eqb-true}
 use Rattle.figures.specs.Limits.{maxName, maxWord, maxEntrySimples}
-use Rattle.book.specs.Format.{Bytes, every, letter, nameByte, isName, wordLength, wordOf, between, typePart, isEntry}
+use Rattle.book.specs.Format.{Bytes, every, nameByte, isName, wordLength, wordOf, between, typePart, isEntry}
 use Rattle.book.proofs.Bools.{inside, outside, both}
 
 module _ (body : Bytes) where
@@ -15,11 +15,11 @@ module _ (body : Bytes) where
   unfolding isName
   name-length-no h = rw (outside 1 maxName (length body) h)
 
-  pub name-first-no : (1 ≤ length body) × (length body ≤ maxName) → letter (getD {A = ℕ} body 0 0) ≡ false → false ≡ isName body
+  pub name-first-no : (1 ≤ length body) × (length body ≤ maxName) → between 97 122 (getD {A = ℕ} body 0 0) ≡ false → false ≡ isName body
   unfolding isName
   name-first-no h e = rw (inside 1 maxName (length body) h, e)
 
-  pub name-rest : (1 ≤ length body) × (length body ≤ maxName) → letter (getD {A = ℕ} body 0 0) ≡ true → every nameByte body ≡ isName body
+  pub name-rest : (1 ≤ length body) × (length body ≤ maxName) → between 97 122 (getD {A = ℕ} body 0 0) ≡ true → every nameByte body ≡ isName body
   unfolding isName
   name-rest h e = rw (inside 1 maxName (length body) h, e)
 
@@ -55,7 +55,7 @@ module _ (body : Bytes) where
         entry-odd h =
             rw (inside 1 maxWord (wordLength body) range, lt-ltb (wordLength body) (length body) fits, word, part-length, ne-eqb ((length body - 1 - wordLength body) % 2) 0 h)
 
-        pub entry-end : (length body - 1 - wordLength body) % 2 ≡ 0 → leb (length body - 1 - wordLength body) 24 ≡ isEntry body
+        pub entry-end : (length body - 1 - wordLength body) % 2 ≡ 0 → leb (length body - 1 - wordLength body) (2 * maxEntrySimples) ≡ isEntry body
         unfolding isEntry
         entry-end h =
             rw (inside 1 maxWord (wordLength body) range, lt-ltb (wordLength body) (length body) fits, word, part-length, eq-eqb ((length body - 1 - wordLength body) % 2) 0 h)

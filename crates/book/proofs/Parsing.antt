@@ -4,7 +4,6 @@ use Prim.Native.Nat.{ℕ, zero, suc, _+_, _≤_, _<_}
 use native.Mathlib.Omega.{arith}
 use native.Mathlib.Decide.{decLt}
 use mathlib.Core.Path.{_≡_, refl, sym, ap, _∙_}
-use mathlib.Core.Bool.{Bool, cond}
 use mathlib.Core.Option.{Option, none, some}
 use lib.ListN.{length}
 use borrow.Author.Tests.{lt-ltb, le-ltb, ne-eqb}
@@ -12,7 +11,7 @@ use Rattle.figures.specs.Limits.{maxBook}
 use Rattle.figures.specs.Refusals.{bookTooLong}
 use Rattle.pregroup.specs.Types.{Basic}
 use Rattle.book.specs.Format.{Bytes, Draft, Parsed, accepted, refused, parse, nothingYet, recordsFrom, ended, nextAt, nextRules, nextFault, nextDraft}
-use Rattle.book.specs.Check.{Breaks, GoodUpTo, start, next, Cause, too-long, bad-record, no-target}
+use Rattle.book.specs.Check.{GoodUpTo, start, next, Cause, too-long, bad-record, no-target}
 use Rattle.book.proofs.NoFault.{no-fault-whole}
 use Rattle.book.proofs.SmallestNumber.{Decided, clean, broken, fault-decided, fault-clean, fault-smallest, breaks-some}
 

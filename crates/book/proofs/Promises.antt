@@ -1,16 +1,19 @@
--- The book check keeps its promises, for all bytes: whatever `parse` comes to has its cause, and no cause leads to anything else.
+-- The book check keeps its promises, for all bytes: whatever `parse` comes to has its cause, and no cause leads to anything else. And no other
+-- answer keeps them.
 use Prim.Native.Nat.{ℕ, _<_}
 use native.Mathlib.Omega.{arith}
-use mathlib.Core.Path.{_≡_, refl, sym, ap, subst, _∙_}
-use mathlib.Core.List.{List, [], _∷_}
+use mathlib.Core.Path.{_≡_, refl, sym, ap, _∙_}
+use mathlib.Core.List.{[], _∷_}
+use mathlib.Core.Option.{Option, none, some}
 use lib.ListN.{length}
-use Rattle.figures.specs.Refusals.{Reply}
-use Rattle.order.specs.Closed.{closedCount}
-use Rattle.order.proofs.PairCount.{closed-has-pairs}
-use Rattle.book.specs.Format.{Bytes, Book, Parsed, accepted, refused, parse}
+use Rattle.figures.specs.Refusals.{Reply, noTarget}
+use Rattle.pregroup.specs.Types.{Basic}
+use Rattle.order.specs.Closed.{Closed, Listed, HasPairs, closedCount}
+use Rattle.order.proofs.PairCount.{closed-has-pairs, pairs-unique}
+use Rattle.book.specs.Format.{Bytes, Book, Draft, Parsed, accepted, refused, parse, ended}
 use Rattle.book.specs.Check.{answerFor, bookCheck, replyOf, Cause, too-long, bad-record, no-target, Checked}
 use Rattle.book.proofs.SmallestNumber.{breaks-some}
-use Rattle.book.proofs.Parsing.{cause-refuses, Comes, whole, stopped, parse-comes}
+use Rattle.book.proofs.Parsing.{end-parse, cause-refuses, Comes, whole, stopped, parse-comes}
 use Rattle.book.proofs.Accepted.{good-declares}
 
 -- No cause has the number 0.
@@ -28,12 +31,20 @@ refused-value n m v w e = cc
 not-both : (B : Book) (n v : ℕ) → accepted B ≡ refused n v → ⊥
 not-both B n v e = let z : _≡_ {A = ℕ} 0 1 = cc in omega arith
 
+-- What a book that is accepted at its end holds.
+ended-holds : (bytes : Bytes) (d : Draft) (o : Option Basic) (B : Book) → ended bytes d o ≡ accepted B → (d .names ≡ B .names) × (d .pairs ≡ B .pairs) × (d .entries ≡ B .entries)
+unfolding ended
+ended-holds bytes d none B e = absurd (not-both B noTarget (length bytes) (sym e))
+ended-holds bytes d (some t) B e =
+    let same : record { names = d .names; pairs = d .pairs; entries = d .entries; target = t } ≡ B = cc in
+    (ap (λ (C : Book). C .names) same, ap (λ (C : Book). C .pairs) same, ap (λ (C : Book). C .entries) same)
+
 module _ (bytes : Bytes) where
   checked : {p : Parsed} → Comes bytes p → parse bytes ≡ p → Checked bytes (replyOf (answerFor p))
   checked (whole {d} {t} short good e) parsed =
       let never : (n v : ℕ) → Cause bytes n v → ⊥ = λ n v cause. not-both _ n v (sym parsed ∙ cause-refuses bytes cause) in
       record {
-        accepts = (λ z. never, λ none. refl);
+        accepts = (λ z. never, λ free. refl);
         counts = λ z. record {
           contents = d;
           good = good;
@@ -46,7 +57,7 @@ module _ (bytes : Bytes) where
   checked (stopped {n} {v} cause) parsed =
       let some-number = cause-some cause in
       record {
-        accepts = (λ z. absurd (omega arith), λ none. absurd (none n v cause));
+        accepts = (λ z. absurd (omega arith), λ free. absurd (free n v cause));
         counts = λ z. absurd (omega arith);
         refuses = λ m w. (
           λ q.
@@ -61,3 +72,18 @@ module _ (bytes : Bytes) where
 
   pub check-promised : Checked bytes (replyOf (bookCheck bytes))
   check-promised = checked (parse-comes bytes) refl
+
+  module _ (reply : Reply) (promised : Checked bytes reply) where
+    only : {p : Parsed} → Comes bytes p → parse bytes ≡ p → reply ≡ replyOf (answerFor p)
+    only (stopped {n} {v} cause) parsed = promised .refuses n v .1 cause
+    only (whole {d} {t} short good e) parsed =
+        let zero = promised .accepts .1 (λ n v cause. not-both _ n v (sym parsed ∙ cause-refuses bytes cause)) in
+        let c = promised .counts zero in
+        let held = ended-holds bytes (c .contents) (c .contents .target) _ (sym (end-parse bytes short (c .good) (omega arith)) ∙ parsed) in
+        let there : HasPairs (Closed (length (d .names)) (Listed (d .pairs))) (c .pairs) = rw (held .0, held .1) at (c .closed) in
+        let count = pairs-unique there (closed-has-pairs (length (d .names)) (d .pairs) (good-declares good .pairs)) in
+        let values : reply .values ≡ length (d .names) ∷ length (d .entries) ∷ closedCount (length (d .names)) (d .pairs) ∷ [] = c .counts ∙ (rw (held .0, held .2, count)) in
+        λ i. record { number = zero i; values = values i }
+
+    pub one-answer : reply ≡ replyOf (bookCheck bytes)
+    one-answer = only (parse-comes bytes) refl

@@ -1,7 +1,7 @@
 -- The reading of all records: what is kept stands for what the good records before it hold.
 use Prim.Native.Nat.{ℕ, _≤_, _<_}
 use native.Mathlib.Omega.{arith}
-use mathlib.Core.Path.{_≡_, refl, sym, ap, _∙_}
+use mathlib.Core.Path.{_≡_, refl, ap, _∙_}
 use mathlib.Core.Logic.{inl, ⊎-elim}
 use mathlib.Core.Bool.{Bool, cond}
 use mathlib.Core.List.{List, List·Memᴰ·not-nil}
@@ -29,7 +29,7 @@ pub record Standing (bytes : Bytes) (s₀ s : Store) (p : Progress) : Type 0 whe
 
 -- Nothing is read yet.
 pub standing-start :
-    (bytes : Bytes) (s : Store) → length bytes ≤ maxBook → Roomy s → NoPairs (s .direct) → Standing bytes s s (record { at = 0; types = 0; entries = 0; target = 64 })
+    (bytes : Bytes) (s : Store) → length bytes ≤ maxBook → Roomy s → NoPairs (s .direct) → Standing bytes s s (record { at = 0; types = 0; entries = 0; target = maxTypes })
 standing-start bytes s short roomy empty =
     let none-yet : (offsets : List ℕ) → Whole bytes offsets 0 = λ offsets. record { room = omega arith; whole = λ i h. absurd (omega arith) } in
     record {

@@ -9,6 +9,7 @@ use lib.Dec.{ltb}
 use lib.ListN.{length, drop, length-drop}
 use lib.Seq.{length-take-le}
 use borrow.Author.Tests.{lt-ltb, le-ltb}
+use Rattle.figures.specs.Refusals.{cutShort}
 use Rattle.book.proofs.Bools.{outside}
 use Rattle.book.specs.Format.{Bytes, between, twoBytes, headLength, kindAt, bodyAt, nextAt, bodyRules, recordRules, firstBroken}
 
@@ -49,7 +50,7 @@ kind-other (suc (suc (suc (suc zero)))) a b c d = absurd (d refl)
 kind-other (suc (suc (suc (suc (suc n))))) a b c d = outside 1 4 (suc (suc (suc (suc (suc n))))) (omega arith)
 
 module _ (bytes : Bytes) (at : ℕ) (names : List Bytes) (entries : ℕ) (seen : Bool) where
-  pub record-cut : isCut bytes at ≡ true → 2 ≡ firstBroken (recordRules bytes at names entries seen)
+  pub record-cut : isCut bytes at ≡ true → cutShort ≡ firstBroken (recordRules bytes at names entries seen)
   unfolding recordRules firstBroken isCut
   record-cut h = rw h
 

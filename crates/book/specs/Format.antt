@@ -67,14 +67,11 @@ byKind kind basic-type order-pair entry target = cond (eqb kind 1) basic-type (c
 
 -- Kind 1, a basic type: its name, 1 to 15 bytes, a–z and 0–9, a letter first.
 
-unfoldable pub letter : ℕ → Bool
-letter byte = between 97 122 byte
-
 unfoldable pub nameByte : ℕ → Bool
 nameByte byte = between 97 122 byte || between 48 57 byte
 
 unfoldable pub isName : Bytes → Bool
-isName body = between 1 maxName (length body) && letter (getD {A = ℕ} body 0 0) && every nameByte body
+isName body = between 1 maxName (length body) && between 97 122 (getD {A = ℕ} body 0 0) && every nameByte body
 
 -- Kind 3, an entry: the word's length (1 to 31), the word (bytes 33 to 126), then 0 to 12 simple types, each a type number and an
 -- exponent, a byte in two's complement.

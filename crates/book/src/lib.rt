@@ -59,7 +59,8 @@ pub enum BookCheck {
     },
 }
 
-// Checks a book alone: any bytes, of any length. The book is not written to.
+// Checks a book alone: any bytes, of any length. An accepted book gives its three numbers; any other the number of its refusal and the value
+// returned with it. The book is not written to.
 pub fn check_book(book: &[u8]) -> BookCheck
     ensures { λ r. ⌜ r ≡ bookCheck (now (book .entry)) ⌝ }
     ensures { λ r. ⌜ Checked (now (book .entry)) (replyOf r) ⌝ }

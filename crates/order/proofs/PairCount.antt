@@ -1,15 +1,17 @@
--- The closed order has as many pairs as `closedCount` says: the pairs p ≤ q, gathered row by row, stand in a list once each.
+-- The closed order has as many pairs as `closedCount` says: the pairs p ≤ q, gathered row by row, stand in a list once each. And no relation has
+-- two numbers of pairs.
 use Prim.Native.Nat.{ℕ, zero, suc, _+_, _≤_, _<_}
 use native.Mathlib.Omega.{arith}
 use native.Mathlib.Nat.{le-suc-iff}
 use mathlib.Core.Path.{_≡_, refl, sym, ap, _∙_}
-use mathlib.Core.Logic.{_↔_, ⊎-elim, ∥∥₁-elim}
+use mathlib.Core.Logic.{_⊎_, inl, inr, ⊎-elim, ∥∥₁-elim}
 use mathlib.Core.HLevel.{⊥-prop}
 use mathlib.Core.Bool.{Bool, true, false, cond}
-use mathlib.Core.List.{List, [], _∷_, _++_, List·Memᴰ, List·Memᴰ·head, List·Memᴰ·not-nil, List·Memᴰ·append-cases, List·Memᴰ·eq-of-singleton, Memᴰ·append-left, Memᴰ·append-right, List·Nodup, Pairwise·nil, Pairwise·cons, nodup-append}
+use mathlib.Core.List.{List, [], _∷_, _++_, List·Memᴰ, List·Memᴰ·head, List·Memᴰ·tail, List·Memᴰ·not-nil, List·Memᴰ·append-cases, List·Memᴰ·eq-of-singleton, Memᴰ·append-left, Memᴰ·append-right, List·Nodup, Pairwise·nil, Pairwise·cons, nodup-append, nodup-cons, Memᴰ·cast}
 use lib.ListN.{length, length-append}
 use Rattle.bits.specs.Totals.{total}
 use Rattle.bits.proofs.TotalLaws.{total-same}
+use Rattle.pregroup.specs.Order.{Relation}
 use Rattle.order.specs.Closed.{Closed, Pair, Listed, DeclaredPairs, HasPairs, below, closedCount}
 use Rattle.order.proofs.ClosureLaws.{closed-within}
 use Rattle.order.proofs.Decision.{below-decides}
@@ -104,3 +106,36 @@ module _ (types : ℕ) (pairs : List Pair) where
         ∙ total-same (λ p. length (row p)) (λ p. total (λ q. cond (below types pairs p q) 1 0) types) types
         (λ p h. gather-length (cell p) types ∙ total-same (λ q. length (cell p q)) (λ q. cond (below types pairs p q) 1 0) types (λ q k. cell-length (below types pairs p q) (pairOf p q)));
   }
+
+-- A list without one of its members.
+without : {x : Pair} {l : List Pair} → List·Memᴰ x l → List Pair
+without (List·Memᴰ·head {xs} e) = xs
+without (List·Memᴰ·tail {x = y} m) = y ∷ without m
+
+without-length : {x : Pair} {l : List Pair} (m : List·Memᴰ x l) → suc (length (without m)) ≡ length l
+unfolding without
+without-length (List·Memᴰ·head e) = refl
+without-length (List·Memᴰ·tail m) = ap suc (without-length m)
+
+without-else : {x y : Pair} {l : List Pair} (m : List·Memᴰ x l) → List·Memᴰ y l → (y ≡ x) ⊎ List·Memᴰ y (without m)
+unfolding without
+without-else (List·Memᴰ·head e) (List·Memᴰ·head q) = inl (q ∙ sym e)
+without-else (List·Memᴰ·head e) (List·Memᴰ·tail k) = inr k
+without-else (List·Memᴰ·tail m) (List·Memᴰ·head q) = inr (List·Memᴰ·head q)
+without-else (List·Memᴰ·tail m) (List·Memᴰ·tail k) = ⊎-elim inl (λ r. inr (List·Memᴰ·tail r)) (without-else m k)
+
+-- A list without repetition is no longer than one that has all its members.
+no-longer : (xs ys : List Pair) → List·Nodup xs → ((x : Pair) → List·Memᴰ x xs → List·Memᴰ x ys) → length xs ≤ length ys
+no-longer [] ys once within = omega arith
+no-longer (x ∷ xs) ys once within =
+    let m = within x (List·Memᴰ·head refl) in
+    let apart = nodup-cons .0 once in
+    let rest = no-longer xs (without m) (apart .1)
+    (λ y k. ⊎-elim (λ e. absurd (apart .0 ∣ Memᴰ·cast (sym e) k ∣₁)) (λ r. r) (without-else m (within y (List·Memᴰ·tail k)))) in
+    omega (arith, without-length m)
+
+pub pairs-unique : {R : Relation} {n m : ℕ} → HasPairs R n → HasPairs R m → n ≡ m
+pairs-unique a b =
+    let there = no-longer (a .pairs) (b .pairs) (a .once) (λ x k. b .all (x .lower) (x .upper) .1 (a .all (x .lower) (x .upper) .0 k)) in
+    let back = no-longer (b .pairs) (a .pairs) (b .once) (λ x k. a .all (x .lower) (x .upper) .1 (b .all (x .lower) (x .upper) .0 k)) in
+    omega (arith, a .count, b .count)

@@ -2,6 +2,7 @@
 use borrow.Author.Needs.{needs}
 use mathlib.Core.Path.{_≡_, ap, _∙_}
 use native.Mathlib.Omega.{arith}
+use Rattle.figures.specs.Limits.{maxTypes}
 use Rattle.book.specs.Format.{Bytes}
 use Rattle.book.specs.Check.{bookCheck, replyOf, Checked}
 use Rattle.book.specs.declared.BookCheck.{BookCheck}
@@ -25,7 +26,7 @@ slice-aggregate-scan-book-3 : tie.Need-slice-aggregate-scan-book-3
 slice-aggregate-scan-book-3 c = search needs
 
 scan-book-requires : tie.Need-scan-book-requires
-scan-book-requires c κs = (omega arith, no-pairs 64)
+scan-book-requires c κs = (omega arith, no-pairs maxTypes)
 
 enum-known-scan : tie.Need-enum-known-scan
 enum-known-scan c = search needs

@@ -1,11 +1,12 @@
 -- `book::layout::is_entry` meets its contract: the tests come in the order of the definition.
 use borrow.Author.Needs.{needs}
 use native.Mathlib.Omega.{arith}
-use Prim.Native.Nat.{ℕ, _-_}
+use Prim.Native.Nat.{ℕ, _-_, _*_}
 use mathlib.Core.Path.{ap, _∙_}
 use lib.Dec.{leb}
 use lib.ListN.{length}
 use borrow.Author.Tests.{not-true, not-false}
+use Rattle.figures.specs.Limits.{maxEntrySimples}
 use Rattle.book.proofs.Layouts.{entry-empty, entry-length-no, entry-past, word-test, entry-word-no, entry-odd, entry-end}
 use Rattle.book.proofs.layout.is_entry.Statement.{statement}
 use Rattle.book.proofs.layout.is_entry.Tie as tie
@@ -69,7 +70,7 @@ returns-7 c =
     let w = c .before .before .before .before .before .before .before .wide-byte in
     let body = c .before .before .before .before .before .before .before .before .before .before .before .args .body .now in
     let word = word-test body (w .result) (w .ensures .0) _ (c .before .before .all-word-bytes .ensures) in
-    ap (λ (n : ℕ). leb (length body - 1 - n) 24) (w .ensures .0)
+    ap (λ (n : ℕ). leb (length body - 1 - n) (2 * maxEntrySimples)) (w .ensures .0)
     ∙ entry-end _ (omega arith) (omega arith) (word ∙ not-false _ (c .before .if5 .left)) (omega arith)
 
 pub is-entry-spec : {M : Type 1} → statement M
