@@ -36,8 +36,8 @@ pub data GoodUpTo (bytes : Bytes) : ℕ → Draft → Type 0 where
   start : GoodUpTo bytes 0 nothingYet
   next : {at : ℕ} {d : Draft} → GoodUpTo bytes at d → at < length bytes → ((n : ℕ) → Breaks bytes at d n → ⊥) → GoodUpTo bytes (nextAt bytes at) (nextDraft bytes at d)
 
--- What is cause for a refusal, with its number and its value: the book's length; or else a record, of which the earliest bad one decides, and
--- within it the smallest number; or else a missing target.
+-- What is cause for a refusal, with its number and its value: the book's length (1); or else a record (2 to 9), of which the earliest bad one
+-- decides, and within it the smallest number; or else a missing target (10).
 pub data Cause (bytes : Bytes) : ℕ → ℕ → Type 0 where
   too-long : maxBook < length bytes → Cause bytes bookTooLong 0
   bad-record : {at n : ℕ} {d : Draft} → length bytes ≤ maxBook → GoodUpTo bytes at d → at < length bytes → Breaks bytes at d n → ((m : ℕ) → Breaks bytes at d m → n ≤ m) → Cause bytes n at

@@ -133,12 +133,11 @@ isAmong names body = not (every (λ name. not (sameBytes body name)) names)
 -- the names of the basic types, the number of entries, and whether there was a target.
 unfoldable pub bodyRules : ℕ → Bytes → List Bytes → ℕ → Bool → List (ℕ × Bool)
 bodyRules kind body names entries seen =
-    let numbers = byKind kind [] body (bases (simplesOf (typePart body))) body in
-    let powers = byKind kind [] [] (exponents (simplesOf (typePart body))) [] in
+    let type = simplesOf (typePart body) in
     (kindNotListed, not (between 1 4 kind))
     ∷ (badLayout, not (byKind kind (isName body) (eqb (length body) 2) (isEntry body) (eqb (length body) 1)))
-    ∷ (undeclaredType, not (every (declaredAmong (length names)) numbers))
-    ∷ (exponentOutside, not (every exponentListed powers))
+    ∷ (undeclaredType, not (every (declaredAmong (length names)) (byKind kind [] body (bases type) body)))
+    ∷ (exponentOutside, not (every exponentListed (byKind kind [] [] (exponents type) [])))
     ∷ (nameUsed, byKind kind (isAmong names body) false false false)
     ∷ (secondTarget, byKind kind false false false seen)
     ∷ (tooManyRecords, byKind kind (leb maxTypes (length names)) false (leb maxEntries entries) false)
