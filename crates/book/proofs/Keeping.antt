@@ -5,9 +5,8 @@ use native.Mathlib.Omega.{arith}
 use native.Mathlib.Decide.{ℕ-discrete}
 use mathlib.Core.Path.{_≡_, refl, sym, ap, ap₂, _∙_}
 use mathlib.Core.Logic.{_↔_, _⊎_, inl, inr, ⊎-elim}
-use mathlib.Core.Bool.{Bool, true, false, cond}
+use mathlib.Core.Bool.{Bool, true}
 use mathlib.Core.List.{List, [], _∷_, _++_, map, map-append, List·Memᴰ, List·Memᴰ·append-cases, Memᴰ·append-left, Memᴰ·append-right, List·Memᴰ·eq-of-singleton, List·Memᴰ·head}
-use mathlib.Core.Option.{some, none}
 use lib.Dec.{ltb}
 use lib.ListN.{length, getD, take, set, length-map, length-set}
 use lib.Seq.{take-suc-set, getD-set-same, getD-set-other}
@@ -17,7 +16,7 @@ use Rattle.pregroup.specs.Held.{InRows}
 use Rattle.order.specs.Closed.{Pair, Within, Listed}
 use Rattle.figures.specs.Limits.{maxTypes, maxEntries}
 use Rattle.order.specs.Rows.{Hold}
-use Rattle.book.specs.Format.{Bytes, Entry, Draft, twoBytes, bodyAt, nextAt, kindAt, bodyRules, recordRules, firstBroken, nextFault, isSome, entryOf, add, every, declaredAmong}
+use Rattle.book.specs.Format.{Bytes, Entry, Draft, twoBytes, bodyAt, nextAt, kindAt, bodyRules, recordRules, firstBroken, nextFault, entryOf, add, every, declaredAmong}
 use Rattle.book.specs.Kept.{bodiesAt, Whole, Formed, AllFormed, Store, store, Sound, Keeps, Taking}
 use Rattle.book.specs.declared.Progress.{Progress}
 use Rattle.book.proofs.Bools.{both}
@@ -108,16 +107,11 @@ within-more rows types a b w room small smaller members within p q = go (ℕ-dis
         (omega arith, ⊎-elim (λ l. within a q l .1) (λ l. omega arith) (members q .0 k))
     go (no d) h = within p q (rw (getD-set-other rows a p w 0 d) at h)
 
--- Whether there is a target, by what is kept.
-some-kept : (t : ℕ) (b : Bool) → isSome (cond b (some t) none) ≡ b
-some-kept t true = refl
-some-kept t false = refl
-
 module _ (bytes : Bytes) (s : Store) (p : Progress) (sound : Sound bytes s p) where
   names-count : length (bodiesAt bytes (s .names) (p .types)) ≡ p .types
   names-count = bodies-length bytes (s .names) (p .types) (sound .names-whole .room)
 
-  entries-count : (d : Draft) → Keeps bytes s p d → length (d .entries) ≡ p .entries
+  entries-count : (d : Draft) → Keeps bytes s p d → length (d .book .entries) ≡ p .entries
   entries-count d k =
       ap length (k .entries) ∙ length-map (bodiesAt bytes (s .entries) (p .entries)) entryOf ∙ bodies-length bytes (s .entries) (p .entries) (sound .entries-whole .room)
 
@@ -127,9 +121,9 @@ module _ (bytes : Bytes) (s : Store) (p : Progress) (sound : Sound bytes s p) wh
 
   pub fault-kept : (fault : ℕ) → Found fault → (d : Draft) → Keeps bytes s p d → nextFault bytes (p .at) d ≡ fault
   fault-kept fault found d k =
-      ap (λ (names : List Bytes). firstBroken (recordRules bytes (p .at) names (length (d .entries)) (isSome (d .target)))) (k .names)
+      ap (λ (names : List Bytes). firstBroken (recordRules bytes (p .at) names (length (d .book .entries)) (d .seen))) (k .names)
       ∙ ap₂ (λ (n : ℕ) (seen : Bool). firstBroken (recordRules bytes (p .at) (bodiesAt bytes (s .names) (p .types)) n seen)) (entries-count d k)
-      (ap isSome (k .target) ∙ some-kept (p .target) (ltb (p .target) maxTypes))
+      (k .seen)
       ∙ sym found
 
   module _ (found : Found 0) where
@@ -202,6 +196,7 @@ module _ (bytes : Bytes) (s : Store) (p : Progress) (sound : Sound bytes s p) wh
                   names = ap (λ (l : List Bytes). l ++ (bodyAt bytes (p .at) ∷ [])) (k .names) ∙ sym (bodies-more bytes (s .names) (p .types) (p .at) room);
                   pairs = k .pairs;
                   entries = k .entries;
+                  seen = k .seen;
                   target = k .target;
                 }),
           );
@@ -241,6 +236,7 @@ module _ (bytes : Bytes) (s : Store) (p : Progress) (sound : Sound bytes s p) wh
                       ap (λ (l : List Entry). l ++ (entryOf (bodyAt bytes (p .at)) ∷ [])) (k .entries)
                       ∙ sym (map-append entryOf (bodiesAt bytes (s .entries) (p .entries)) (bodyAt bytes (p .at) ∷ []))
                       ∙ ap (map entryOf) (sym (bodies-more bytes (s .entries) (p .entries) (p .at) room));
+                  seen = k .seen;
                   target = k .target;
                 }),
           );
@@ -274,7 +270,7 @@ module _ (bytes : Bytes) (s : Store) (p : Progress) (sound : Sound bytes s p) wh
           right = λ d k. (
             fault-kept 0 found d k,
             rw (kind, ← lo, ← up)
-                (record { names = k .names; pairs = hold-more (s .direct) (d .pairs) lower upper row room members (k .pairs); entries = k .entries; target = k .target }),
+                (record { names = k .names; pairs = hold-more (s .direct) (d .book .pairs) lower upper row room members (k .pairs); entries = k .entries; seen = k .seen; target = k .target }),
           );
         }
 
@@ -299,6 +295,6 @@ module _ (bytes : Bytes) (s : Store) (p : Progress) (sound : Sound bytes s p) wh
           on = on;
           right = λ d k. (
             fault-kept 0 found d k,
-            rw kind (record { names = k .names; pairs = k .pairs; entries = k .entries; target = ap some (sym e) ∙ sym (ap (λ (b : Bool). cond b (some t) none) (lt-ltb t maxTypes few)) }),
+            rw kind (record { names = k .names; pairs = k .pairs; entries = k .entries; seen = sym (lt-ltb t maxTypes few); target = λ h. sym e }),
           );
         }

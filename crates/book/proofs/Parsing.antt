@@ -3,20 +3,19 @@
 use Prim.Native.Nat.{ℕ, zero, suc, _+_, _≤_, _<_}
 use native.Mathlib.Omega.{arith}
 use native.Mathlib.Decide.{decLt}
-use mathlib.Core.Path.{_≡_, refl, sym, ap, _∙_}
-use mathlib.Core.Option.{Option, none, some}
+use mathlib.Core.Path.{_≡_, refl, sym, _∙_}
+use mathlib.Core.Bool.{Bool, true, false}
 use lib.ListN.{length}
 use borrow.Author.Tests.{lt-ltb, le-ltb, ne-eqb}
 use Rattle.figures.specs.Limits.{maxBook}
 use Rattle.figures.specs.Refusals.{bookTooLong}
-use Rattle.pregroup.specs.Types.{Basic}
-use Rattle.book.specs.Format.{Bytes, Draft, Parsed, accepted, refused, parse, nothingYet, recordsFrom, ended, nextAt, nextRules, nextFault, nextDraft}
+use Rattle.book.specs.Format.{Bytes, Book, Draft, Parsed, accepted, refused, parse, nothingYet, recordsFrom, ended, nextAt, nextRules, nextFault, nextDraft}
 use Rattle.book.specs.Check.{GoodUpTo, start, next, Cause, too-long, bad-record, no-target}
 use Rattle.book.proofs.NoFault.{no-fault-whole}
 use Rattle.book.proofs.SmallestNumber.{Decided, clean, broken, fault-decided, fault-clean, fault-smallest, breaks-some}
 
 module _ (bytes : Bytes) where
-  records-end : (more at : ℕ) (d : Draft) → length bytes ≤ at → recordsFrom more bytes at d ≡ ended bytes d (d .target)
+  records-end : (more at : ℕ) (d : Draft) → length bytes ≤ at → recordsFrom more bytes at d ≡ ended bytes d
   unfolding recordsFrom
   records-end zero at d h = refl
   records-end (suc more) at d h = rw (le-ltb at (length bytes) h)
@@ -76,7 +75,7 @@ module _ (bytes : Bytes) where
     pub bad-refuses : {at : ℕ} {d : Draft} → GoodUpTo bytes at d → (n : ℕ) → at < length bytes → nextFault bytes at d ≡ n → 0 < n → parse bytes ≡ refused n at
     bad-refuses {at} {d} good n h e real = sym (good-parse good) ∙ bad-parse (length bytes) at d n (omega arith) h e real
 
-    pub end-parse : {at : ℕ} {d : Draft} → GoodUpTo bytes at d → length bytes ≤ at → parse bytes ≡ ended bytes d (d .target)
+    pub end-parse : {at : ℕ} {d : Draft} → GoodUpTo bytes at d → length bytes ≤ at → parse bytes ≡ ended bytes d
     end-parse {at} {d} good h = sym (good-parse good) ∙ records-end (length bytes) at d h
 
   -- A cause for a refusal is what the book comes to.
@@ -85,23 +84,22 @@ module _ (bytes : Bytes) where
   cause-refuses (too-long h) = long-refused h
   cause-refuses (bad-record {at} {n} {d} short good h b least) =
       bad-refuses short good n h (fault-smallest bytes at d n b least) (breaks-some bytes at d n b)
-  cause-refuses (no-target {d} short good e) = end-parse short good (omega arith) ∙ ap (ended bytes d) e
+  cause-refuses (no-target short good) = end-parse short good (omega arith)
 
   -- What a book comes to, with its cause.
   pub data Comes : Parsed → Type 0 where
-    whole : {d : Draft} {t : Basic} → length bytes ≤ maxBook → GoodUpTo bytes (length bytes) d → d .target ≡ some t
-        → Comes (accepted (record { names = d .names; pairs = d .pairs; entries = d .entries; target = t }))
+    whole : {B : Book} → length bytes ≤ maxBook → GoodUpTo bytes (length bytes) (record { book = B; seen = true }) → Comes (accepted B)
     stopped : {n v : ℕ} → Cause bytes n v → Comes (refused n v)
 
-  end-comes : (d : Draft) → length bytes ≤ maxBook → GoodUpTo bytes (length bytes) d → (o : Option Basic) → d .target ≡ o → Comes (ended bytes d o)
+  end-comes : (B : Book) (seen : Bool) → length bytes ≤ maxBook → GoodUpTo bytes (length bytes) (record { book = B; seen = seen }) → Comes (ended bytes (record { book = B; seen = seen }))
   unfolding ended
-  end-comes d short good none e = stopped (no-target short good e)
-  end-comes d short good (some t) e = whole short good e
+  end-comes B true short good = whole short good
+  end-comes B false short good = stopped (no-target short good)
 
-  at-end : (at : ℕ) (d : Draft) → length bytes ≤ maxBook → at ≤ length bytes → length bytes ≤ at → GoodUpTo bytes at d → Comes (ended bytes d (d .target))
+  at-end : (at : ℕ) (d : Draft) → length bytes ≤ maxBook → at ≤ length bytes → length bytes ≤ at → GoodUpTo bytes at d → Comes (ended bytes d)
   at-end at d short inside h good =
       let e : at ≡ length bytes = omega arith in
-      end-comes d short (rw e at good) (d .target) refl
+      end-comes (d .book) (d .seen) short (rw e at good)
 
   come-step :
       (more at : ℕ) (d : Draft) → length bytes ≤ maxBook → at ≤ length bytes → GoodUpTo bytes at d

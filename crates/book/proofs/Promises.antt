@@ -4,13 +4,11 @@ use Prim.Native.Nat.{ℕ, _<_}
 use native.Mathlib.Omega.{arith}
 use mathlib.Core.Path.{_≡_, refl, sym, ap, _∙_}
 use mathlib.Core.List.{[], _∷_}
-use mathlib.Core.Option.{Option, none, some}
 use lib.ListN.{length}
-use Rattle.figures.specs.Refusals.{Reply, noTarget}
-use Rattle.pregroup.specs.Types.{Basic}
+use Rattle.figures.specs.Refusals.{Reply}
 use Rattle.order.specs.Closed.{Closed, Listed, HasPairs, closedCount}
 use Rattle.order.proofs.PairCount.{closed-has-pairs, pairs-unique}
-use Rattle.book.specs.Format.{Bytes, Book, Draft, Parsed, accepted, refused, parse, ended}
+use Rattle.book.specs.Format.{Bytes, Book, Parsed, accepted, refused, parse, ended}
 use Rattle.book.specs.Check.{answerFor, bookCheck, replyOf, Cause, too-long, bad-record, no-target, Checked}
 use Rattle.book.proofs.SmallestNumber.{breaks-some}
 use Rattle.book.proofs.Parsing.{end-parse, cause-refuses, Comes, whole, stopped, parse-comes}
@@ -20,7 +18,7 @@ use Rattle.book.proofs.Accepted.{good-declares}
 cause-some : {bytes : Bytes} {n v : ℕ} → Cause bytes n v → 0 < n
 cause-some (too-long h) = omega arith
 cause-some {bytes} (bad-record {at} {n} {d} short good h b least) = breaks-some bytes at d n b
-cause-some (no-target short good e) = omega arith
+cause-some (no-target short good) = omega arith
 
 refused-number : (n m v w : ℕ) → refused n v ≡ refused m w → n ≡ m
 refused-number n m v w e = cc
@@ -31,25 +29,20 @@ refused-value n m v w e = cc
 not-both : (B : Book) (n v : ℕ) → accepted B ≡ refused n v → ⊥
 not-both B n v e = let z : _≡_ {A = ℕ} 0 1 = cc in omega arith
 
--- What a book that is accepted at its end holds.
-ended-holds : (bytes : Bytes) (d : Draft) (o : Option Basic) (B : Book) → ended bytes d o ≡ accepted B → (d .names ≡ B .names) × (d .pairs ≡ B .pairs) × (d .entries ≡ B .entries)
-unfolding ended
-ended-holds bytes d none B e = absurd (not-both B noTarget (length bytes) (sym e))
-ended-holds bytes d (some t) B e =
-    let same : record { names = d .names; pairs = d .pairs; entries = d .entries; target = t } ≡ B = cc in
-    (ap (λ (C : Book). C .names) same, ap (λ (C : Book). C .pairs) same, ap (λ (C : Book). C .entries) same)
+same-book : (A B : Book) → accepted A ≡ accepted B → A ≡ B
+same-book A B e = cc
 
 module _ (bytes : Bytes) where
   checked : {p : Parsed} → Comes bytes p → parse bytes ≡ p → Checked bytes (replyOf (answerFor p))
-  checked (whole {d} {t} short good e) parsed =
+  checked (whole {B} short good) parsed =
       let never : (n v : ℕ) → Cause bytes n v → ⊥ = λ n v cause. not-both _ n v (sym parsed ∙ cause-refuses bytes cause) in
       record {
         accepts = (λ z. never, λ free. refl);
         counts = λ z. record {
-          contents = d;
+          contents = B;
           good = good;
-          pairs = closedCount (length (d .names)) (d .pairs);
-          closed = closed-has-pairs (length (d .names)) (d .pairs) (good-declares good .pairs);
+          pairs = closedCount (length (B .names)) (B .pairs);
+          closed = closed-has-pairs (length (B .names)) (B .pairs) (good-declares good .pairs);
           counts = refl;
         };
         refuses = λ n v. (λ q. let three : _≡_ {A = ℕ} 3 1 = ap (λ (r : Reply). length (r .values)) q in absurd (omega arith), λ cause. absurd (never n v cause));
@@ -75,14 +68,15 @@ module _ (bytes : Bytes) where
 
   module _ (reply : Reply) (promised : Checked bytes reply) where
     only : {p : Parsed} → Comes bytes p → parse bytes ≡ p → reply ≡ replyOf (answerFor p)
+    unfolding ended
     only (stopped {n} {v} cause) parsed = promised .refuses n v .1 cause
-    only (whole {d} {t} short good e) parsed =
-        let zero = promised .accepts .1 (λ n v cause. not-both _ n v (sym parsed ∙ cause-refuses bytes cause)) in
+    only (whole {B} short good) parsed =
+        let zero = promised .accepts .1 (λ n v cause. not-both B n v (sym parsed ∙ cause-refuses bytes cause)) in
         let c = promised .counts zero in
-        let held = ended-holds bytes (c .contents) (c .contents .target) _ (sym (end-parse bytes short (c .good) (omega arith)) ∙ parsed) in
-        let there : HasPairs (Closed (length (d .names)) (Listed (d .pairs))) (c .pairs) = rw (held .0, held .1) at (c .closed) in
-        let count = pairs-unique there (closed-has-pairs (length (d .names)) (d .pairs) (good-declares good .pairs)) in
-        let values : reply .values ≡ length (d .names) ∷ length (d .entries) ∷ closedCount (length (d .names)) (d .pairs) ∷ [] = c .counts ∙ (rw (held .0, held .2, count)) in
+        let held = same-book (c .contents) B (sym (end-parse bytes short (c .good) (omega arith)) ∙ parsed) in
+        let there : HasPairs (Closed (length (B .names)) (Listed (B .pairs))) (c .pairs) = rw held at (c .closed) in
+        let count = pairs-unique there (closed-has-pairs (length (B .names)) (B .pairs) (good-declares good .pairs)) in
+        let values : reply .values ≡ length (B .names) ∷ length (B .entries) ∷ closedCount (length (B .names)) (B .pairs) ∷ [] = c .counts ∙ rw (held, count) in
         λ i. record { number = zero i; values = values i }
 
     pub one-answer : reply ≡ replyOf (bookCheck bytes)

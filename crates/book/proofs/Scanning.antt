@@ -5,13 +5,12 @@ use mathlib.Core.Path.{_≡_, refl, ap, _∙_}
 use mathlib.Core.Logic.{inl, ⊎-elim}
 use mathlib.Core.Bool.{Bool, cond}
 use mathlib.Core.List.{List, List·Memᴰ·not-nil}
-use mathlib.Core.Option.{some, none}
 use lib.ListN.{length}
 use borrow.Author.Tests.{lt-ltb, le-ltb}
 use Rattle.figures.specs.Limits.{maxTypes, maxBook}
 use Rattle.figures.specs.Refusals.{noTarget}
-use Rattle.book.specs.Format.{Bytes, Book, Draft, nothingYet, refused, parse, ended, nextDraft}
-use Rattle.book.specs.Kept.{Whole, Store, Roomy, NoPairs, Sound, Keeps, targetKept, Taking, Refusing, Opened}
+use Rattle.book.specs.Format.{Bytes, Book, Draft, nothingYet, accepted, refused, parse, ended, nextDraft}
+use Rattle.book.specs.Kept.{Whole, Store, Roomy, NoPairs, Sound, Keeps, Taking, Refusing, Opened}
 use Rattle.book.specs.Check.{GoodUpTo, start, next}
 use Rattle.book.specs.declared.Progress.{Progress}
 use Rattle.book.proofs.SmallestNumber.{fault-none}
@@ -49,7 +48,7 @@ standing-start bytes s short roomy empty =
         within = λ p q h. absurd (empty p q h);
       };
       draft = nothingYet;
-      keeps = record { names = refl; pairs = λ p q. (λ h. absurd (empty p q h), λ m. absurd (List·Memᴰ·not-nil m)); entries = refl; target = refl };
+      keeps = record { names = refl; pairs = λ p q. (λ h. absurd (empty p q h), λ m. absurd (List·Memᴰ·not-nil m)); entries = refl; seen = refl; target = λ h. absurd (omega arith) };
       good = start;
     }
 
@@ -73,22 +72,23 @@ module _ (bytes : Bytes) (s₀ s : Store) (p : Progress) (w : Standing bytes s�
   pub standing-bad : (number : ℕ) → p .at < length bytes → Refusing bytes s p number → parse bytes ≡ refused number (p .at)
   standing-bad number h r = bad-refuses bytes (w .sound .short) (w .good) number h (r .faulty (w .draft) (w .keeps)) (omega (arith, r .some-number))
 
-  at-end : length bytes ≤ p .at → parse bytes ≡ ended bytes (w .draft) (targetKept (p .target))
-  at-end h = end-parse bytes (w .sound .short) (w .good) h ∙ ap (ended bytes (w .draft)) (w .keeps .target)
+  at-end : length bytes ≤ p .at → parse bytes ≡ ended bytes (w .draft)
+  at-end h = end-parse bytes (w .sound .short) (w .good) h
 
   -- 10: book ends without a target.
   pub standing-none : length bytes ≤ p .at → p .target ≡ maxTypes → parse bytes ≡ refused noTarget (length bytes)
   unfolding ended
-  standing-none h e = at-end h ∙ ap (λ (b : Bool). ended bytes (w .draft) (cond b (some (p .target)) none)) (le-ltb (p .target) maxTypes (omega arith))
+  standing-none h e =
+      at-end h ∙ ap (λ (b : Bool). cond b (accepted (w .draft .book)) (refused noTarget (length bytes))) (w .keeps .seen ∙ le-ltb (p .target) maxTypes (omega arith))
 
   pub standing-some : length bytes ≤ p .at → (p .target ≡ maxTypes → ⊥) → (B : Book) × Opened bytes s (p .types) (p .entries) (p .target) B
   unfolding ended
   standing-some h n =
       let declared : p .target < p .types = ⊎-elim (λ e. absurd (n e)) (λ k. k) (w .sound .target-kept) in
       let few : p .target < maxTypes = omega (arith, w .sound .few-types) in (
-        record { names = w .draft .names; pairs = w .draft .pairs; entries = w .draft .entries; target = p .target },
+        w .draft .book,
         record {
-          parsed = at-end h ∙ ap (λ (b : Bool). ended bytes (w .draft) (cond b (some (p .target)) none)) (lt-ltb (p .target) maxTypes few);
+          parsed = at-end h ∙ ap (λ (b : Bool). cond b (accepted (w .draft .book)) (refused noTarget (length bytes))) (w .keeps .seen ∙ lt-ltb (p .target) maxTypes few);
           few-types = w .sound .few-types;
           few-entries = w .sound .few-entries;
           names-whole = w .sound .names-whole;
@@ -99,6 +99,6 @@ module _ (bytes : Bytes) (s₀ s : Store) (p : Progress) (w : Standing bytes s�
           names = w .keeps .names;
           pairs = w .keeps .pairs;
           entries = w .keeps .entries;
-          chosen = refl;
+          chosen = w .keeps .target few;
         },
       )

@@ -3,14 +3,13 @@
 use Prim.Native.Nat.{ℕ, _≤_, _<_}
 use mathlib.Core.Path.{_≡_}
 use mathlib.Core.Logic.{_↔_}
-use mathlib.Core.Bool.{true}
+use mathlib.Core.Bool.{true, false}
 use mathlib.Core.List.{List, [], _∷_, List·Memᴰ}
-use mathlib.Core.Option.{none}
 use lib.ListN.{length}
 use Rattle.figures.specs.Limits.{maxBook}
 use Rattle.figures.specs.Refusals.{Reply, bookTooLong, noTarget}
 use Rattle.order.specs.Closed.{Closed, Listed, HasPairs, closedCount}
-use Rattle.book.specs.Format.{Bytes, Draft, Parsed, accepted, refused, parse, nothingYet, nextAt, nextRules, nextDraft}
+use Rattle.book.specs.Format.{Bytes, Book, Draft, Parsed, accepted, refused, parse, nothingYet, nextAt, nextRules, nextDraft}
 use Rattle.book.specs.declared.BookCheck.{BookCheck}
 use Rattle.book.specs.declared.BookCheck.the-variants.{Accepted, Refused}
 
@@ -41,12 +40,12 @@ pub data GoodUpTo (bytes : Bytes) : ℕ → Draft → Type 0 where
 pub data Cause (bytes : Bytes) : ℕ → ℕ → Type 0 where
   too-long : maxBook < length bytes → Cause bytes bookTooLong 0
   bad-record : {at n : ℕ} {d : Draft} → length bytes ≤ maxBook → GoodUpTo bytes at d → at < length bytes → Breaks bytes at d n → ((m : ℕ) → Breaks bytes at d m → n ≤ m) → Cause bytes n at
-  no-target : {d : Draft} → length bytes ≤ maxBook → GoodUpTo bytes (length bytes) d → d .target ≡ none → Cause bytes noTarget (length bytes)
+  no-target : {B : Book} → length bytes ≤ maxBook → GoodUpTo bytes (length bytes) (record { book = B; seen = false }) → Cause bytes noTarget (length bytes)
 
 -- The values of an accepted book: how many basic types its records hold, how many entries, and how many pairs p ≤ q their closed order has.
 pub record Counted (bytes : Bytes) (values : List ℕ) : Type 0 where
-  pub contents : Draft
-  pub good : GoodUpTo bytes (length bytes) contents
+  pub contents : Book
+  pub good : GoodUpTo bytes (length bytes) (record { book = contents; seen = true })
   pub pairs : ℕ
   pub closed : HasPairs (Closed (length (contents .names)) (Listed (contents .pairs))) pairs
   pub counts : values ≡ length (contents .names) ∷ length (contents .entries) ∷ pairs ∷ []

@@ -4,7 +4,6 @@
 use Prim.Native.Nat.{ℕ, zero, suc, _+_, _-_, _*_, _%_}
 use mathlib.Core.Bool.{Bool, true, false, cond, not, _&&_, _||_}
 use mathlib.Core.List.{List, [], _∷_, _++_, map}
-use mathlib.Core.Option.{Option, none, some}
 use lib.Dec.{leb, ltb, eqb}
 use lib.IntN.{ℤ, pos, negsuc}
 use lib.ListN.{length, getD, take, drop}
@@ -154,53 +153,46 @@ unfoldable pub firstBroken : List (ℕ × Bool) → ℕ
 firstBroken [] = 0
 firstBroken (rule ∷ rules) = cond (rule .1) (rule .0) (firstBroken rules)
 
--- What has been read of a book.
+-- What has been read of a book: what it holds so far, and whether there was a target. Until there is one, 0 stands in its place.
 pub record Draft : Type 0 where
-  pub names : List Bytes
-  pub pairs : List Pair
-  pub entries : List Entry
-  pub target : Option Basic
+  pub book : Book
+  pub seen : Bool
 
 abbrev pub nothingYet : Draft
-nothingYet = record { names = []; pairs = []; entries = []; target = none }
+nothingYet = record { book = record { names = []; pairs = []; entries = []; target = 0 }; seen = false }
 
-abbrev pub isSome : Option Basic → Bool
-isSome none = false
-isSome (some t) = true
-
--- A record's contents put behind what has been read.
-unfoldable pub add : ℕ → Bytes → Draft → Draft
-add kind body d =
+-- A record's contents put behind those of the records before it.
+unfoldable pub add : ℕ → Bytes → Book → Book
+add kind body B =
     let pair : Pair = record { lower = getD {A = ℕ} body 0 0; upper = getD {A = ℕ} body 1 0 } in
-    byKind {A = Draft} kind
-    (record { names = d .names ++ (body ∷ []); pairs = d .pairs; entries = d .entries; target = d .target })
-    (record { names = d .names; pairs = d .pairs ++ (pair ∷ []); entries = d .entries; target = d .target })
-    (record { names = d .names; pairs = d .pairs; entries = d .entries ++ (entryOf body ∷ []); target = d .target })
-    (record { names = d .names; pairs = d .pairs; entries = d .entries; target = some (getD {A = ℕ} body 0 0) })
+    byKind {A = Book} kind
+    (record { names = B .names ++ (body ∷ []); pairs = B .pairs; entries = B .entries; target = B .target })
+    (record { names = B .names; pairs = B .pairs ++ (pair ∷ []); entries = B .entries; target = B .target })
+    (record { names = B .names; pairs = B .pairs; entries = B .entries ++ (entryOf body ∷ []); target = B .target })
+    (record { names = B .names; pairs = B .pairs; entries = B .entries; target = getD {A = ℕ} body 0 0 })
 
 -- The record at an offset behind what has been read: its rules, its fault, and what has been read with it.
 abbrev pub nextRules : Bytes → ℕ → Draft → List (ℕ × Bool)
-nextRules bytes at d = recordRules bytes at (d .names) (length (d .entries)) (isSome (d .target))
+nextRules bytes at d = recordRules bytes at (d .book .names) (length (d .book .entries)) (d .seen)
 
 abbrev pub nextFault : Bytes → ℕ → Draft → ℕ
 nextFault bytes at d = firstBroken (nextRules bytes at d)
 
 abbrev pub nextDraft : Bytes → ℕ → Draft → Draft
-nextDraft bytes at d = add (kindAt bytes at) (bodyAt bytes at) d
+nextDraft bytes at d = record { book = add (kindAt bytes at) (bodyAt bytes at) (d .book); seen = eqb (kindAt bytes at) 4 || d .seen }
 
 -- The book's end: without a target it is refused.
-unfoldable pub ended : Bytes → Draft → Option Basic → Parsed
-ended bytes d none = refused noTarget (length bytes)
-ended bytes d (some t) = accepted (record { names = d .names; pairs = d .pairs; entries = d .entries; target = t })
+unfoldable pub ended : Bytes → Draft → Parsed
+ended bytes d = cond (d .seen) (accepted (d .book)) (refused noTarget (length bytes))
 
 -- The records from an offset on. The first number bounds how many there can be.
 unfoldable pub recordsFrom : ℕ → Bytes → ℕ → Draft → Parsed
-recordsFrom zero bytes at d = ended bytes d (d .target)
+recordsFrom zero bytes at d = ended bytes d
 recordsFrom (suc more) bytes at d =
     let fault = nextFault bytes at d in
     let rest = recordsFrom more bytes (nextAt bytes at) (nextDraft bytes at d) in
     let read = cond (eqb fault 0) rest (refused fault at) in
-    cond (ltb at (length bytes)) read (ended bytes d (d .target))
+    cond (ltb at (length bytes)) read (ended bytes d)
 
 -- A record takes at least four bytes, so a book has fewer records than bytes.
 unfoldable pub parse : Bytes → Parsed

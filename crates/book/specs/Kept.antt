@@ -3,12 +3,10 @@
 use Prim.Native.Nat.{ℕ, _≤_, _<_}
 use mathlib.Core.Path.{_≡_}
 use mathlib.Core.Logic.{_⊎_}
-use mathlib.Core.Bool.{true, cond}
+use mathlib.Core.Bool.{true}
 use mathlib.Core.List.{List, map}
-use mathlib.Core.Option.{Option, none, some}
 use lib.Dec.{ltb}
 use lib.ListN.{length, getD, take}
-use Rattle.pregroup.specs.Types.{Basic}
 use Rattle.pregroup.specs.Held.{InRows}
 use Rattle.order.specs.Closed.{Within, Listed}
 use Rattle.figures.specs.Limits.{maxTypes, maxEntries, maxBook}
@@ -38,10 +36,6 @@ pub record Formed (types : ℕ) (body : Bytes) : Type 0 where
 -- The first offsets are those of such entries.
 abbrev pub AllFormed : Bytes → List ℕ → ℕ → ℕ → Type 0
 AllFormed bytes offsets types count = (i : ℕ) → i < count → Formed types (bodyAt bytes (getD {A = ℕ} offsets i 0))
-
--- A target is kept as its number, and as 64 where there is none: no basic type has that number.
-abbrev pub targetKept : ℕ → Option Basic
-targetKept target = cond (ltb target maxTypes) (some target) none
 
 -- What the lent arrays hold: the offsets of the basic types' records and of the entries' records, and the order pairs as rows.
 pub record Store : Type 0 where
@@ -75,12 +69,13 @@ pub record Sound (bytes : Bytes) (s : Store) (p : Progress) : Type 0 where
   pub formed : AllFormed bytes (s .entries) (p .types) (p .entries)
   pub within : Within (p .types) (InRows (s .direct))
 
--- What is kept stands for the draft d.
+-- What is kept stands for the draft d. A target is kept as its number, and as 64 where there is none: no basic type has that number.
 pub record Keeps (bytes : Bytes) (s : Store) (p : Progress) (d : Draft) : Type 0 where
-  pub names : d .names ≡ bodiesAt bytes (s .names) (p .types)
-  pub pairs : Hold (s .direct) (Listed (d .pairs))
-  pub entries : d .entries ≡ map entryOf (bodiesAt bytes (s .entries) (p .entries))
-  pub target : d .target ≡ targetKept (p .target)
+  pub names : d .book .names ≡ bodiesAt bytes (s .names) (p .types)
+  pub pairs : Hold (s .direct) (Listed (d .book .pairs))
+  pub entries : d .book .entries ≡ map entryOf (bodiesAt bytes (s .entries) (p .entries))
+  pub seen : d .seen ≡ ltb (p .target) maxTypes
+  pub target : p .target < maxTypes → d .book .target ≡ p .target
 
 -- A record taken in: s and p become s′ and p′.
 pub record Taking (bytes : Bytes) (s : Store) (p : Progress) (s′ : Store) (p′ : Progress) : Type 0 where
