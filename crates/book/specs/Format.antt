@@ -191,11 +191,8 @@ recordsFrom zero bytes at d = ended bytes d
 recordsFrom (suc more) bytes at d =
     let fault = nextFault bytes at d in
     let rest = recordsFrom more bytes (nextAt bytes at) (nextDraft bytes at d) in
-    let read = cond (eqb fault 0) rest (refused fault at) in
-    cond (ltb at (length bytes)) read (ended bytes d)
+    cond (ltb at (length bytes)) (cond (eqb fault 0) rest (refused fault at)) (ended bytes d)
 
 -- A record takes at least four bytes, so a book has fewer records than bytes.
 unfoldable pub parse : Bytes → Parsed
-parse bytes =
-    let read = recordsFrom (length bytes) bytes 0 nothingYet in
-    cond (ltb maxBook (length bytes)) (refused bookTooLong 0) read
+parse bytes = cond (ltb maxBook (length bytes)) (refused bookTooLong 0) (recordsFrom (length bytes) bytes 0 nothingYet)
