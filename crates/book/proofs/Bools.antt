@@ -5,7 +5,7 @@ use native.Mathlib.Decide.{decLe, decLt}
 use mathlib.Core.Path.{_≡_, refl}
 use mathlib.Core.Bool.{Bool, true, false, _&&_, false≢true}
 use borrow.Author.Tests.{le-leb, lt-leb, lt-ltb, le-ltb}
-use Rattle.book.specs.Format.{between, letter, nameByte, wordByte, exponentOf, exponentListed}
+use Rattle.book.specs.Format.{between, nameByte, exponentOf, exponentListed}
 
 pub and-true : (b : Bool) → b && true ≡ b
 and-true true = refl
@@ -25,22 +25,6 @@ outside low high byte never = go (decLe low byte)
     go (yes l) = rw (le-leb low byte l, lt-leb byte high (omega (arith, never l)))
     go (no n) = rw (lt-leb low byte (omega (arith, n)))
 
-pub letter-yes : (byte : ℕ) → (97 ≤ byte) × (byte ≤ 122) → true ≡ letter byte
-unfolding letter
-letter-yes byte h = rw (inside 97 122 byte h)
-
-pub letter-no : (byte : ℕ) → (97 ≤ byte → byte ≤ 122 → ⊥) → false ≡ letter byte
-unfolding letter
-letter-no byte h = rw (outside 97 122 byte h)
-
-pub word-byte-yes : (byte : ℕ) → (33 ≤ byte) × (byte ≤ 126) → true ≡ wordByte byte
-unfolding wordByte
-word-byte-yes byte h = rw (inside 33 126 byte h)
-
-pub word-byte-no : (byte : ℕ) → (33 ≤ byte → byte ≤ 126 → ⊥) → false ≡ wordByte byte
-unfolding wordByte
-word-byte-no byte h = rw (outside 33 126 byte h)
-
 pub name-letter : (byte : ℕ) → (97 ≤ byte) × (byte ≤ 122) → true ≡ nameByte byte
 unfolding nameByte
 name-letter byte h = rw (inside 97 122 byte h)
@@ -59,7 +43,7 @@ exponent-up byte h = rw (lt-ltb byte 128 (omega arith), le-leb byte 8 h)
 
 pub exponent-down : (byte : ℕ) → 248 ≤ byte → true ≡ exponentListed (exponentOf byte)
 unfolding exponentListed exponentOf
-exponent-down byte h = rw (le-ltb byte 128 (omega arith), le-leb (255 - byte) 7 (omega arith))
+exponent-down byte h = rw (le-ltb byte 128 (omega arith), lt-ltb (255 - byte) 8 (omega arith))
 
 pub exponent-no : (byte : ℕ) → 8 < byte → byte < 248 → false ≡ exponentListed (exponentOf byte)
 unfolding exponentListed exponentOf
@@ -67,4 +51,4 @@ exponent-no byte h k = go (decLt byte 128)
   where
     go : Dec (byte < 128) → false ≡ exponentListed (exponentOf byte)
     go (yes l) = rw (lt-ltb byte 128 l, lt-leb byte 8 h)
-    go (no n) = rw (le-ltb byte 128 (omega (arith, n)), lt-leb (255 - byte) 7 (omega arith))
+    go (no n) = rw (le-ltb byte 128 (omega (arith, n)), le-ltb (255 - byte) 8 (omega arith))

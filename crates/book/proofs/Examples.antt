@@ -8,10 +8,11 @@ use lib.IntN.{pos, negsuc}
 use Rattle.bits.specs.Totals.{total}
 use Rattle.pregroup.specs.Types.{PregroupType, _⁽_⁾, plain}
 use Rattle.order.specs.Closed.{below, closedCount}
-use Rattle.book.specs.Format.{Bytes, Entry, accepted, every, twoBytes, kindOf, letter, nameByte, isName, wordByte, exponentOf, simplesOf, isEntry, cutShort, notListed, badLayout, numbersIn, undeclared, exponentsIn, exponentListed, exponentOutside, sameBytes, nameUsed, secondTarget, tooMany, firstFault, bodyFault, recordFault, add, ended, recordsFrom, parse}
-use Rattle.book.specs.Check.{bookCheck}
+use Rattle.book.specs.Format.{Bytes, Entry, accepted, every, twoBytes, nameByte, isName, exponentOf, simplesOf, isEntry, exponentListed, sameBytes, bodyRules, recordRules, firstBroken, add, ended, recordsFrom, parse}
+use Rattle.book.specs.Check.{bookCheck, Counted, Cause}
 use Rattle.book.specs.declared.BookCheck.{BookCheck}
 use Rattle.book.specs.declared.BookCheck.the-variants.{Accepted, Refused}
+use Rattle.book.proofs.Promises.{check-promised}
 use Rattle.book.proofs.PaperBooks.{recordOf, typeRecord, pairRecord, entryRecord, targetRecord, fetch, bed4, ward7, urgently, admit, site, go, please, firstBook, secondBook}
 
 abbrev entry : Bytes → PregroupType → Entry
@@ -34,7 +35,7 @@ contents : parse firstBook ≡ accepted (record {
       ∷ [];
   target = 0;
 })
-unfolding every twoBytes kindOf letter nameByte isName wordByte exponentOf simplesOf isEntry cutShort notListed badLayout numbersIn undeclared exponentsIn exponentListed exponentOutside sameBytes nameUsed secondTarget tooMany firstFault bodyFault recordFault add ended recordsFrom parse
+unfolding every twoBytes nameByte isName exponentOf simplesOf isEntry exponentListed sameBytes bodyRules recordRules firstBroken add ended recordsFrom parse
 contents = refl
 
 -- A book, and what its check answers.
@@ -90,5 +91,20 @@ rows =
     ∷ []
 
 evaluated : map (λ (r : Row). bookCheck (r .0)) rows ≡ map (λ (r : Row). r .1) rows
-unfolding every twoBytes kindOf letter nameByte isName wordByte exponentOf simplesOf isEntry cutShort notListed badLayout numbersIn undeclared exponentsIn exponentListed exponentOutside sameBytes nameUsed secondTarget tooMany firstFault bodyFault recordFault add ended recordsFrom parse below closedCount total typesOf
+unfolding every twoBytes nameByte isName exponentOf simplesOf isEntry exponentListed sameBytes bodyRules recordRules firstBroken add ended recordsFrom parse below closedCount total typesOf
 evaluated = refl
+
+-- What the promises say of them. The first book is accepted with its three values: four types, nine entries, and the five pairs of its closed
+-- order, counted in the closure itself.
+first-counted : Counted firstBook (4 ∷ 9 ∷ 5 ∷ [])
+unfolding every twoBytes nameByte isName exponentOf simplesOf isEntry exponentListed sameBytes bodyRules recordRules firstBroken add ended recordsFrom parse below closedCount total
+first-counted = check-promised firstBook .counts refl
+
+second-counted : Counted secondBook (5 ∷ 10 ∷ 6 ∷ [])
+unfolding every twoBytes nameByte isName exponentOf simplesOf isEntry exponentListed sameBytes bodyRules recordRules firstBroken add ended recordsFrom parse below closedCount total
+second-counted = check-promised secondBook .counts refl
+
+-- 5 and not 6 is the cause for an entry with a bad exponent and, behind it, an undeclared type.
+undeclared-first : Cause (ab ++ entryRecord go (0 ∷ 9 ∷ 2 ∷ 0 ∷ [])) 5 10
+unfolding every twoBytes nameByte isName exponentOf simplesOf isEntry exponentListed sameBytes bodyRules recordRules firstBroken add ended recordsFrom parse
+undeclared-first = check-promised (ab ++ entryRecord go (0 ∷ 9 ∷ 2 ∷ 0 ∷ [])) .refuses 5 10 .0 refl

@@ -7,9 +7,10 @@ use mathlib.Core.List.{List, [], _∷_}
 use lib.Dec.{leb, eqb}
 use borrow.Author.Tests.{lt-ltb, le-ltb}
 use lib.ListN.{length, getD}
-use Rattle.order.specs.Rows.{maxTypes}
+use Rattle.figures.specs.Limits.{maxTypes, maxEntries}
+use Rattle.figures.specs.Refusals.{kindNotListed, badLayout, undeclaredType, exponentOutside, nameUsed, secondTarget, tooManyRecords}
 use Rattle.book.proofs.Bools.{and-true}
-use Rattle.book.specs.Format.{Bytes, basic-type, order-pair, entry, target, unlisted, every, notListed, isName, isEntry, badLayout, numbersIn, declaredAmong, undeclared, exponentsIn, exponentListed, exponentOutside, nameUsed, secondTarget, tooMany, maxEntries, firstFault, bodyFault, bases, exponents, simplesOf, typePart}
+use Rattle.book.specs.Format.{Bytes, every, between, isName, isEntry, isAmong, declaredAmong, exponentListed, bodyRules, firstBroken, bases, exponents, simplesOf, typePart}
 
 -- Every one of one, and of two.
 pub every-one : (test : ℕ → Bool) (body : Bytes) → length body ≡ 1 → every test body ≡ test (getD {A = ℕ} body 0 0)
@@ -44,54 +45,54 @@ module _ (n : ℕ) (body : Bytes) where
 
 module _ (body : Bytes) (names : List Bytes) (entries : ℕ) (seen : Bool) where
   pub name-rules :
-      bodyFault basic-type body names entries seen
-      ≡ cond (not (isName body)) 4 (cond (nameUsed basic-type body names) 7 (cond (leb maxTypes (length names)) 9 0))
-  unfolding bodyFault firstFault notListed badLayout undeclared numbersIn every exponentOutside exponentsIn secondTarget tooMany
+      firstBroken (bodyRules 1 body names entries seen)
+      ≡ cond (not (isName body)) badLayout (cond (isAmong names body) nameUsed (cond (leb maxTypes (length names)) tooManyRecords 0))
+  unfolding bodyRules firstBroken every
   name-rules = refl
 
   pub pair-rules :
-      bodyFault order-pair body names entries seen
-      ≡ cond (not (eqb (length body) 2)) 4 (cond (not (every (declaredAmong (length names)) body)) 5 0)
-  unfolding bodyFault firstFault notListed badLayout undeclared numbersIn every exponentOutside exponentsIn nameUsed secondTarget tooMany
+      firstBroken (bodyRules 2 body names entries seen)
+      ≡ cond (not (eqb (length body) 2)) badLayout (cond (not (every (declaredAmong (length names)) body)) undeclaredType 0)
+  unfolding bodyRules firstBroken every
   pair-rules = refl
 
   pub entry-rules :
-      bodyFault entry body names entries seen
-      ≡ cond (not (isEntry body)) 4
-      (cond (not (every (declaredAmong (length names)) (bases (simplesOf (typePart body))))) 5
-      (cond (not (every exponentListed (exponents (simplesOf (typePart body))))) 6 (cond (leb maxEntries entries) 9 0)))
-  unfolding bodyFault firstFault notListed badLayout undeclared numbersIn exponentOutside exponentsIn nameUsed secondTarget tooMany
+      firstBroken (bodyRules 3 body names entries seen)
+      ≡ cond (not (isEntry body)) badLayout
+      (cond (not (every (declaredAmong (length names)) (bases (simplesOf (typePart body))))) undeclaredType
+      (cond (not (every exponentListed (exponents (simplesOf (typePart body))))) exponentOutside (cond (leb maxEntries entries) tooManyRecords 0)))
+  unfolding bodyRules firstBroken every
   entry-rules = refl
 
   pub target-rules :
-      bodyFault target body names entries seen
-      ≡ cond (not (eqb (length body) 1)) 4 (cond (not (every (declaredAmong (length names)) body)) 5 (cond seen 8 0))
-  unfolding bodyFault firstFault notListed badLayout undeclared numbersIn every exponentOutside exponentsIn nameUsed secondTarget tooMany
+      firstBroken (bodyRules 4 body names entries seen)
+      ≡ cond (not (eqb (length body) 1)) badLayout (cond (not (every (declaredAmong (length names)) body)) undeclaredType (cond seen secondTarget 0))
+  unfolding bodyRules firstBroken every
   target-rules = refl
 
   -- The same by the answers of the tests.
   pub name-faults :
-      {layout used full : Bool} → isName body ≡ layout → nameUsed basic-type body names ≡ used → leb maxTypes (length names) ≡ full
-      → bodyFault basic-type body names entries seen ≡ cond (not layout) 4 (cond used 7 (cond full 9 0))
+      {layout used full : Bool} → isName body ≡ layout → isAmong names body ≡ used → leb maxTypes (length names) ≡ full
+      → firstBroken (bodyRules 1 body names entries seen) ≡ cond (not layout) badLayout (cond used nameUsed (cond full tooManyRecords 0))
   name-faults l u f = rw (name-rules, l, u, f)
 
   pub pair-faults :
       {layout declared : Bool} → eqb (length body) 2 ≡ layout → every (declaredAmong (length names)) body ≡ declared
-      → bodyFault order-pair body names entries seen ≡ cond (not layout) 4 (cond (not declared) 5 0)
+      → firstBroken (bodyRules 2 body names entries seen) ≡ cond (not layout) badLayout (cond (not declared) undeclaredType 0)
   pair-faults l d = rw (pair-rules, l, d)
 
   pub entry-faults :
       {layout declared listed full : Bool} → isEntry body ≡ layout
       → every (declaredAmong (length names)) (bases (simplesOf (typePart body))) ≡ declared
       → every exponentListed (exponents (simplesOf (typePart body))) ≡ listed → leb maxEntries entries ≡ full
-      → bodyFault entry body names entries seen ≡ cond (not layout) 4 (cond (not declared) 5 (cond (not listed) 6 (cond full 9 0)))
+      → firstBroken (bodyRules 3 body names entries seen) ≡ cond (not layout) badLayout (cond (not declared) undeclaredType (cond (not listed) exponentOutside (cond full tooManyRecords 0)))
   entry-faults l d e f = rw (entry-rules, l, d, e, f)
 
   pub target-faults :
       {layout declared : Bool} → eqb (length body) 1 ≡ layout → every (declaredAmong (length names)) body ≡ declared
-      → bodyFault target body names entries seen ≡ cond (not layout) 4 (cond (not declared) 5 (cond seen 8 0))
+      → firstBroken (bodyRules 4 body names entries seen) ≡ cond (not layout) badLayout (cond (not declared) undeclaredType (cond seen secondTarget 0))
   target-faults l d = rw (target-rules, l, d)
 
-  pub unlisted-faults : bodyFault unlisted body names entries seen ≡ 3
-  unfolding bodyFault firstFault notListed
-  unlisted-faults = refl
+  pub unlisted-faults : (kind : ℕ) → between 1 4 kind ≡ false → firstBroken (bodyRules kind body names entries seen) ≡ kindNotListed
+  unfolding bodyRules firstBroken
+  unlisted-faults kind h = rw h

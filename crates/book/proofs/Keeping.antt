@@ -5,9 +5,8 @@ use native.Mathlib.Omega.{arith}
 use native.Mathlib.Decide.{ℕ-discrete}
 use mathlib.Core.Path.{_≡_, refl, sym, ap, ap₂, _∙_}
 use mathlib.Core.Logic.{_↔_, _⊎_, inl, inr, ⊎-elim}
-use mathlib.Core.Bool.{Bool, true, false, cond}
+use mathlib.Core.Bool.{Bool, true}
 use mathlib.Core.List.{List, [], _∷_, _++_, map, map-append, List·Memᴰ, List·Memᴰ·append-cases, Memᴰ·append-left, Memᴰ·append-right, List·Memᴰ·eq-of-singleton, List·Memᴰ·head}
-use mathlib.Core.Option.{some, none}
 use lib.Dec.{ltb}
 use lib.ListN.{length, getD, take, set, length-map, length-set}
 use lib.Seq.{take-suc-set, getD-set-same, getD-set-other}
@@ -15,14 +14,14 @@ use borrow.Author.Tests.{lt-ltb, ltb-true}
 use Rattle.bits.specs.Bits.{Has, Members}
 use Rattle.pregroup.specs.Held.{InRows}
 use Rattle.order.specs.Closed.{Pair, Within, Listed}
-use Rattle.order.specs.Rows.{maxTypes, Hold}
-use Rattle.book.specs.Format.{Bytes, Entry, Draft, Kind, basic-type, order-pair, entry, target, twoBytes, bodyAt, nextAt, kindAt, bodyFault, recordFault, isSome, entryOf, add, maxEntries, every, declaredAmong}
-use Rattle.book.specs.Kept.{bodiesAt, Whole, Formed, AllFormed, Store, store, Sound, Keeps, nextFault, Taking}
+use Rattle.figures.specs.Limits.{maxTypes, maxEntries}
+use Rattle.order.specs.Rows.{Hold}
+use Rattle.book.specs.Format.{Bytes, Entry, Draft, twoBytes, bodyAt, nextAt, kindAt, bodyRules, recordRules, firstBroken, nextFault, entryOf, add, every, declaredAmong}
+use Rattle.book.specs.Kept.{bodiesAt, Whole, Formed, AllFormed, Store, store, Sound, Keeps, Taking}
 use Rattle.book.specs.declared.Progress.{Progress}
 use Rattle.book.proofs.Bools.{both}
 use Rattle.book.proofs.Names.{bodies-length}
-use Rattle.book.proofs.WholeRecords.{kind-4, kind-other}
-use Rattle.book.proofs.NoFault.{no-fault-whole, no-fault-body, name-no-fault, pair-no-fault, entry-no-fault, target-no-fault, unlisted-fault}
+use Rattle.book.proofs.NoFault.{no-fault-whole, no-fault-body, name-no-fault, pair-no-fault, entry-no-fault, target-no-fault, Kind, basic-type, order-pair, entry, target, no-fault-kind}
 
 -- One offset more.
 whole-more : (bytes : Bytes) (offsets : List ℕ) (n at : ℕ) → n < length offsets → nextAt bytes at ≤ length bytes → Whole bytes offsets n → Whole bytes (set offsets n at) (n + 1)
@@ -108,69 +107,65 @@ within-more rows types a b w room small smaller members within p q = go (ℕ-dis
         (omega arith, ⊎-elim (λ l. within a q l .1) (λ l. omega arith) (members q .0 k))
     go (no d) h = within p q (rw (getD-set-other rows a p w 0 d) at h)
 
--- Whether there is a target, by what is kept.
-some-kept : (t : ℕ) (b : Bool) → isSome (cond b (some t) none) ≡ b
-some-kept t true = refl
-some-kept t false = refl
-
 module _ (bytes : Bytes) (s : Store) (p : Progress) (sound : Sound bytes s p) where
   names-count : length (bodiesAt bytes (s .names) (p .types)) ≡ p .types
   names-count = bodies-length bytes (s .names) (p .types) (sound .names-whole .room)
 
-  entries-count : (d : Draft) → Keeps bytes s p d → length (d .entries) ≡ p .entries
+  entries-count : (d : Draft) → Keeps bytes s p d → length (d .book .entries) ≡ p .entries
   entries-count d k =
       ap length (k .entries) ∙ length-map (bodiesAt bytes (s .entries) (p .entries)) entryOf ∙ bodies-length bytes (s .entries) (p .entries) (sound .entries-whole .room)
 
   -- The fault of the next record, by what is kept.
   abbrev pub Found : ℕ → Type 0
-  Found fault = fault ≡ recordFault bytes (p .at) (bodiesAt bytes (s .names) (p .types)) (p .entries) (ltb (p .target) maxTypes)
+  Found fault = fault ≡ firstBroken (recordRules bytes (p .at) (bodiesAt bytes (s .names) (p .types)) (p .entries) (ltb (p .target) maxTypes))
 
-  pub fault-kept : (fault : ℕ) → Found fault → (d : Draft) → Keeps bytes s p d → nextFault bytes p d ≡ fault
+  pub fault-kept : (fault : ℕ) → Found fault → (d : Draft) → Keeps bytes s p d → nextFault bytes (p .at) d ≡ fault
   fault-kept fault found d k =
-      ap (λ (names : List Bytes). recordFault bytes (p .at) names (length (d .entries)) (isSome (d .target))) (k .names)
-      ∙ ap₂ (λ (n : ℕ) (seen : Bool). recordFault bytes (p .at) (bodiesAt bytes (s .names) (p .types)) n seen) (entries-count d k)
-      (ap isSome (k .target) ∙ some-kept (p .target) (ltb (p .target) maxTypes))
+      ap (λ (names : List Bytes). firstBroken (recordRules bytes (p .at) names (length (d .book .entries)) (d .seen))) (k .names)
+      ∙ ap₂ (λ (n : ℕ) (seen : Bool). firstBroken (recordRules bytes (p .at) (bodiesAt bytes (s .names) (p .types)) n seen)) (entries-count d k)
+      (k .seen)
       ∙ sym found
 
   module _ (found : Found 0) where
     pub whole : nextAt bytes (p .at) ≤ length bytes
     whole = no-fault-whole bytes (p .at) _ _ _ (sym found)
 
-    body-fault : {kind : Kind} → kindAt bytes (p .at) ≡ kind → bodyFault kind (bodyAt bytes (p .at)) (bodiesAt bytes (s .names) (p .types)) (p .entries) (ltb (p .target) maxTypes) ≡ 0
+    body-fault : {kind : ℕ} → kindAt bytes (p .at) ≡ kind → firstBroken (bodyRules kind (bodyAt bytes (p .at)) (bodiesAt bytes (s .names) (p .types)) (p .entries) (ltb (p .target) maxTypes)) ≡ 0
     body-fault k = no-fault-body bytes (p .at) _ _ _ (sym found) k
 
     -- The places that the code reads and writes are there.
-    pub name-place : kindAt bytes (p .at) ≡ basic-type → p .types < maxTypes
+    pub name-place : kindAt bytes (p .at) ≡ 1 → p .types < maxTypes
     name-place kind = let few = name-no-fault _ _ _ _ (body-fault kind) in omega (arith, names-count)
 
-    pub entry-place : kindAt bytes (p .at) ≡ entry → p .entries < maxEntries
+    pub entry-place : kindAt bytes (p .at) ≡ 3 → p .entries < maxEntries
     entry-place kind = entry-no-fault _ _ _ _ (body-fault kind) .3
 
-    entry-formed : kindAt bytes (p .at) ≡ entry → Formed (p .types) (bodyAt bytes (p .at))
+    entry-formed : kindAt bytes (p .at) ≡ 3 → Formed (p .types) (bodyAt bytes (p .at))
     entry-formed kind =
         let fine = entry-no-fault _ _ _ _ (body-fault kind) in
         record { layout = fine .0; declared = rw names-count at (fine .1); listed = fine .2 }
 
-    pub pair-place : kindAt bytes (p .at) ≡ order-pair
+    pub pair-place : kindAt bytes (p .at) ≡ 2
         → (length (bodyAt bytes (p .at)) ≡ 2) × (getD {A = ℕ} (bodyAt bytes (p .at)) 0 0 < p .types) × (getD {A = ℕ} (bodyAt bytes (p .at)) 1 0 < p .types)
     pair-place kind =
         let fine = pair-no-fault _ _ _ _ (body-fault kind) in
         (fine .0, omega (arith, names-count), omega (arith, names-count))
 
-    pub target-place : kindAt bytes (p .at) ≡ target → (length (bodyAt bytes (p .at)) ≡ 1) × (getD {A = ℕ} (bodyAt bytes (p .at)) 0 0 < p .types)
+    pub target-place : kindAt bytes (p .at) ≡ 4 → (length (bodyAt bytes (p .at)) ≡ 1) × (getD {A = ℕ} (bodyAt bytes (p .at)) 0 0 < p .types)
     target-place kind = let fine = target-no-fault _ _ _ _ (body-fault kind) in (fine .0, omega (arith, names-count))
 
     -- A record that breaks no rule and is of none of the first three kinds is a target.
-    pub kind-left : (n : ℕ) → n ≡ twoBytes bytes (p .at + 2) → (n ≡ 1 → ⊥) → (n ≡ 2 → ⊥) → (n ≡ 3 → ⊥) → kindAt bytes (p .at) ≡ target
-    kind-left n e a b c = go (ℕ-discrete n 4)
+    pub kind-left : (n : ℕ) → n ≡ twoBytes bytes (p .at + 2) → (n ≡ 1 → ⊥) → (n ≡ 2 → ⊥) → (n ≡ 3 → ⊥) → kindAt bytes (p .at) ≡ 4
+    kind-left n e a b c = go (no-fault-kind _ _ _ _ _ (body-fault refl)) (λ k. a (e ∙ k)) (λ k. b (e ∙ k)) (λ k. c (e ∙ k))
       where
-        go : Dec (n ≡ 4) → kindAt bytes (p .at) ≡ target
-        go (yes d) = kind-4 _ (sym e ∙ d)
-        go (no d) =
-            absurd (unlisted-fault _ _ _ _ (body-fault (kind-other _ (λ k. a (e ∙ k)) (λ k. b (e ∙ k)) (λ k. c (e ∙ k)) (λ k. d (e ∙ k)))))
+        go : {kind : ℕ} → Kind kind → (kind ≡ 1 → ⊥) → (kind ≡ 2 → ⊥) → (kind ≡ 3 → ⊥) → kind ≡ 4
+        go basic-type f g h = absurd (f refl)
+        go order-pair f g h = absurd (g refl)
+        go entry f g h = absurd (h refl)
+        go target f g h = refl
 
   module _ (found : Found 0) (next : ℕ) (on : next ≡ nextAt bytes (p .at)) where
-    pub name-taken : kindAt bytes (p .at) ≡ basic-type
+    pub name-taken : kindAt bytes (p .at) ≡ 1
         → Taking bytes s p (store (set (s .names) (p .types) (p .at)) (s .entries) (s .direct)) (record { at = next; types = p .types + 1; entries = p .entries; target = p .target })
     unfolding add
     name-taken kind =
@@ -201,12 +196,13 @@ module _ (bytes : Bytes) (s : Store) (p : Progress) (sound : Sound bytes s p) wh
                   names = ap (λ (l : List Bytes). l ++ (bodyAt bytes (p .at) ∷ [])) (k .names) ∙ sym (bodies-more bytes (s .names) (p .types) (p .at) room);
                   pairs = k .pairs;
                   entries = k .entries;
+                  seen = k .seen;
                   target = k .target;
                 }),
           );
         }
 
-    pub entry-taken : kindAt bytes (p .at) ≡ entry
+    pub entry-taken : kindAt bytes (p .at) ≡ 3
         → Taking bytes s p (store (s .names) (set (s .entries) (p .entries) (p .at)) (s .direct)) (record { at = next; types = p .types; entries = p .entries + 1; target = p .target })
     unfolding add
     entry-taken kind =
@@ -240,12 +236,13 @@ module _ (bytes : Bytes) (s : Store) (p : Progress) (sound : Sound bytes s p) wh
                       ap (λ (l : List Entry). l ++ (entryOf (bodyAt bytes (p .at)) ∷ [])) (k .entries)
                       ∙ sym (map-append entryOf (bodiesAt bytes (s .entries) (p .entries)) (bodyAt bytes (p .at) ∷ []))
                       ∙ ap (map entryOf) (sym (bodies-more bytes (s .entries) (p .entries) (p .at) room));
+                  seen = k .seen;
                   target = k .target;
                 }),
           );
         }
 
-    pub pair-taken : kindAt bytes (p .at) ≡ order-pair → (lower upper row : ℕ) → lower ≡ getD {A = ℕ} (bodyAt bytes (p .at)) 0 0 → upper ≡ getD {A = ℕ} (bodyAt bytes (p .at)) 1 0
+    pub pair-taken : kindAt bytes (p .at) ≡ 2 → (lower upper row : ℕ) → lower ≡ getD {A = ℕ} (bodyAt bytes (p .at)) 0 0 → upper ≡ getD {A = ℕ} (bodyAt bytes (p .at)) 1 0
         → Members row (λ k. Has (getD {A = ℕ} (s .direct) lower 0) k ⊎ (k ≡ upper))
         → Taking bytes s p (store (s .names) (s .entries) (set (s .direct) lower row)) (record { at = next; types = p .types; entries = p .entries; target = p .target })
     unfolding add
@@ -273,11 +270,11 @@ module _ (bytes : Bytes) (s : Store) (p : Progress) (sound : Sound bytes s p) wh
           right = λ d k. (
             fault-kept 0 found d k,
             rw (kind, ← lo, ← up)
-                (record { names = k .names; pairs = hold-more (s .direct) (d .pairs) lower upper row room members (k .pairs); entries = k .entries; target = k .target }),
+                (record { names = k .names; pairs = hold-more (s .direct) (d .book .pairs) lower upper row room members (k .pairs); entries = k .entries; seen = k .seen; target = k .target }),
           );
         }
 
-    pub target-taken : kindAt bytes (p .at) ≡ target → (t : ℕ) → t ≡ getD {A = ℕ} (bodyAt bytes (p .at)) 0 0
+    pub target-taken : kindAt bytes (p .at) ≡ 4 → (t : ℕ) → t ≡ getD {A = ℕ} (bodyAt bytes (p .at)) 0 0
         → Taking bytes s p s (record { at = next; types = p .types; entries = p .entries; target = t })
     unfolding add
     target-taken kind t e =
@@ -298,6 +295,6 @@ module _ (bytes : Bytes) (s : Store) (p : Progress) (sound : Sound bytes s p) wh
           on = on;
           right = λ d k. (
             fault-kept 0 found d k,
-            rw kind (record { names = k .names; pairs = k .pairs; entries = k .entries; target = ap some (sym e) ∙ sym (ap (λ (b : Bool). cond b (some t) none) (lt-ltb t maxTypes few)) }),
+            rw kind (record { names = k .names; pairs = k .pairs; entries = k .entries; seen = sym (lt-ltb t maxTypes few); target = λ h. sym e }),
           );
         }

@@ -8,9 +8,12 @@ pub mod Names
 pub mod Comparing
 pub mod WholeRecords
 pub mod NoFault
+pub mod SmallestNumber
+pub mod Parsing
 pub mod Keeping
 pub mod Scanning
 pub mod Checking
 pub mod Accepted
+pub mod Promises
 pub mod PaperBooks
 pub mod Examples

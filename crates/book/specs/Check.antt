@@ -1,8 +1,15 @@
--- What the book check answers: document 01's three numbers for an accepted book, or the number of the refusal and the value returned
--- with it.
+-- What the book check answers: document 01's three numbers for an accepted book, or the number of the refusal and the value returned with it.
+-- `bookCheck` computes the answer; `Checked` is what the paper promises of it, in the paper's own terms.
+use Prim.Native.Nat.{ℕ, _≤_, _<_}
+use mathlib.Core.Path.{_≡_}
+use mathlib.Core.Logic.{_↔_}
+use mathlib.Core.Bool.{true, false}
+use mathlib.Core.List.{List, [], _∷_, List·Memᴰ}
 use lib.ListN.{length}
-use Rattle.order.specs.Closed.{closedCount}
-use Rattle.book.specs.Format.{Bytes, Parsed, accepted, refused, parse}
+use Rattle.figures.specs.Limits.{maxBook}
+use Rattle.figures.specs.Refusals.{Reply, bookTooLong, noTarget}
+use Rattle.order.specs.Closed.{Closed, Listed, HasPairs, closedCount}
+use Rattle.book.specs.Format.{Bytes, Book, Draft, Parsed, accepted, refused, parse, nothingYet, nextAt, nextRules, nextDraft}
 use Rattle.book.specs.declared.BookCheck.{BookCheck}
 use Rattle.book.specs.declared.BookCheck.the-variants.{Accepted, Refused}
 
@@ -13,3 +20,39 @@ answerFor (refused number value) = Refused number value
 
 abbrev pub bookCheck : Bytes → BookCheck
 bookCheck bytes = answerFor (parse bytes)
+
+-- An answer of the book check as the paper gives it.
+abbrev pub replyOf : BookCheck → Reply
+replyOf (Accepted types entries pairs) = record { number = 0; values = types ∷ entries ∷ pairs ∷ [] }
+replyOf (Refused number value) = record { number = number; values = value ∷ [] }
+
+-- The record at an offset, behind records that hold d, breaks the rule with this number.
+abbrev pub Breaks : Bytes → ℕ → Draft → ℕ → Type 0
+Breaks bytes at d number = List·Memᴰ (number, true) (nextRules bytes at d)
+
+-- All records before an offset are good, and d is what they hold.
+pub data GoodUpTo (bytes : Bytes) : ℕ → Draft → Type 0 where
+  start : GoodUpTo bytes 0 nothingYet
+  next : {at : ℕ} {d : Draft} → GoodUpTo bytes at d → at < length bytes → ((n : ℕ) → Breaks bytes at d n → ⊥) → GoodUpTo bytes (nextAt bytes at) (nextDraft bytes at d)
+
+-- What is cause for a refusal, with its number and its value: the book's length (1); or else a record (2 to 9), of which the earliest bad one
+-- decides, and within it the smallest number; or else a missing target (10).
+pub data Cause (bytes : Bytes) : ℕ → ℕ → Type 0 where
+  too-long : maxBook < length bytes → Cause bytes bookTooLong 0
+  bad-record : {at n : ℕ} {d : Draft} → length bytes ≤ maxBook → GoodUpTo bytes at d → at < length bytes → Breaks bytes at d n → ((m : ℕ) → Breaks bytes at d m → n ≤ m) → Cause bytes n at
+  no-target : {B : Book} → length bytes ≤ maxBook → GoodUpTo bytes (length bytes) (record { book = B; seen = false }) → Cause bytes noTarget (length bytes)
+
+-- The values of an accepted book: how many basic types its records hold, how many entries, and how many pairs p ≤ q their closed order has.
+pub record Counted (bytes : Bytes) (values : List ℕ) : Type 0 where
+  pub contents : Book
+  pub good : GoodUpTo bytes (length bytes) (record { book = contents; seen = true })
+  pub pairs : ℕ
+  pub closed : HasPairs (Closed (length (contents .names)) (Listed (contents .pairs))) pairs
+  pub counts : values ≡ length (contents .names) ∷ length (contents .entries) ∷ pairs ∷ []
+
+-- The promises. The answer is 0 exactly when nothing is cause for a refusal, and then has the three values; it is a refusal with a number and a
+-- value exactly when there is that cause.
+pub record Checked (bytes : Bytes) (reply : Reply) : Type 0 where
+  pub accepts : (reply .number ≡ 0) ↔ ((n v : ℕ) → Cause bytes n v → ⊥)
+  pub counts : reply .number ≡ 0 → Counted bytes (reply .values)
+  pub refuses : (n v : ℕ) → (reply ≡ record { number = n; values = v ∷ [] }) ↔ Cause bytes n v

@@ -1,35 +1,19 @@
--- Document 01, "The book's bytes" and, of "When the screen says no", causes 1 to 10: what any list of bytes is as a book. Each rule for a
--- record is a test of its own; within a record the smallest number counts, and the earliest bad record decides. This file alone knows
--- the byte layout.
+-- Document 01, "The book's bytes" and, of "When the screen says no", causes 1 to 10: what any list of bytes is as a book. The rules for a
+-- record stand with their numbers in `bodyRules` and `recordRules`; within a record the smallest number counts, and the earliest bad record
+-- decides. This file alone knows the byte layout.
 use Prim.Native.Nat.{ℕ, zero, suc, _+_, _-_, _*_, _%_}
 use mathlib.Core.Bool.{Bool, true, false, cond, not, _&&_, _||_}
 use mathlib.Core.List.{List, [], _∷_, _++_, map}
-use mathlib.Core.Option.{Option, none, some}
 use lib.Dec.{leb, ltb, eqb}
 use lib.IntN.{ℤ, pos, negsuc}
 use lib.ListN.{length, getD, take, drop}
+use Rattle.figures.specs.Limits.{maxBook, maxTypes, maxEntries, maxName, maxWord, maxEntrySimples, maxExponent}
+use Rattle.figures.specs.Refusals.{bookTooLong, cutShort, kindNotListed, badLayout, undeclaredType, exponentOutside, nameUsed, secondTarget, tooManyRecords, noTarget}
 use Rattle.pregroup.specs.Types.{Basic, Simple, PregroupType, _⁽_⁾}
 use Rattle.order.specs.Closed.{Pair}
-use Rattle.order.specs.Rows.{maxTypes}
 
 abbrev pub Bytes : Type 0
 Bytes = List ℕ
-
--- The figures of the paper.
-abbrev pub maxBytes : ℕ
-maxBytes = 65535
-
-abbrev pub maxEntries : ℕ
-maxEntries = 1024
-
-abbrev pub maxName : ℕ
-maxName = 15
-
-abbrev pub maxWord : ℕ
-maxWord = 31
-
-abbrev pub maxSimples : ℕ
-maxSimples = 12
 
 -- An entry (the lexical entry of a pregroup lexicon): a word with one of its types.
 pub record Entry : Type 0 where
@@ -49,54 +33,44 @@ pub data Parsed : Type 0 where
   accepted : Book → Parsed
   refused : ℕ → ℕ → Parsed
 
--- All of these hold.
-abbrev pub allOf : List Bool → Bool
-allOf [] = true
-allOf (holds ∷ more) = holds && allOf more
-
 -- Every one of a list passes the test.
 unfoldable pub every {ℓ} : {A : Type ℓ} → (A → Bool) → List A → Bool
 every test [] = true
 every test (x ∷ xs) = test x && every test xs
+
+abbrev pub between : ℕ → ℕ → ℕ → Bool
+between low high n = leb low n && leb n high
 
 -- Records: a two-byte body length, a two-byte kind, the body. Two-byte numbers are little-endian.
 
 unfoldable pub twoBytes : Bytes → ℕ → ℕ
 twoBytes bytes at = getD {A = ℕ} bytes at 0 + 256 * getD {A = ℕ} bytes (at + 1) 0
 
-pub data Kind : Type 0 where
-  basic-type order-pair entry target unlisted : Kind
+-- The bytes of a record's head.
+abbrev pub headLength : ℕ
+headLength = 4
 
-unfoldable pub kindOf : ℕ → Kind
-kindOf number =
-    cond (eqb number 1) basic-type (cond (eqb number 2) order-pair (cond (eqb number 3) entry (cond (eqb number 4) target unlisted)))
-
-abbrev pub bodyLength : Bytes → ℕ → ℕ
-bodyLength bytes at = twoBytes bytes at
-
-abbrev pub kindAt : Bytes → ℕ → Kind
-kindAt bytes at = kindOf (twoBytes bytes (at + 2))
+abbrev pub kindAt : Bytes → ℕ → ℕ
+kindAt bytes at = twoBytes bytes (at + 2)
 
 abbrev pub bodyAt : Bytes → ℕ → Bytes
-bodyAt bytes at = take (bodyLength bytes at) (drop (at + 4) bytes)
+bodyAt bytes at = take (twoBytes bytes at) (drop (at + headLength) bytes)
 
 -- Where the record behind the one at this offset starts.
 abbrev pub nextAt : Bytes → ℕ → ℕ
-nextAt bytes at = at + 4 + bodyLength bytes at
+nextAt bytes at = at + headLength + twoBytes bytes at
+
+-- Of four things the one that goes with a listed kind: 1 basic type, 2 order pair, 3 entry, 4 target.
+abbrev pub byKind {ℓ} : {A : Type ℓ} → ℕ → A → A → A → A → A
+byKind kind basic-type order-pair entry target = cond (eqb kind 1) basic-type (cond (eqb kind 2) order-pair (cond (eqb kind 3) entry target))
 
 -- Kind 1, a basic type: its name, 1 to 15 bytes, a–z and 0–9, a letter first.
-
-abbrev pub between : ℕ → ℕ → ℕ → Bool
-between low high byte = leb low byte && leb byte high
-
-unfoldable pub letter : ℕ → Bool
-letter byte = between 97 122 byte
 
 unfoldable pub nameByte : ℕ → Bool
 nameByte byte = between 97 122 byte || between 48 57 byte
 
 unfoldable pub isName : Bytes → Bool
-isName body = allOf (between 1 maxName (length body) ∷ letter (getD {A = ℕ} body 0 0) ∷ every nameByte body ∷ [])
+isName body = between 1 maxName (length body) && between 97 122 (getD {A = ℕ} body 0 0) && every nameByte body
 
 -- Kind 3, an entry: the word's length (1 to 31), the word (bytes 33 to 126), then 0 to 12 simple types, each a type number and an
 -- exponent, a byte in two's complement.
@@ -110,9 +84,6 @@ wordOf body = take (wordLength body) (drop 1 body)
 abbrev pub typePart : Bytes → Bytes
 typePart body = drop (1 + wordLength body) body
 
-unfoldable pub wordByte : ℕ → Bool
-wordByte byte = between 33 126 byte
-
 unfoldable pub exponentOf : ℕ → ℤ
 exponentOf byte = cond (ltb byte 128) (pos byte) (negsuc (255 - byte))
 
@@ -123,39 +94,16 @@ simplesOf (number ∷ exponent ∷ rest) = number ⁽ exponentOf exponent ⁾ �
 
 unfoldable pub isEntry : Bytes → Bool
 isEntry body =
-    allOf
-    (between 1 maxWord (wordLength body)
-    ∷ ltb (wordLength body) (length body)
-    ∷ every wordByte (wordOf body)
-    ∷ eqb (length (typePart body) % 2) 0
-    ∷ leb (length (typePart body)) (2 * maxSimples)
-    ∷ [])
+    between 1 maxWord (wordLength body)
+    && ltb (wordLength body) (length body)
+    && every (between 33 126) (wordOf body)
+    && eqb (length (typePart body) % 2) 0
+    && leb (length (typePart body)) (2 * maxEntrySimples)
 
 abbrev pub entryOf : Bytes → Entry
 entryOf body = record { word = wordOf body; type = simplesOf (typePart body) }
 
--- The rules for the record at an offset. Of the records before it they look at the names of the basic types, the number of entries,
--- and whether there was a target.
-
--- 2: head or body cut short.
-unfoldable pub cutShort : Bytes → ℕ → Bool
-cutShort bytes at = ltb (length bytes) (at + 4) || ltb (length bytes) (nextAt bytes at)
-
--- 3: kind not listed.
-unfoldable pub notListed : Kind → Bool
-notListed basic-type = false
-notListed order-pair = false
-notListed entry = false
-notListed target = false
-notListed unlisted = true
-
--- 4: body not of its kind's layout.
-unfoldable pub badLayout : Kind → Bytes → Bool
-badLayout basic-type body = not (isName body)
-badLayout order-pair body = not (eqb (length body) 2)
-badLayout entry body = not (isEntry body)
-badLayout target body = not (eqb (length body) 1)
-badLayout unlisted body = false
+-- What the rules ask of type numbers, exponents and names.
 
 abbrev pub bases : PregroupType → List Basic
 bases X = map (λ (x : Simple). x .base) X
@@ -163,37 +111,13 @@ bases X = map (λ (x : Simple). x .base) X
 abbrev pub exponents : PregroupType → List ℤ
 exponents X = map (λ (x : Simple). x .exponent) X
 
--- The type numbers that a body names.
-unfoldable pub numbersIn : Kind → Bytes → List ℕ
-numbersIn basic-type body = []
-numbersIn order-pair body = body
-numbersIn entry body = bases (simplesOf (typePart body))
-numbersIn target body = body
-numbersIn unlisted body = []
-
 abbrev pub declaredAmong : ℕ → Basic → Bool
 declaredAmong types number = ltb number types
 
--- 5: type number not declared by an earlier record.
-unfoldable pub undeclared : Kind → Bytes → ℕ → Bool
-undeclared kind body types = not (every (declaredAmong types) (numbersIn kind body))
-
--- The exponents in a body.
-unfoldable pub exponentsIn : Kind → Bytes → List ℤ
-exponentsIn basic-type body = []
-exponentsIn order-pair body = []
-exponentsIn entry body = exponents (simplesOf (typePart body))
-exponentsIn target body = []
-exponentsIn unlisted body = []
-
 -- −8 to 8.
 unfoldable pub exponentListed : ℤ → Bool
-exponentListed (pos n) = leb n 8
-exponentListed (negsuc n) = leb n 7
-
--- 6: exponent outside −8 to 8.
-unfoldable pub exponentOutside : Kind → Bytes → Bool
-exponentOutside kind body = not (every exponentListed (exponentsIn kind body))
+exponentListed (pos n) = leb n maxExponent
+exponentListed (negsuc n) = ltb n maxExponent
 
 unfoldable pub sameBytes : Bytes → Bytes → Bool
 sameBytes [] [] = true
@@ -201,103 +125,74 @@ sameBytes [] (y ∷ ys) = false
 sameBytes (x ∷ xs) [] = false
 sameBytes (x ∷ xs) (y ∷ ys) = eqb x y && sameBytes xs ys
 
--- 7: type name used before.
-unfoldable pub nameUsed : Kind → Bytes → List Bytes → Bool
-nameUsed basic-type body names = not (every (λ name. not (sameBytes body name)) names)
-nameUsed order-pair body names = false
-nameUsed entry body names = false
-nameUsed target body names = false
-nameUsed unlisted body names = false
+abbrev pub isAmong : List Bytes → Bytes → Bool
+isAmong names body = not (every (λ name. not (sameBytes body name)) names)
 
--- 8: second target.
-unfoldable pub secondTarget : Kind → Bool → Bool
-secondTarget basic-type seen = false
-secondTarget order-pair seen = false
-secondTarget entry seen = false
-secondTarget target seen = seen
-secondTarget unlisted seen = false
+-- The rules for a record that is there whole, each a number and whether the record is refused with it. Of the records before it they look at
+-- the names of the basic types, the number of entries, and whether there was a target.
+unfoldable pub bodyRules : ℕ → Bytes → List Bytes → ℕ → Bool → List (ℕ × Bool)
+bodyRules kind body names entries seen =
+    let type = simplesOf (typePart body) in
+    (kindNotListed, not (between 1 4 kind))
+    ∷ (badLayout, not (byKind kind (isName body) (eqb (length body) 2) (isEntry body) (eqb (length body) 1)))
+    ∷ (undeclaredType, not (every (declaredAmong (length names)) (byKind kind [] body (bases type) body)))
+    ∷ (exponentOutside, not (every exponentListed (byKind kind [] [] (exponents type) [])))
+    ∷ (nameUsed, byKind kind (isAmong names body) false false false)
+    ∷ (secondTarget, byKind kind false false false seen)
+    ∷ (tooManyRecords, byKind kind (leb maxTypes (length names)) false (leb maxEntries entries) false)
+    ∷ []
 
--- 9: 65th basic type or 1,025th entry.
-unfoldable pub tooMany : Kind → ℕ → ℕ → Bool
-tooMany basic-type types entries = leb maxTypes types
-tooMany order-pair types entries = false
-tooMany entry types entries = leb maxEntries entries
-tooMany target types entries = false
-tooMany unlisted types entries = false
+-- The rules for the record at an offset.
+unfoldable pub recordRules : Bytes → ℕ → List Bytes → ℕ → Bool → List (ℕ × Bool)
+recordRules bytes at names entries seen =
+    (cutShort, ltb (length bytes) (at + headLength) || ltb (length bytes) (nextAt bytes at))
+    ∷ bodyRules (kindAt bytes at) (bodyAt bytes at) names entries seen
 
--- The first number whose test fires; 0 where none does.
-pub record Rule : Type 0 where
-  pub number : ℕ
-  pub fires : Bool
+-- Within a record the smallest number: that of the first rule that it breaks, or 0.
+unfoldable pub firstBroken : List (ℕ × Bool) → ℕ
+firstBroken [] = 0
+firstBroken (rule ∷ rules) = cond (rule .1) (rule .0) (firstBroken rules)
 
-infix 70 _when_
-abbrev pub _when_ : ℕ → Bool → Rule
-number when fires = record { number = number; fires = fires }
-
-unfoldable pub firstFault : List Rule → ℕ
-firstFault [] = 0
-firstFault (rule ∷ rules) = cond (rule .fires) (rule .number) (firstFault rules)
-
--- The rules for a record that is there whole.
-unfoldable pub bodyFault : Kind → Bytes → List Bytes → ℕ → Bool → ℕ
-bodyFault kind body names entries seen =
-    firstFault
-    (3 when notListed kind
-    ∷ 4 when badLayout kind body
-    ∷ 5 when undeclared kind body (length names)
-    ∷ 6 when exponentOutside kind body
-    ∷ 7 when nameUsed kind body names
-    ∷ 8 when secondTarget kind seen
-    ∷ 9 when tooMany kind (length names) entries
-    ∷ [])
-
--- Within a record the smallest number; 0 for a record that breaks no rule.
-unfoldable pub recordFault : Bytes → ℕ → List Bytes → ℕ → Bool → ℕ
-recordFault bytes at names entries seen =
-    let whole = bodyFault (kindAt bytes at) (bodyAt bytes at) names entries seen in
-    cond (cutShort bytes at) 2 whole
-
--- What has been read of a book.
+-- What has been read of a book: what it holds so far, and whether there was a target. Until there is one, 0 stands in its place.
 pub record Draft : Type 0 where
-  pub names : List Bytes
-  pub pairs : List Pair
-  pub entries : List Entry
-  pub target : Option Basic
+  pub book : Book
+  pub seen : Bool
 
 abbrev pub nothingYet : Draft
-nothingYet = record { names = []; pairs = []; entries = []; target = none }
+nothingYet = record { book = record { names = []; pairs = []; entries = []; target = 0 }; seen = false }
 
-abbrev pub isSome : Option Basic → Bool
-isSome none = false
-isSome (some t) = true
-
--- A record's contents put behind what has been read.
-unfoldable pub add : Kind → Bytes → Draft → Draft
-add basic-type body d = record { names = d .names ++ (body ∷ []); pairs = d .pairs; entries = d .entries; target = d .target }
-add order-pair body d =
+-- A record's contents put behind those of the records before it.
+unfoldable pub add : ℕ → Bytes → Book → Book
+add kind body B =
     let pair : Pair = record { lower = getD {A = ℕ} body 0 0; upper = getD {A = ℕ} body 1 0 } in
-    record { names = d .names; pairs = d .pairs ++ (pair ∷ []); entries = d .entries; target = d .target }
-add entry body d = record { names = d .names; pairs = d .pairs; entries = d .entries ++ (entryOf body ∷ []); target = d .target }
-add target body d = record { names = d .names; pairs = d .pairs; entries = d .entries; target = some (getD {A = ℕ} body 0 0) }
-add unlisted body d = d
+    byKind {A = Book} kind
+    (record { names = B .names ++ (body ∷ []); pairs = B .pairs; entries = B .entries; target = B .target })
+    (record { names = B .names; pairs = B .pairs ++ (pair ∷ []); entries = B .entries; target = B .target })
+    (record { names = B .names; pairs = B .pairs; entries = B .entries ++ (entryOf body ∷ []); target = B .target })
+    (record { names = B .names; pairs = B .pairs; entries = B .entries; target = getD {A = ℕ} body 0 0 })
 
--- The book's end. 10: book ends without a target.
-unfoldable pub ended : Bytes → Draft → Option Basic → Parsed
-ended bytes d none = refused 10 (length bytes)
-ended bytes d (some t) = accepted (record { names = d .names; pairs = d .pairs; entries = d .entries; target = t })
+-- The record at an offset behind what has been read: its rules, its fault, and what has been read with it.
+abbrev pub nextRules : Bytes → ℕ → Draft → List (ℕ × Bool)
+nextRules bytes at d = recordRules bytes at (d .book .names) (length (d .book .entries)) (d .seen)
+
+abbrev pub nextFault : Bytes → ℕ → Draft → ℕ
+nextFault bytes at d = firstBroken (nextRules bytes at d)
+
+abbrev pub nextDraft : Bytes → ℕ → Draft → Draft
+nextDraft bytes at d = record { book = add (kindAt bytes at) (bodyAt bytes at) (d .book); seen = eqb (kindAt bytes at) 4 || d .seen }
+
+-- The book's end: without a target it is refused.
+unfoldable pub ended : Bytes → Draft → Parsed
+ended bytes d = cond (d .seen) (accepted (d .book)) (refused noTarget (length bytes))
 
 -- The records from an offset on. The first number bounds how many there can be.
 unfoldable pub recordsFrom : ℕ → Bytes → ℕ → Draft → Parsed
-recordsFrom zero bytes at d = ended bytes d (d .target)
+recordsFrom zero bytes at d = ended bytes d
 recordsFrom (suc more) bytes at d =
-    let fault = recordFault bytes at (d .names) (length (d .entries)) (isSome (d .target)) in
-    let rest = recordsFrom more bytes (nextAt bytes at) (add (kindAt bytes at) (bodyAt bytes at) d) in
-    let read = cond (eqb fault 0) rest (refused fault at) in
-    let end = ended bytes d (d .target) in
-    cond (ltb at (length bytes)) read end
+    let fault = nextFault bytes at d in
+    let rest = recordsFrom more bytes (nextAt bytes at) (nextDraft bytes at d) in
+    cond (ltb at (length bytes)) (cond (eqb fault 0) rest (refused fault at)) (ended bytes d)
 
--- 1: book over 65,535 bytes. A record takes at least four bytes, so a book has fewer records than bytes.
+-- A record takes at least four bytes, so a book has fewer records than bytes.
 unfoldable pub parse : Bytes → Parsed
-parse bytes =
-    let read = recordsFrom (length bytes) bytes 0 nothingYet in
-    cond (ltb maxBytes (length bytes)) (refused 1 0) read
+parse bytes = cond (ltb maxBook (length bytes)) (refused bookTooLong 0) (recordsFrom (length bytes) bytes 0 nothingYet)

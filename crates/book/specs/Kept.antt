@@ -3,16 +3,15 @@
 use Prim.Native.Nat.{ℕ, _≤_, _<_}
 use mathlib.Core.Path.{_≡_}
 use mathlib.Core.Logic.{_⊎_}
-use mathlib.Core.Bool.{true, cond}
+use mathlib.Core.Bool.{true}
 use mathlib.Core.List.{List, map}
-use mathlib.Core.Option.{Option, none, some}
 use lib.Dec.{ltb}
 use lib.ListN.{length, getD, take}
-use Rattle.pregroup.specs.Types.{Basic}
 use Rattle.pregroup.specs.Held.{InRows}
 use Rattle.order.specs.Closed.{Within, Listed}
-use Rattle.order.specs.Rows.{maxTypes, Hold}
-use Rattle.book.specs.Format.{Bytes, Book, Draft, accepted, refused, parse, bodyAt, nextAt, every, declaredAmong, bases, exponents, exponentListed, simplesOf, typePart, isEntry, entryOf, maxBytes, maxEntries, kindAt, add, recordFault, isSome}
+use Rattle.figures.specs.Limits.{maxTypes, maxEntries, maxBook}
+use Rattle.order.specs.Rows.{Hold}
+use Rattle.book.specs.Format.{Bytes, Book, Draft, accepted, refused, parse, bodyAt, nextAt, every, declaredAmong, bases, exponents, exponentListed, simplesOf, typePart, isEntry, entryOf, nextFault, nextDraft}
 use Rattle.book.specs.declared.Progress.{Progress}
 use Rattle.book.specs.declared.Taken.{Taken}
 use Rattle.book.specs.declared.Taken.the-variants.{Next, Bad}
@@ -38,10 +37,6 @@ pub record Formed (types : ℕ) (body : Bytes) : Type 0 where
 abbrev pub AllFormed : Bytes → List ℕ → ℕ → ℕ → Type 0
 AllFormed bytes offsets types count = (i : ℕ) → i < count → Formed types (bodyAt bytes (getD {A = ℕ} offsets i 0))
 
--- A target is kept as its number, and as 64 where there is none: no basic type has that number.
-abbrev pub targetKept : ℕ → Option Basic
-targetKept target = cond (ltb target maxTypes) (some target) none
-
 -- What the lent arrays hold: the offsets of the basic types' records and of the entries' records, and the order pairs as rows.
 pub record Store : Type 0 where
   pub names : List ℕ
@@ -63,7 +58,7 @@ NoPairs direct = (p q : ℕ) → InRows direct p q → ⊥
 
 -- The numbers that are kept lie within their limits, and the offsets are those of whole records.
 pub record Sound (bytes : Bytes) (s : Store) (p : Progress) : Type 0 where
-  pub short : length bytes ≤ maxBytes
+  pub short : length bytes ≤ maxBook
   pub reached : p .at ≤ length bytes
   pub roomy : Roomy s
   pub few-types : p .types ≤ maxTypes
@@ -74,30 +69,24 @@ pub record Sound (bytes : Bytes) (s : Store) (p : Progress) : Type 0 where
   pub formed : AllFormed bytes (s .entries) (p .types) (p .entries)
   pub within : Within (p .types) (InRows (s .direct))
 
--- What is kept stands for the draft d.
+-- What is kept stands for the draft d. A target is kept as its number, and as 64 where there is none: no basic type has that number.
 pub record Keeps (bytes : Bytes) (s : Store) (p : Progress) (d : Draft) : Type 0 where
-  pub names : d .names ≡ bodiesAt bytes (s .names) (p .types)
-  pub pairs : Hold (s .direct) (Listed (d .pairs))
-  pub entries : d .entries ≡ map entryOf (bodiesAt bytes (s .entries) (p .entries))
-  pub target : d .target ≡ targetKept (p .target)
-
--- The fault of the record that comes next, and the draft with it.
-abbrev pub nextFault : Bytes → Progress → Draft → ℕ
-nextFault bytes p d = recordFault bytes (p .at) (d .names) (length (d .entries)) (isSome (d .target))
-
-abbrev pub nextDraft : Bytes → Progress → Draft → Draft
-nextDraft bytes p d = add (kindAt bytes (p .at)) (bodyAt bytes (p .at)) d
+  pub names : d .book .names ≡ bodiesAt bytes (s .names) (p .types)
+  pub pairs : Hold (s .direct) (Listed (d .book .pairs))
+  pub entries : d .book .entries ≡ map entryOf (bodiesAt bytes (s .entries) (p .entries))
+  pub seen : d .seen ≡ ltb (p .target) maxTypes
+  pub target : p .target < maxTypes → d .book .target ≡ p .target
 
 -- A record taken in: s and p become s′ and p′.
 pub record Taking (bytes : Bytes) (s : Store) (p : Progress) (s′ : Store) (p′ : Progress) : Type 0 where
   pub sound : Sound bytes s′ p′
   pub on : p′ .at ≡ nextAt bytes (p .at)
-  pub right : (d : Draft) → Keeps bytes s p d → (nextFault bytes p d ≡ 0) × Keeps bytes s′ p′ (nextDraft bytes p d)
+  pub right : (d : Draft) → Keeps bytes s p d → (nextFault bytes (p .at) d ≡ 0) × Keeps bytes s′ p′ (nextDraft bytes (p .at) d)
 
 -- A record refused with a number.
 pub record Refusing (bytes : Bytes) (s : Store) (p : Progress) (number : ℕ) : Type 0 where
   pub some-number : number ≡ 0 → ⊥
-  pub faulty : (d : Draft) → Keeps bytes s p d → nextFault bytes p d ≡ number
+  pub faulty : (d : Draft) → Keeps bytes s p d → nextFault bytes (p .at) d ≡ number
 
 abbrev pub TakenSays : Bytes → Store → Progress → Store → Taken → Type 0
 TakenSays bytes s p s′ (Next p′) = Taking bytes s p s′ p′

@@ -1,23 +1,22 @@
-// The layout of a record's body: byte ranges for names, words and exponents, and the layouts built from them. Every test says
-// what the definition of the same name in specs/Format says.
+// The layout of a record's body: byte ranges for names, words and exponents, and the layouts built from them, as specs/Format
+// has them.
+use crate::widths::wide_byte;
+use figures::limits::MAX_ENTRY_SIMPLES;
+use figures::limits::MAX_EXPONENT;
+use figures::limits::MAX_NAME;
+use figures::limits::MAX_WORD;
 ghost use mathlib.Core.Path.{_≡_};
 ghost use mathlib.Core.Bool.{true};
 ghost use Prim.Native.Nat.{_+_, _≤_, _<_};
 ghost use lib.ListN.{length};
 ghost use Rattle.book.specs.Compare.{ReadsNumber};
-ghost use Rattle.book.specs.Format.{twoBytes, bodyAt, nextAt, letter, nameByte, isName, wordByte, exponentOf, exponentListed, isEntry, wordOf, typePart, every};
+ghost use Rattle.book.specs.Format.{twoBytes, bodyAt, nextAt, nameByte, isName, between, exponentOf, exponentListed, isEntry, wordOf, typePart, every};
 
-pub const MAX_NAME: usize = 15;
+// The bytes of a record's head: the body's length and the kind.
+pub const HEAD: usize = 4;
 
-pub const MAX_WORD: usize = 31;
-
-pub const MAX_SIMPLES: usize = 12;
-
-pub fn wide(byte: u8) -> usize
-    ensures { λ r. ⌜ (r ≡ byte) × (r < 256) ⌝ }
-{
-    byte as usize
-}
+// The byte of the least exponent.
+const LEAST_EXPONENT: u8 = 255 - (MAX_EXPONENT - 1);
 
 // The little-endian number of the two bytes from `at` on.
 pub fn two_bytes(bytes: &[u8], at: usize) -> usize
@@ -25,7 +24,7 @@ pub fn two_bytes(bytes: &[u8], at: usize) -> usize
     ensures { λ r. ⌜ r ≡ twoBytes (now (bytes .entry)) at ⌝ }
     ensures { λ r. ⌜ ReadsNumber 2 (now (bytes .entry)) at r ⌝ }
 {
-    wide(bytes[at]) + 256 * wide(bytes[at + 1])
+    wide_byte(bytes[at]) + 256 * wide_byte(bytes[at + 1])
 }
 
 // The body of the record at an offset, which is there whole.
@@ -33,13 +32,13 @@ pub fn body_at(book: &[u8], at: usize) -> &[u8]
     requires { ⌜ nextAt (now book) at ≤ length (now book) ⌝ }
     ensures { λ r. ⌜ now r ≡ bodyAt (now (book .entry)) at ⌝ }
 {
-    let start = at + 4;
+    let start = at + HEAD;
     let end = start + two_bytes(book, at);
     &book[start..end]
 }
 
 fn is_letter(byte: u8) -> bool
-    ensures { λ r. ⌜ r ≡ letter byte ⌝ }
+    ensures { λ r. ⌜ r ≡ between 97 122 byte ⌝ }
 {
     match byte {
         b'a'..=b'z' => true,
@@ -57,7 +56,7 @@ fn is_name_byte(byte: u8) -> bool
 }
 
 fn is_word_byte(byte: u8) -> bool
-    ensures { λ r. ⌜ r ≡ wordByte byte ⌝ }
+    ensures { λ r. ⌜ r ≡ between 33 126 byte ⌝ }
 {
     match byte {
         33..=126 => true,
@@ -70,7 +69,7 @@ pub fn is_exponent(byte: u8) -> bool
     ensures { λ r. ⌜ r ≡ exponentListed (exponentOf byte) ⌝ }
 {
     match byte {
-        0..=8 | 248..=255 => true,
+        0..=MAX_EXPONENT | LEAST_EXPONENT..=255 => true,
         _ => false,
     }
 }
@@ -89,7 +88,7 @@ fn all_name_bytes(bytes: &[u8]) -> bool
 }
 
 fn all_word_bytes(bytes: &[u8]) -> bool
-    ensures { λ r. ⌜ r ≡ every wordByte (now (bytes .entry)) ⌝ }
+    ensures { λ r. ⌜ r ≡ every (between 33 126) (now (bytes .entry)) ⌝ }
 {
     let mut i = 0;
     while i < bytes.len() {
@@ -124,7 +123,7 @@ pub fn is_entry(body: &[u8]) -> bool
     if body.len() < 1 {
         return false;
     }
-    let length = wide(body[0]);
+    let length = wide_byte(body[0]);
     if length < 1 {
         return false;
     }
@@ -141,7 +140,7 @@ pub fn is_entry(body: &[u8]) -> bool
     if rest % 2 != 0 {
         return false;
     }
-    rest <= 2 * MAX_SIMPLES
+    rest <= 2 * MAX_ENTRY_SIMPLES
 }
 
 // The part of an entry's body that holds its type.
@@ -149,7 +148,7 @@ pub fn type_part(body: &[u8]) -> &[u8]
     requires { ⌜ isEntry (now body) ≡ true ⌝ }
     ensures { λ r. ⌜ now r ≡ typePart (now (body .entry)) ⌝ }
 {
-    let start = 1 + wide(body[0]);
+    let start = 1 + wide_byte(body[0]);
     &body[start..]
 }
 
@@ -158,6 +157,6 @@ pub fn word_part(body: &[u8]) -> &[u8]
     requires { ⌜ isEntry (now body) ≡ true ⌝ }
     ensures { λ r. ⌜ now r ≡ wordOf (now (body .entry)) ⌝ }
 {
-    let end = 1 + wide(body[0]);
+    let end = 1 + wide_byte(body[0]);
     &body[1..end]
 }

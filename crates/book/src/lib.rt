@@ -1,14 +1,15 @@
 // A book: any bytes at all, accepted with its contents or refused by the first rule it breaks.
 ghost use mathlib.Core.Path.{_≡_};
-ghost use Rattle.book.specs.Check.{bookCheck};
-use order::MAX_TYPES;
-use rules::MAX_ENTRIES;
+ghost use Rattle.book.specs.Check.{bookCheck, replyOf, Checked};
+use figures::limits::MAX_ENTRIES;
+use figures::limits::MAX_TYPES;
 
 pub mod compare;
 pub mod layout;
 pub mod record_reader;
 pub mod records;
 pub mod rules;
+pub mod widths;
 
 // A reader of a book's records: the book and the offset of the next record (document 01, "The earliest bad record decides").
 pub struct RecordReader<'a> {
@@ -17,7 +18,7 @@ pub struct RecordReader<'a> {
 }
 
 // How far a book has been read: the offset of the next record, how many basic types and entries there were, and the target, or
-// `NO_TARGET` where there was none.
+// `UNSET_TARGET` where there was none.
 pub struct Progress {
     pub at: usize,
     pub types: usize,
@@ -58,9 +59,11 @@ pub enum BookCheck {
     },
 }
 
-// Checks a book alone: any bytes, of any length. The book is not written to.
+// Checks a book alone: any bytes, of any length. An accepted book gives its three numbers; any other the number of its refusal and the value
+// returned with it. The book is not written to.
 pub fn check_book(book: &[u8]) -> BookCheck
     ensures { λ r. ⌜ r ≡ bookCheck (now (book .entry)) ⌝ }
+    ensures { λ r. ⌜ Checked (now (book .entry)) (replyOf r) ⌝ }
 {
     let mut names = [0u16; MAX_TYPES];
     let mut entries = [0u16; MAX_ENTRIES];

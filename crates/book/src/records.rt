@@ -2,18 +2,20 @@
 use crate::Progress;
 use crate::Scan;
 use crate::Taken;
+use crate::layout::HEAD;
 use crate::layout::body_at;
 use crate::layout::two_bytes;
-use crate::layout::wide;
 use crate::record_reader::fault_at;
-use crate::rules::MAX_ENTRIES;
-use order::MAX_TYPES;
+use crate::widths::wide_byte;
+use figures::limits::MAX_BOOK;
+use figures::limits::MAX_TYPES;
+use figures::refusals::BOOK_TOO_LONG;
+use figures::refusals::NO_TARGET;
 ghost use Prim.Native.Nat.{_+_, _<_};
 ghost use Rattle.book.specs.Kept.{store, Roomy, NoPairs, Sound, TakenSays, ScanSays};
 
-pub const MAX_BYTES: usize = 65535;
-
-pub const NO_TARGET: u8 = 64;
+// What is kept for the target before there is one: no basic type has this number.
+const UNSET_TARGET: u8 = MAX_TYPES as u8;
 
 // Takes the next record in: its offset, its pair or its target is kept, or it is refused.
 fn take_record(
@@ -30,12 +32,12 @@ fn take_record(
     let types = p.types;
     let count = p.entries;
     let target = p.target;
-    let fault = fault_at(book, at, names, types, count, target < NO_TARGET);
+    let fault = fault_at(book, at, names, types, count, target < UNSET_TARGET);
     if fault != 0 {
         return Taken::Bad(fault);
     }
     let body = body_at(book, at);
-    let next = at + 4 + body.len();
+    let next = at + HEAD + body.len();
     let kind = two_bytes(book, at + 2);
     match kind {
         1 => {
@@ -48,7 +50,7 @@ fn take_record(
             })
         }
         2 => {
-            let lower = wide(body[0]);
+            let lower = wide_byte(body[0]);
             direct[lower] = bits::with(direct[lower], body[1]);
             Taken::Next(Progress {
                 at: next,
@@ -80,9 +82,9 @@ pub fn scan_book(book: &[u8], names: &mut [u16], entries: &mut [u16], direct: &m
     requires { ⌜ Roomy (store (now names) (now entries) (now direct)) × NoPairs (now direct) ⌝ }
     ensures { λ r. ⌜ ScanSays (now (book .entry)) (store (now (names .exit)) (now (entries .exit)) (now (direct .exit))) r ⌝ }
 {
-    if MAX_BYTES < book.len() {
+    if MAX_BOOK < book.len() {
         return Scan::Refused {
-            number: 1,
+            number: BOOK_TOO_LONG,
             value: 0,
         };
     }
@@ -90,7 +92,7 @@ pub fn scan_book(book: &[u8], names: &mut [u16], entries: &mut [u16], direct: &m
         at: 0,
         types: 0,
         entries: 0,
-        target: NO_TARGET,
+        target: UNSET_TARGET,
     };
     while p.at < book.len() {
         let taken = take_record(book, names, entries, direct, p);
@@ -102,9 +104,9 @@ pub fn scan_book(book: &[u8], names: &mut [u16], entries: &mut [u16], direct: &m
             },
         }
     }
-    if p.target == NO_TARGET {
+    if p.target == UNSET_TARGET {
         return Scan::Refused {
-            number: 10,
+            number: NO_TARGET,
             value: book.len(),
         };
     }

@@ -1,30 +1,32 @@
 // The rules for one record: which of the numbers 2 to 9 it is refused with, the smallest, or 0. The functions go by the record's kind,
 // each over the record's body as a part of the book.
 use crate::compare::same;
+use crate::layout::HEAD;
 use crate::layout::body_at;
 use crate::layout::is_entry;
 use crate::layout::is_exponent;
 use crate::layout::is_name;
 use crate::layout::two_bytes;
 use crate::layout::type_part;
-use crate::layout::wide;
-use order::MAX_TYPES;
+use crate::widths::wide_byte;
+use crate::widths::wide_number;
+use figures::limits::MAX_ENTRIES;
+use figures::limits::MAX_TYPES;
+use figures::refusals::BAD_LAYOUT;
+use figures::refusals::CUT_SHORT;
+use figures::refusals::EXPONENT_OUTSIDE;
+use figures::refusals::KIND_NOT_LISTED;
+use figures::refusals::NAME_USED;
+use figures::refusals::SECOND_TARGET;
+use figures::refusals::TOO_MANY_RECORDS;
+use figures::refusals::UNDECLARED_TYPE;
 ghost use mathlib.Core.Path.{_≡_};
 ghost use mathlib.Core.Bool.{Bool};
 ghost use mathlib.Core.List.{List};
 ghost use Prim.Native.Nat.{ℕ, _+_, _%_, _≤_, _<_};
 ghost use lib.ListN.{length};
-ghost use Rattle.book.specs.Format.{Bytes, Kind, every, simplesOf, bases, declaredAmong, exponents, exponentListed, nameUsed, bodyFault, recordFault};
+ghost use Rattle.book.specs.Format.{Bytes, every, simplesOf, bases, declaredAmong, exponents, exponentListed, isAmong, bodyRules, recordRules, firstBroken};
 ghost use Rattle.book.specs.Kept.{bodiesAt, Whole};
-
-pub const MAX_ENTRIES: usize = 1024;
-
-// A kept offset as a number of its own width.
-pub fn offset(kept: u16) -> usize
-    ensures { λ r. ⌜ r ≡ kept ⌝ }
-{
-    kept as usize
-}
 
 // Whether all type numbers of a type are below the number of basic types.
 fn all_declared(part: &[u8], types: usize) -> bool
@@ -33,7 +35,7 @@ fn all_declared(part: &[u8], types: usize) -> bool
 {
     let mut i = 0;
     while i < part.len() {
-        if types <= wide(part[i]) {
+        if types <= wide_byte(part[i]) {
             return false;
         }
         i += 2;
@@ -59,11 +61,11 @@ fn all_exponents(part: &[u8]) -> bool
 // Whether a body is the name of one of the basic types whose records start at the kept offsets.
 fn name_used(book: &[u8], names: &[u16], types: usize, body: &[u8]) -> bool
     requires { ⌜ Whole (now book) (now names) types ⌝ }
-    ensures { λ r. ⌜ r ≡ nameUsed Kind.basic-type (now (body .entry)) (bodiesAt (now (book .entry)) (now (names .entry)) types) ⌝ }
+    ensures { λ r. ⌜ r ≡ isAmong (bodiesAt (now (book .entry)) (now (names .entry)) types) (now (body .entry)) ⌝ }
 {
     let mut i = 0;
     while i < types {
-        if same(body, body_at(book, offset(names[i]))) {
+        if same(body, body_at(book, wide_number(names[i]))) {
             return true;
         }
         i += 1;
@@ -74,68 +76,68 @@ fn name_used(book: &[u8], names: &[u16], types: usize, body: &[u8]) -> bool
 // The rules for a basic type: its layout, a name used before, one too many.
 fn name_fault(book: &[u8], names: &[u16], types: usize, body: &[u8]) -> u32
     requires { ⌜ Whole (now book) (now names) types ⌝ }
-    ensures { λ r. ⌜ ((entries : ℕ) (seen : Bool) → r ≡ bodyFault Kind.basic-type (now (body .entry)) (bodiesAt (now (book .entry)) (now (names .entry)) types) entries seen) ⌝ }
+    ensures { λ r. ⌜ ((entries : ℕ) (seen : Bool) → r ≡ firstBroken (bodyRules 1 (now (body .entry)) (bodiesAt (now (book .entry)) (now (names .entry)) types) entries seen)) ⌝ }
 {
     if !is_name(body) {
-        return 4;
+        return BAD_LAYOUT;
     }
     if name_used(book, names, types, body) {
-        return 7;
+        return NAME_USED;
     }
     if MAX_TYPES <= types {
-        return 9;
+        return TOO_MANY_RECORDS;
     }
     0
 }
 
 // The rules for an order pair: its layout, and two declared type numbers.
 fn pair_fault(body: &[u8], types: usize) -> u32
-    ensures { λ r. ⌜ ((names : List Bytes) (entries : ℕ) (seen : Bool) → length names ≡ types → r ≡ bodyFault Kind.order-pair (now (body .entry)) names entries seen) ⌝ }
+    ensures { λ r. ⌜ ((names : List Bytes) (entries : ℕ) (seen : Bool) → length names ≡ types → r ≡ firstBroken (bodyRules 2 (now (body .entry)) names entries seen)) ⌝ }
 {
     if body.len() != 2 {
-        return 4;
+        return BAD_LAYOUT;
     }
-    if types <= wide(body[0]) {
-        return 5;
+    if types <= wide_byte(body[0]) {
+        return UNDECLARED_TYPE;
     }
-    if types <= wide(body[1]) {
-        return 5;
+    if types <= wide_byte(body[1]) {
+        return UNDECLARED_TYPE;
     }
     0
 }
 
 // The rules for an entry: its layout, declared type numbers, exponents from -8 to 8, one too many.
 fn entry_fault(body: &[u8], types: usize, entries: usize) -> u32
-    ensures { λ r. ⌜ ((names : List Bytes) (seen : Bool) → length names ≡ types → r ≡ bodyFault Kind.entry (now (body .entry)) names entries seen) ⌝ }
+    ensures { λ r. ⌜ ((names : List Bytes) (seen : Bool) → length names ≡ types → r ≡ firstBroken (bodyRules 3 (now (body .entry)) names entries seen)) ⌝ }
 {
     if !is_entry(body) {
-        return 4;
+        return BAD_LAYOUT;
     }
     let part = type_part(body);
     if !all_declared(part, types) {
-        return 5;
+        return UNDECLARED_TYPE;
     }
     if !all_exponents(part) {
-        return 6;
+        return EXPONENT_OUTSIDE;
     }
     if MAX_ENTRIES <= entries {
-        return 9;
+        return TOO_MANY_RECORDS;
     }
     0
 }
 
 // The rules for a target: its layout, a declared type number, no target before.
 fn target_fault(body: &[u8], types: usize, seen: bool) -> u32
-    ensures { λ r. ⌜ ((names : List Bytes) (entries : ℕ) → length names ≡ types → r ≡ bodyFault Kind.target (now (body .entry)) names entries seen) ⌝ }
+    ensures { λ r. ⌜ ((names : List Bytes) (entries : ℕ) → length names ≡ types → r ≡ firstBroken (bodyRules 4 (now (body .entry)) names entries seen)) ⌝ }
 {
     if body.len() != 1 {
-        return 4;
+        return BAD_LAYOUT;
     }
-    if types <= wide(body[0]) {
-        return 5;
+    if types <= wide_byte(body[0]) {
+        return UNDECLARED_TYPE;
     }
     if seen {
-        return 8;
+        return SECOND_TARGET;
     }
     0
 }
@@ -150,14 +152,14 @@ pub(crate) fn record_fault(
     seen: bool,
 ) -> u32
     requires { ⌜ (at ≤ length (now book)) × Whole (now book) (now names) types ⌝ }
-    ensures { λ r. ⌜ r ≡ recordFault (now (book .entry)) at (bodiesAt (now (book .entry)) (now (names .entry)) types) entries seen ⌝ }
+    ensures { λ r. ⌜ r ≡ firstBroken (recordRules (now (book .entry)) at (bodiesAt (now (book .entry)) (now (names .entry)) types) entries seen) ⌝ }
 {
-    if book.len() - at < 4 {
-        return 2;
+    if book.len() - at < HEAD {
+        return CUT_SHORT;
     }
-    let left = book.len() - at - 4;
+    let left = book.len() - at - HEAD;
     if left < two_bytes(book, at) {
-        return 2;
+        return CUT_SHORT;
     }
     let body = body_at(book, at);
     let kind = two_bytes(book, at + 2);
@@ -166,6 +168,6 @@ pub(crate) fn record_fault(
         2 => pair_fault(body, types),
         3 => entry_fault(body, types, entries),
         4 => target_fault(body, types, seen),
-        _ => 3,
+        _ => KIND_NOT_LISTED,
     }
 }

@@ -21,6 +21,10 @@ maxWord = 31
 abbrev pub maxEntrySimples : ℕ
 maxEntrySimples = 12
 
+-- The greatest exponent of a book; its negative is the least.
+abbrev pub maxExponent : ℕ
+maxExponent = 8
+
 -- Words of a line, and simple types of all entries of all its words.
 abbrev pub maxWords : ℕ
 maxWords = 24

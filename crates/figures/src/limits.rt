@@ -14,6 +14,9 @@ pub const MAX_WORD: usize = 31;
 
 pub const MAX_ENTRY_SIMPLES: usize = 12;
 
+// The greatest exponent of a book; its negative is the least.
+pub const MAX_EXPONENT: u8 = 8;
+
 // How many words a line has at most, and how many simple types all entries of its words have together.
 pub const MAX_WORDS: usize = 24;
 

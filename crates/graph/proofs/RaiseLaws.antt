@@ -7,7 +7,7 @@ use mathlib.Core.Bool.{Bool, true, false, cond, false≢true}
 use lib.Dec.{ltb}
 use lib.IntN.{pos, negsuc, _-ℤ_}
 use lib.ListN.{length, getD, drop}
-use borrow.Author.Tests.{lt-ltb, le-ltb, leb-true}
+use borrow.Author.Tests.{lt-ltb, le-ltb, ltb-true}
 use Rattle.pregroup.specs.Types.{Simple}
 use Rattle.pregroup.specs.Held.{bias}
 use Rattle.book.specs.Format.{Bytes, every, exponents, exponentOf, exponentListed, simplesOf}
@@ -29,7 +29,7 @@ raise-low e h listed = go (decLt e 128)
     go (yes low) = rw (lt-ltb e 128 low) (plain e)
     go (no high) =
         let t : exponentListed (cond false (pos e) (negsuc (255 - e))) ≡ true = rw (le-ltb e 128 (omega (arith, high))) at listed in
-        let u : 255 - e ≤ 7 = leb-true (255 - e) 7 t in
+        let u : 255 - e < 8 = ltb-true (255 - e) 8 t in
         absurd (omega (arith, u))
 
 pub raise-high : (e : ℕ) → 248 ≤ e → e < 256 → pos (e - 248) -ℤ pos bias ≡ exponentOf e

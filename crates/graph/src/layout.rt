@@ -2,8 +2,8 @@
 use crate::Place;
 use book::layout::body_at;
 use book::layout::type_part;
-use book::rules::MAX_ENTRIES;
-use book::rules::offset;
+use book::widths::wide_number;
+use figures::limits::MAX_ENTRIES;
 use line::lookup::find_entries;
 use line::lookup::tally_found;
 use pregroup::EXPONENT_BIAS;
@@ -122,8 +122,8 @@ fn lay_entries(
     let mut place = p;
     let mut k = 0;
     while k < n {
-        let number = offset(found[k]);
-        let part = type_part(body_at(book, offset(offsets[number])));
+        let number = wide_number(found[k]);
+        let part = type_part(body_at(book, wide_number(offsets[number])));
         place = lay_slot(
             part,
             number,

@@ -12,7 +12,8 @@ use lib.ListN.{length, length-append}
 use borrow.Author.Tests.{ltb-false}
 use Rattle.pregroup.specs.Types.{PregroupType}
 use Rattle.linking.specs.Reading.{NumberedEntry, Words, Choice, take, empty as empty-choice, Ascending, empty, more, AllAscending}
-use Rattle.book.specs.Format.{Bytes, Book, Entry, maxSimples as maxType}
+use Rattle.figures.specs.Limits.{maxEntrySimples}
+use Rattle.book.specs.Format.{Bytes, Book, Entry}
 use Rattle.book.proofs.Accepted.{AllShort}
 use Rattle.line.specs.Passing.{AllKnown, no-word, known, Brief, AllBrief, no-words, brief}
 use Rattle.line.specs.LineWords.{Word, wordsOf}
@@ -95,7 +96,7 @@ line-passing B line words h =
       few = subst (λ (w : Words). simplesOfWords w ≤ maxSimples) (sym (fits .1)) (ltb-false _ _ (fits .0));
     }
 
-pub brief-cons : (e : NumberedEntry) (es : List NumberedEntry) → length (e .type) ≤ maxType → Brief es → Brief (e ∷ es)
+pub brief-cons : (e : NumberedEntry) (es : List NumberedEntry) → length (e .type) ≤ maxEntrySimples → Brief es → Brief (e ∷ es)
 brief-cons e es h k f m = ⊎-elim (λ q. let same = ap (λ (x : NumberedEntry). length (x .type)) q in omega arith) (λ l. k f l) (List·Memᴰ·cases-cons m)
 
 entries-brief : (n : ℕ) (entries : List Entry) (word : Bytes) → AllShort entries → Brief (entriesFrom n entries word)
@@ -120,6 +121,6 @@ pub line-brief : (B : Book) (line : Bytes) (words : Words) → AllShort (B .entr
 line-brief B line words short p = subst AllBrief (sym (p .words-are)) (words-brief B short (wordsOf line))
 
 -- So a choice has at most 12 simple types a word.
-pub choice-brief : {words : Words} {ns : List ℕ} {X : PregroupType} → AllBrief words → Choice words ns X → length X ≤ maxType * length words
+pub choice-brief : {words : Words} {ns : List ℕ} {X : PregroupType} → AllBrief words → Choice words ns X → length X ≤ maxEntrySimples * length words
 choice-brief no-words empty-choice = omega arith
 choice-brief (brief b rest) (take {e} {X} m c) = let h = choice-brief rest c in let k = b e m in let n = length-append (e .type) X in omega arith

@@ -9,7 +9,8 @@ use mathlib.Core.Option.{none}
 use lib.ListN.{length, getD, drop, set, length-set, length-drop}
 use lib.Seq.{getD-set-same, getD-set-other, length-take-le}
 use borrow.Author.Tests.{lt-ltb, le-ltb, le-leb, lt-leb}
-use Rattle.book.specs.Format.{Bytes, maxWord}
+use Rattle.figures.specs.Limits.{maxWord}
+use Rattle.book.specs.Format.{Bytes}
 use Rattle.line.specs.LineWords.{Word, wordsOf}
 use Rattle.line.specs.LineFaults.{maxWords, byteFault, wordFault}
 use Rattle.line.specs.Split.{wordAt, wordsKept, Skipped, Spelt, Lying, SplitInto, Stopped, at-word}

@@ -6,7 +6,8 @@ use mathlib.Core.List.{List, [], _∷_, map}
 use mathlib.Core.Option.{Option, none, some}
 use lib.Dec.{leb, ltb}
 use lib.ListN.{length}
-use Rattle.book.specs.Format.{Bytes, Book, Entry, between, sameBytes, maxWord}
+use Rattle.figures.specs.Limits.{maxWord}
+use Rattle.book.specs.Format.{Bytes, Book, Entry, between, sameBytes}
 use Rattle.linking.specs.Reading.{NumberedEntry, Words}
 use Rattle.line.specs.LineWords.{Word, wordsOf}
 

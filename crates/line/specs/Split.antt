@@ -4,7 +4,8 @@ use mathlib.Core.Path.{_≡_}
 use mathlib.Core.List.{List, [], _∷_, _++_}
 use mathlib.Core.Option.{none, some}
 use lib.ListN.{length, getD, take, drop}
-use Rattle.book.specs.Format.{Bytes, maxWord}
+use Rattle.figures.specs.Limits.{maxWord}
+use Rattle.book.specs.Format.{Bytes}
 use Rattle.line.specs.LineWords.{Word, wordsFrom, wordsOf}
 use Rattle.line.specs.LineFaults.{maxWords, byteFault, wordFault}
 use Rattle.line.specs.declared.CheckedLine.{CheckedLine}

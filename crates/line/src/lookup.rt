@@ -5,8 +5,8 @@ use book::compare::same;
 use book::layout::body_at;
 use book::layout::type_part;
 use book::layout::word_part;
-use book::rules::MAX_ENTRIES;
-use book::rules::offset;
+use book::widths::wide_number;
+use figures::limits::MAX_ENTRIES;
 ghost use mathlib.Core.Path.{_≡_};
 ghost use mathlib.Core.Bool.{true};
 ghost use Prim.Native.Nat.{_≤_, _<_};
@@ -40,7 +40,7 @@ pub fn find_entries(
     let mut n = 0;
     let mut i = 0;
     while i < count {
-        if belongs(book, offset(offsets[i]), word) {
+        if belongs(book, wide_number(offsets[i]), word) {
             found[n] = i as u16;
             n += 1;
         }
@@ -57,7 +57,7 @@ pub fn tally_found(book: &[u8], offsets: &[u16], found: &[u16], n: usize) -> usi
     let mut sum = 0;
     let mut k = 0;
     while k < n {
-        let at = offset(offsets[offset(found[k])]);
+        let at = wide_number(offsets[wide_number(found[k])]);
         sum += type_part(body_at(book, at)).len() / 2;
         k += 1;
     }

@@ -1,6 +1,6 @@
 // The words of a line, and refusals 11 and 12.
 use crate::CheckedLine;
-use book::layout::MAX_WORD;
+use figures::limits::MAX_WORD;
 ghost use mathlib.Core.Path.{_≡_};
 ghost use mathlib.Core.Bool.{cond};
 ghost use mathlib.Core.Option.{none, some};

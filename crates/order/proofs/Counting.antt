@@ -13,7 +13,8 @@ use Rattle.bits.proofs.BitLaws.{bit-absent}
 use Rattle.bits.proofs.TotalLaws.{total-same, total-ends, total-none}
 use Rattle.pregroup.specs.Held.{InRows}
 use Rattle.order.specs.Closed.{Closed, Pair, Listed, DeclaredPairs, below, closedCount}
-use Rattle.order.specs.Rows.{maxTypes, Hold, pairsIn}
+use Rattle.figures.specs.Limits.{maxTypes}
+use Rattle.order.specs.Rows.{Hold, pairsIn}
 use Rattle.order.proofs.ClosureLaws.{closed-within}
 use Rattle.order.proofs.Decision.{below-decides}
 

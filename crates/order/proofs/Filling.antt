@@ -13,7 +13,8 @@ use Rattle.bits.proofs.BitLaws.{empty-has-none}
 use Rattle.pregroup.specs.Order.{Relation}
 use Rattle.pregroup.specs.Held.{InRows}
 use Rattle.order.specs.Closed.{Closed, Within}
-use Rattle.order.specs.Rows.{maxTypes, Hold}
+use Rattle.figures.specs.Limits.{maxTypes}
+use Rattle.order.specs.Rows.{Hold}
 use Rattle.order.proofs.ClosureLaws.{closed-within, closed-among}
 
 -- The rows up to p are filled.

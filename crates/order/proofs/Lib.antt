@@ -4,4 +4,5 @@ pub mod Decision
 pub mod Walk
 pub mod Filling
 pub mod Counting
+pub mod PairCount
 pub mod Examples

@@ -8,7 +8,7 @@ use Rattle.bits.proofs.BitLaws.{empty-has-none, has-or-not}
 use Rattle.bits.proofs.CountLaws.{size-grows}
 use Rattle.pregroup.specs.Order.{Relation}
 use Rattle.order.specs.Closed.{Closed, reflexive, pair, transitive}
-use Rattle.order.specs.Rows.{maxTypes}
+use Rattle.figures.specs.Limits.{maxTypes}
 
 -- `seen` are the types passed, `todo` those ahead.
 pub record Walked (R : Relation) (p seen todo : ℕ) : Type 0 where

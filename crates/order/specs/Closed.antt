@@ -1,9 +1,12 @@
 -- Document 01: "The order is the reflexive and transitive closure of the book's pairs", and the number of pairs p ≤ q in it, p ≤ p included.
 -- The closure is a relation; `below` is the same as a test that antt computes, and `below-decides` proves it right.
 use Prim.Native.Nat.{ℕ, _<_}
+use mathlib.Core.Path.{_≡_}
+use mathlib.Core.Logic.{_↔_}
 use mathlib.Core.Bool.{Bool, true, false, cond, _&&_}
-use mathlib.Core.List.{List, [], _∷_, List·Memᴰ}
+use mathlib.Core.List.{List, [], _∷_, List·Memᴰ, List·Nodup}
 use lib.Dec.{eqb, ltb}
+use lib.ListN.{length}
 use Rattle.bits.specs.Totals.{total}
 use Rattle.pregroup.specs.Order.{Relation}
 
@@ -25,6 +28,13 @@ pub record Pair : Type 0 where
 -- The pairs of a book as a relation.
 abbrev pub Listed : List Pair → Relation
 Listed pairs p q = List·Memᴰ (record { lower = p; upper = q }) pairs
+
+-- R has n pairs: they stand in a list of that length, each once and nothing else.
+pub record HasPairs (R : Relation) (n : ℕ) : Type 0 where
+  pub pairs : List Pair
+  pub once : List·Nodup pairs
+  pub all : (p q : ℕ) → Listed pairs p q ↔ R p q
+  pub count : length pairs ≡ n
 
 -- Both types of each pair are declared.
 abbrev pub DeclaredPairs : ℕ → List Pair → Type 0

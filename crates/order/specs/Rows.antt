@@ -3,15 +3,12 @@ use Prim.Native.Nat.{ℕ, _≤_}
 use mathlib.Core.Logic.{_↔_}
 use mathlib.Core.List.{List}
 use lib.ListN.{getD}
+use Rattle.figures.specs.Limits.{maxTypes}
 use Rattle.bits.specs.Bits.{size}
 use Rattle.bits.specs.Totals.{total}
 use Rattle.pregroup.specs.Order.{Relation}
 use Rattle.pregroup.specs.Held.{InRows}
 use Rattle.order.specs.Closed.{Within}
-
--- How many basic types a book has at most: `MAX_TYPES` of the code.
-abbrev pub maxTypes : ℕ
-maxTypes = 64
 
 -- The rows hold R and nothing else.
 abbrev pub Hold : List ℕ → Relation → Type 0

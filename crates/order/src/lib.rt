@@ -1,14 +1,13 @@
 // The order of a book: the reflexive and transitive closure of its pairs, computed once and held as 64 rows of 64 bits, with the number of
 // its pairs. Bit q of row p says p ≤ q.
+use figures::limits::MAX_TYPES;
 ghost use Prim.Native.Nat.{_<_};
 ghost use mathlib.Core.Path.{_≡_};
 ghost use Rattle.bits.specs.Bits.{Members};
 ghost use Rattle.pregroup.specs.Held.{InRows};
 ghost use Rattle.order.specs.Closed.{Closed};
-ghost use Rattle.order.specs.Rows.{maxTypes, Hold, DeclaredRows, pairsIn};
-
-// How many basic types a book may have at most, and so the number of rows and of bits in a row.
-pub const MAX_TYPES: usize = 64;
+ghost use Rattle.figures.specs.Limits.{maxTypes};
+ghost use Rattle.order.specs.Rows.{Hold, DeclaredRows, pairsIn};
 
 // A closed order. A row past the last type holds nothing.
 pub struct Order {

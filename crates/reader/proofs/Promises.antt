@@ -93,7 +93,7 @@ module _ (book line : Bytes) (B : Book) (words : Words) (r : Readable book line 
   first-none e = first-reading-none decides (B .target) ascending .0 e
 
   none-iff : (firstOf ≡ none) ↔ NoChain B words
-  none-iff = unread-iff-no-chain (closed-is-order declared) (B .target) (accepted-declares book B (r .book-accepted) .target (B .target) refl) words decides ascending
+  none-iff = unread-iff-no-chain (closed-is-order declared) (B .target) (accepted-declares book B (r .book-accepted) .target refl) words decides ascending
 
   module _ {buffer : List ℕ} where
     untouched-of : {o : Option Answer} {answer : LineAnswer} {after : List ℕ} → Given buffer o answer after → (number value : ℕ) → answer ≡ Refused number value → after ≡ buffer

@@ -10,7 +10,7 @@ use Rattle.pregroup.specs.Tests.{sameExponent, contracts, closes, vanishes}
 use Rattle.order.specs.Closed.{below}
 use Rattle.linking.specs.Linking.{firstFrom, isSome, mayLink, nearestWithin, partnersWithin, mayStay, reducesFrom, nearestFrom, partnersFrom, firstLinking}
 use Rattle.linking.specs.Reading.{Answer, firstEntry, firstBehind, firstReading}
-use Rattle.book.specs.Format.{Bytes, every, twoBytes, kindOf, letter, nameByte, isName, wordByte, exponentOf, simplesOf, isEntry, cutShort, notListed, badLayout, numbersIn, undeclared, exponentsIn, exponentListed, exponentOutside, sameBytes, nameUsed, secondTarget, tooMany, firstFault, bodyFault, recordFault, add, ended, recordsFrom, parse}
+use Rattle.book.specs.Format.{Bytes, every, twoBytes, nameByte, isName, exponentOf, simplesOf, isEntry, exponentListed, sameBytes, bodyRules, recordRules, firstBroken, add, ended, recordsFrom, parse}
 use Rattle.book.proofs.PaperBooks.{typeRecord, pairRecord, entryRecord, targetRecord, join, firstBook, secondBook}
 use Rattle.line.specs.LineWords.{partsFrom}
 use Rattle.line.specs.LineFaults.{entriesFrom, byteFault, wordFault, entryFault, simplesIn, simplesOfWords, lineCheck}
@@ -86,5 +86,5 @@ expected none = record { answer = Refused 15 0; buffer = lent }
 expected (some a) = record { answer = Read (length (valuesOf a)); buffer = valuesOf a ++ drop (length (valuesOf a)) lent }
 
 pub paper-cases : map (λ (c : Case). outcome (c .book) (c .line) lent) cases ≡ map (λ (c : Case). expected (c .reading)) cases
-unfolding every twoBytes kindOf letter nameByte isName wordByte exponentOf simplesOf isEntry cutShort notListed badLayout numbersIn undeclared exponentsIn exponentListed exponentOutside sameBytes nameUsed secondTarget tooMany firstFault bodyFault recordFault add ended recordsFrom parse even sameExponent contracts closes vanishes firstFrom isSome mayLink nearestWithin partnersWithin mayStay reducesFrom nearestFrom partnersFrom firstLinking firstEntry firstBehind firstReading below partsFrom entriesFrom byteFault wordFault entryFault simplesIn simplesOfWords lineCheck given readAgainst readParsed
+unfolding every twoBytes nameByte isName exponentOf simplesOf isEntry exponentListed sameBytes bodyRules recordRules firstBroken add ended recordsFrom parse even sameExponent contracts closes vanishes firstFrom isSome mayLink nearestWithin partnersWithin mayStay reducesFrom nearestFrom partnersFrom firstLinking firstEntry firstBehind firstReading below partsFrom entriesFrom byteFault wordFault entryFault simplesIn simplesOfWords lineCheck given readAgainst readParsed
 paper-cases = refl

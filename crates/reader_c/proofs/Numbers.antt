@@ -8,7 +8,9 @@ use mathlib.Core.Option.{Option, none, some}
 use lib.Dec.{ltb, eqb}
 use lib.ListN.{length}
 use borrow.Author.Tests.{eq-eqb, ne-eqb}
-use Rattle.book.specs.Format.{Bytes, Book, Draft, Parsed, accepted, refused, parse, recordsFrom, ended, recordFault, nextAt, add, kindAt, bodyAt, isSome, nothingYet, maxBytes}
+use Rattle.figures.specs.Limits.{maxBook}
+use Rattle.figures.specs.Refusals.{noTarget}
+use Rattle.book.specs.Format.{Bytes, Book, Draft, Parsed, accepted, refused, parse, recordsFrom, ended, nextAt, nextFault, nextDraft, nothingYet}
 use Rattle.book.specs.Check.{bookCheck, answerFor}
 use Rattle.book.specs.declared.BookCheck.{BookCheck}
 use Rattle.book.specs.declared.BookCheck.the-variants.{Accepted, Refused}
@@ -29,10 +31,9 @@ abbrev NamedParse : Parsed → Type 0
 NamedParse (accepted B) = Unit {0}
 NamedParse (refused number value) = number ≡ 0 → ⊥
 
-ended-named : (bytes : Bytes) (d : Draft) (t : Option ℕ) → NamedParse (ended bytes d t)
+ended-named : (bytes : Bytes) (d : Draft) → NamedParse (ended bytes d)
 unfolding ended
-ended-named bytes d none = omega arith
-ended-named bytes d (some t) = tt
+ended-named bytes d = either-side NamedParse (d .seen) (accepted (d .book)) (refused noTarget (length bytes)) tt (omega arith)
 
 fault-named : (fault at : ℕ) (rest : Parsed) → NamedParse rest → NamedParse (cond (eqb fault 0) rest (refused fault at))
 fault-named fault at rest named = go (eqb fault 0) refl
@@ -43,15 +44,15 @@ fault-named fault at rest named = go (eqb fault 0) refl
 
 records-named : (more : ℕ) (bytes : Bytes) (at : ℕ) (d : Draft) → NamedParse (recordsFrom more bytes at d)
 unfolding recordsFrom
-records-named zero bytes at d = ended-named bytes d (d .target)
+records-named zero bytes at d = ended-named bytes d
 records-named (suc more) bytes at d =
     either-side NamedParse (ltb at (length bytes)) _ _
-    (fault-named (recordFault bytes at (d .names) (length (d .entries)) (isSome (d .target))) at _ (records-named more bytes (nextAt bytes at) (add (kindAt bytes at) (bodyAt bytes at) d)))
-    (ended-named bytes d (d .target))
+    (fault-named (nextFault bytes at d) at _ (records-named more bytes (nextAt bytes at) (nextDraft bytes at d)))
+    (ended-named bytes d)
 
 parse-named : (bytes : Bytes) → NamedParse (parse bytes)
 unfolding parse
-parse-named bytes = either-side NamedParse (ltb maxBytes (length bytes)) _ _ (omega arith) (records-named (length bytes) bytes 0 nothingYet)
+parse-named bytes = either-side NamedParse (ltb maxBook (length bytes)) _ _ (omega arith) (records-named (length bytes) bytes 0 nothingYet)
 
 abbrev NamedLine : LineCheck → Type 0
 NamedLine (passed words) = Unit {0}

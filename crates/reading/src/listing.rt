@@ -1,24 +1,17 @@
 // What the program writes of an answer: a row of its counts, a row for each word and one for each simple type; or a row for a refusal.
 // Nothing of an answer is taken on trust: a part that it or the book does not have counts as empty.
 use book::Scan;
+use book::layout::HEAD;
 use book::layout::body_at;
 use book::layout::is_entry;
 use book::layout::two_bytes;
 use book::layout::type_part;
-use book::layout::wide;
 use book::layout::word_part;
-use book::rules::MAX_ENTRIES;
-use book::rules::offset;
+use book::widths::wide_byte;
+use book::widths::wide_number;
+use figures::limits::MAX_ENTRIES;
+use figures::limits::MAX_TYPES;
 use libc::STDOUT_FILENO;
-use order::MAX_TYPES;
-
-// The bytes of a record's head.
-const HEAD: usize = 4;
-
-// A value of an answer as a number.
-fn number_of(value: u16) -> usize {
-    value as usize
-}
 
 fn write(bytes: &[u8]) {
     io::write_all(STDOUT_FILENO, bytes);
@@ -45,10 +38,10 @@ pub fn refuse(number: u32, value: usize) {
 // Writes the exponent that a byte holds in two's complement, as a decimal.
 fn write_exponent(byte: u8) {
     if byte < 128 {
-        write_number(wide(byte));
+        write_number(wide_byte(byte));
     } else {
         write(b"-");
-        write_number(256 - wide(byte));
+        write_number(256 - wide_byte(byte));
     }
 }
 
@@ -57,7 +50,7 @@ fn body_of<'a>(book: &'a [u8], offsets: &[u16], number: usize) -> &'a [u8] {
     if offsets.len() <= number {
         return &book[..0];
     }
-    let at = offset(offsets[number]);
+    let at = wide_number(offsets[number]);
     if book.len() < HEAD {
         return &book[..0];
     }
@@ -102,7 +95,7 @@ fn write_word_row(book: &[u8], entries: &[u16], number: usize, entry: usize) {
 fn write_word_rows(book: &[u8], entries: &[u16], chosen: &[u16]) {
     let mut i = 0;
     while i < chosen.len() {
-        write_word_row(book, entries, i + 1, number_of(chosen[i]));
+        write_word_row(book, entries, i + 1, wide_number(chosen[i]));
         i += 1;
     }
 }
@@ -118,7 +111,7 @@ fn write_type_row(
 ) {
     write_number(position);
     write(b" ");
-    write(body_of(book, names, wide(base)));
+    write(body_of(book, names, wide_byte(base)));
     write(b" ");
     write_exponent(exponent);
     write_next(partner);
@@ -137,7 +130,7 @@ fn write_simple_types(
     let mut j = 0;
     while 1 < simples.len() - j {
         if at < partners.len() {
-            let partner = number_of(partners[at]);
+            let partner = wide_number(partners[at]);
             at += 1;
             write_type_row(book, names, at, simples[j], simples[j + 1], partner);
         }
@@ -151,7 +144,7 @@ fn write_type_rows(book: &[u8], names: &[u16], entries: &[u16], chosen: &[u16], 
     let mut at = 0;
     let mut i = 0;
     while i < chosen.len() {
-        let simples = type_of(book, entries, number_of(chosen[i]));
+        let simples = type_of(book, entries, wide_number(chosen[i]));
         at = write_simple_types(book, names, simples, partners, at);
         i += 1;
     }
@@ -163,7 +156,7 @@ fn counted(answer: &[u16], at: usize) -> &[u16] {
         return &answer[..0];
     }
     let start = at + 1;
-    let count = number_of(answer[at]);
+    let count = wide_number(answer[at]);
     if answer.len() - start < count {
         return &answer[..0];
     }

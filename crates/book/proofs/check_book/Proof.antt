@@ -1,11 +1,20 @@
 -- `book::check_book` meets its contract: a refusal is passed on, and of an accepted book the closed order is counted.
 use borrow.Author.Needs.{needs}
-use mathlib.Core.Path.{ap, _∙_}
+use mathlib.Core.Path.{_≡_, ap, _∙_}
 use native.Mathlib.Omega.{arith}
+use Rattle.figures.specs.Limits.{maxTypes}
+use Rattle.book.specs.Format.{Bytes}
+use Rattle.book.specs.Check.{bookCheck, replyOf, Checked}
+use Rattle.book.specs.declared.BookCheck.{BookCheck}
 use Rattle.book.specs.declared.BookCheck.the-variants.{Accepted}
 use Rattle.book.proofs.Checking.{no-pairs, opened-rows, check-accepted, check-refused}
+use Rattle.book.proofs.Promises.{check-promised}
 use Rattle.book.proofs.check_book.Statement.{statement}
 use Rattle.book.proofs.check_book.Tie as tie
+
+-- An answer that is the book check's has what the book check promises.
+promised : (bytes : Bytes) {r : BookCheck} → r ≡ bookCheck bytes → (r ≡ bookCheck bytes) × Checked bytes (replyOf r)
+promised bytes e = (e, rw e (check-promised bytes))
 
 slice-aggregate-scan-book : tie.Need-slice-aggregate-scan-book
 slice-aggregate-scan-book c = search needs
@@ -17,7 +26,7 @@ slice-aggregate-scan-book-3 : tie.Need-slice-aggregate-scan-book-3
 slice-aggregate-scan-book-3 c = search needs
 
 scan-book-requires : tie.Need-scan-book-requires
-scan-book-requires c κs = (omega arith, no-pairs 64)
+scan-book-requires c κs = (omega arith, no-pairs maxTypes)
 
 enum-known-scan : tie.Need-enum-known-scan
 enum-known-scan c = search needs
@@ -34,12 +43,15 @@ count-pairs-requires : tie.Need-count-pairs-requires
 count-pairs-requires c κs = search needs
 
 returns : tie.Need-returns
-returns c = check-refused _ _ _ (rw (c .before .scan .given .1) at (c .before .before .before .before .before .before .scan-book .ensures))
+returns c =
+    promised (c .before .before .before .before .before .before .before .before .before .before .before .args .book .now)
+    (check-refused _ _ _ (rw (c .before .scan .given .1) at (c .before .before .before .before .before .before .scan-book .ensures)))
 
 returns-2 : tie.Need-returns-2
 returns-2 c =
     let o = rw (c .before .before .before .before .scan2 .given .1) at (c .before .before .before .before .before .before .before .before .before .scan-book .ensures) in
-    ap (Accepted (c .before .before .before .before .scan2 .given .0 .0) (c .before .before .before .before .scan2 .given .0 .1 .0)) (c .count-pairs .ensures) ∙ check-accepted _ _ _ _ _ (o .0) (o .1) _ (c .before .close .ensures)
+    promised (c .before .before .before .before .before .before .before .before .before .before .before .before .before .before .args .book .now)
+    (ap (Accepted (c .before .before .before .before .scan2 .given .0 .0) (c .before .before .before .before .scan2 .given .0 .1 .0)) (c .count-pairs .ensures) ∙ check-accepted _ _ _ _ _ (o .0) (o .1) _ (c .before .close .ensures))
 
 pub check-book-spec : {M : Type 1} → statement M
 check-book-spec =

@@ -4,6 +4,7 @@ use native.Mathlib.Numerals.{add-one}
 use native.Mathlib.Omega.{arith}
 use mathlib.Core.Path.{_≡_, refl, ap₂}
 use lib.ListN.{getD}
+use Rattle.figures.specs.Limits.{maxTypes}
 use Rattle.bits.specs.Bits.{size}
 use Rattle.bits.specs.Totals.{total}
 use Rattle.order.specs.Rows.{pairsIn}
@@ -11,10 +12,10 @@ use Rattle.order.proofs.count_pairs.Statement.{statement}
 use Rattle.order.proofs.count_pairs.Tie as tie
 
 abbrev Inv-loop : tie.InvT-loop
-Inv-loop rows sum₀ p₀ sum p = (p ≤ 64) × (sum ≤ 64 * p) × (sum ≡ total (λ k. size (getD rows k 0)) p)
+Inv-loop rows sum₀ p₀ sum p = (p ≤ maxTypes) × (sum ≤ 64 * p) × (sum ≡ total (λ k. size (getD rows k 0)) p)
 
 abbrev μ-loop : tie.MeasureT-loop
-μ-loop rows sum₀ p₀ sum p = 64 - p
+μ-loop rows sum₀ p₀ sum p = maxTypes - p
 
 loop-holds : tie.Need-loop-holds Inv-loop μ-loop
 unfolding total
@@ -48,7 +49,7 @@ returns : tie.Need-returns Inv-loop μ-loop
 unfolding pairsIn
 returns c =
     let l = c .before .loop in
-    let all : l .p ≡ 64 = omega arith in
+    let all : l .p ≡ maxTypes = omega arith in
     rw all at (l .inv .2)
 
 pub count-pairs-spec : {M : Type 1} → statement M

@@ -16,12 +16,12 @@ enum-known-of-types c = search needs
 
 returns : tie.Need-returns
 returns c =
-    let check = c .before .before .before .check-book .ensures in
+    let check = c .before .before .before .check-book .ensures .0 in
     refused-checks _ _ _ _ (sym (c .before .number .given .1) ∙ check)
 
 returns-2 : tie.Need-returns-2
 returns-2 c =
-    let check = c .before .before .before .check-book .ensures in
+    let check = c .before .before .before .check-book .ensures .0 in
     accepted-checks _ _ _ (sym (c .before .of-types .given .1) ∙ check)
 
 pub vurzhelik-check-book-spec : {M : Type 1} → statement M

@@ -4,13 +4,13 @@ use Prim.Native.Nat.{_≤_, _-_}
 use mathlib.Core.Path.{_≡_, refl, sym, _∙_}
 use lib.ListN.{length, drop}
 use borrow.Author.Tests.{not-true, not-false}
-use Rattle.book.specs.Format.{every, wordByte}
+use Rattle.book.specs.Format.{every, between}
 use Rattle.book.proofs.Every.{every-stop, every-pass, every-end}
 use Rattle.book.proofs.layout.all_word_bytes.Statement.{statement}
 use Rattle.book.proofs.layout.all_word_bytes.Tie as tie
 
 abbrev Inv-loop : tie.InvT-loop
-Inv-loop bytes i₀ i = (i ≤ length bytes) × (every wordByte bytes ≡ every wordByte (drop i bytes))
+Inv-loop bytes i₀ i = (i ≤ length bytes) × (every (between 33 126) bytes ≡ every (between 33 126) (drop i bytes))
 
 abbrev μ-loop : tie.MeasureT-loop
 μ-loop bytes i₀ i = length bytes - i
@@ -28,7 +28,7 @@ returns : tie.Need-returns Inv-loop μ-loop
 returns c =
     let l = c .before .before .before .before .loop in
     let bytes = c .before .before .before .before .before .before .args .bytes .now in
-    sym (l .inv .1 ∙ every-stop wordByte 0 bytes (l .i) (omega arith) (sym (c .before .is-word-byte .ensures) ∙ not-true _ (c .if1 .taken)))
+    sym (l .inv .1 ∙ every-stop (between 33 126) 0 bytes (l .i) (omega arith) (sym (c .before .is-word-byte .ensures) ∙ not-true _ (c .if1 .taken)))
 
 add-i : tie.Need-add-i Inv-loop μ-loop
 add-i c = omega arith
@@ -41,13 +41,13 @@ loop-again c =
     let l = c .before .before .before .before .loop in
     let bytes = c .before .before .before .before .before .before .args .bytes .now in (
       omega arith,
-      l .inv .1 ∙ every-pass wordByte 0 bytes (l .i) (omega arith) (sym (c .before .is-word-byte .ensures) ∙ not-false _ (c .if1 .left)),
+      l .inv .1 ∙ every-pass (between 33 126) 0 bytes (l .i) (omega arith) (sym (c .before .is-word-byte .ensures) ∙ not-false _ (c .if1 .left)),
     )
 
 returns-2 : tie.Need-returns-2 Inv-loop μ-loop
 returns-2 c =
     let l = c .before .loop in
-    sym (l .inv .1 ∙ every-end wordByte 0 (c .before .before .before .args .bytes .now) (l .i) (omega arith))
+    sym (l .inv .1 ∙ every-end (between 33 126) 0 (c .before .before .before .args .bytes .now) (l .i) (omega arith))
 
 pub all-word-bytes-spec : {M : Type 1} → statement M
 all-word-bytes-spec =

@@ -1,11 +1,10 @@
 -- `book::layout::body_at` meets its contract: the part from behind the head, as long as the head says.
 use borrow.Author.Needs.{needs}
 use native.Mathlib.Omega.{arith}
-use Prim.Native.Nat.{ℕ, _+_}
-use mathlib.Core.Path.{_≡_, ap}
-use lib.ListN.{take, drop}
 use Prim.Native.Nat.{ℕ, _+_, _-_}
 use mathlib.Core.Path.{_≡_, ap, _∙_}
+use lib.ListN.{take, drop}
+use Rattle.book.specs.Format.{headLength}
 use Rattle.book.proofs.layout.body_at.Statement.{statement}
 use Rattle.book.proofs.layout.body_at.Tie as tie
 
@@ -30,8 +29,8 @@ part-result-end c = search needs
 returns : tie.Need-returns
 returns c =
     let a = c .before .before .before .args in
-    let n : a .at + 4 + c .before .two-bytes .result - (a .at + 4) ≡ c .before .two-bytes .result = omega arith in
-    ap (λ (k : ℕ). take k (drop (a .at + 4) (a .book .now))) (n ∙ c .before .two-bytes .ensures .0)
+    let n : a .at + headLength + c .before .two-bytes .result - (a .at + headLength) ≡ c .before .two-bytes .result = omega arith in
+    ap (λ (k : ℕ). take k (drop (a .at + headLength) (a .book .now))) (n ∙ c .before .two-bytes .ensures .0)
 
 pub body-at-spec : {M : Type 1} → statement M
 body-at-spec =

@@ -1,11 +1,12 @@
 -- `book::layout::is_entry` meets its contract: the tests come in the order of the definition.
 use borrow.Author.Needs.{needs}
 use native.Mathlib.Omega.{arith}
-use Prim.Native.Nat.{ℕ, _-_}
+use Prim.Native.Nat.{ℕ, _-_, _*_}
 use mathlib.Core.Path.{ap, _∙_}
 use lib.Dec.{leb}
 use lib.ListN.{length}
 use borrow.Author.Tests.{not-true, not-false}
+use Rattle.figures.specs.Limits.{maxEntrySimples}
 use Rattle.book.proofs.Layouts.{entry-empty, entry-length-no, entry-past, word-test, entry-word-no, entry-odd, entry-end}
 use Rattle.book.proofs.layout.is_entry.Statement.{statement}
 use Rattle.book.proofs.layout.is_entry.Tie as tie
@@ -13,20 +14,20 @@ use Rattle.book.proofs.layout.is_entry.Tie as tie
 returns : tie.Need-returns
 returns c = entry-empty _ (omega arith)
 
-shared-slice-read-wide : tie.Need-shared-slice-read-wide
-shared-slice-read-wide c = search needs
+shared-slice-read-wide-byte : tie.Need-shared-slice-read-wide-byte
+shared-slice-read-wide-byte c = search needs
 
-wide-requires : tie.Need-wide-requires
-wide-requires c κs = search needs
+wide-byte-requires : tie.Need-wide-byte-requires
+wide-byte-requires c κs = search needs
 
 returns-2 : tie.Need-returns-2
-returns-2 c = let e = c .before .wide .ensures .0 in entry-length-no _ (omega arith)
+returns-2 c = let e = c .before .wide-byte .ensures .0 in entry-length-no _ (omega arith)
 
 returns-3 : tie.Need-returns-3
-returns-3 c = let e = c .before .before .wide .ensures .0 in entry-length-no _ (omega arith)
+returns-3 c = let e = c .before .before .wide-byte .ensures .0 in entry-length-no _ (omega arith)
 
 returns-4 : tie.Need-returns-4
-returns-4 c = let e = c .before .before .before .wide .ensures .0 in entry-past _ (omega arith) (omega arith)
+returns-4 c = let e = c .before .before .before .wide-byte .ensures .0 in entry-past _ (omega arith) (omega arith)
 
 add-all-word-bytes : tie.Need-add-all-word-bytes
 add-all-word-bytes c = search needs
@@ -45,7 +46,7 @@ all-word-bytes-requires c κs = search needs
 
 returns-5 : tie.Need-returns-5
 returns-5 c =
-    let w = c .before .before .before .before .before .before .wide in
+    let w = c .before .before .before .before .before .before .wide-byte in
     let word = word-test (c .before .before .before .before .before .before .before .before .before .before .args .body .now) (w .result) (w .ensures .0) _ (c .before .all-word-bytes .ensures) in
     entry-word-no _ (omega arith) (omega arith) (word ∙ not-true _ (c .if5 .taken))
 
@@ -57,7 +58,7 @@ sub-rest-2 c = search needs
 
 returns-6 : tie.Need-returns-6
 returns-6 c =
-    let w = c .before .before .before .before .before .before .before .wide in
+    let w = c .before .before .before .before .before .before .before .wide-byte in
     let word = word-test (c .before .before .before .before .before .before .before .before .before .before .before .args .body .now) (w .result) (w .ensures .0) _ (c .before .before .all-word-bytes .ensures) in
     entry-odd _ (omega arith) (omega arith) (word ∙ not-false _ (c .before .if5 .left)) (omega arith)
 
@@ -66,10 +67,10 @@ mul-result c = search needs
 
 returns-7 : tie.Need-returns-7
 returns-7 c =
-    let w = c .before .before .before .before .before .before .before .wide in
+    let w = c .before .before .before .before .before .before .before .wide-byte in
     let body = c .before .before .before .before .before .before .before .before .before .before .before .args .body .now in
     let word = word-test body (w .result) (w .ensures .0) _ (c .before .before .all-word-bytes .ensures) in
-    ap (λ (n : ℕ). leb (length body - 1 - n) 24) (w .ensures .0)
+    ap (λ (n : ℕ). leb (length body - 1 - n) (2 * maxEntrySimples)) (w .ensures .0)
     ∙ entry-end _ (omega arith) (omega arith) (word ∙ not-false _ (c .before .if5 .left)) (omega arith)
 
 pub is-entry-spec : {M : Type 1} → statement M
@@ -77,8 +78,8 @@ is-entry-spec =
     tie.close
     (tie.spec
     returns
-    shared-slice-read-wide
-    wide-requires
+    shared-slice-read-wide-byte
+    wide-byte-requires
     returns-2
     returns-3
     returns-4

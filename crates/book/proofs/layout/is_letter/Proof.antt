@@ -1,17 +1,18 @@
 -- `book::layout::is_letter` meets its contract: the range that led to each answer decides the test.
 use native.Mathlib.Omega.{arith}
-use Rattle.book.proofs.Bools.{letter-yes, letter-no}
+use mathlib.Core.Path.{sym}
+use Rattle.book.proofs.Bools.{inside, outside}
 use Rattle.book.proofs.layout.is_letter.Statement.{statement}
 use Rattle.book.proofs.layout.is_letter.Tie as tie
 
 returns : tie.Need-returns
-returns c = letter-yes _ (omega arith)
+returns c = sym (inside 97 122 (c .before .before .args .byte) (omega arith))
 
 returns-2 : tie.Need-returns-2
-returns-2 c = letter-no _ (omega arith)
+returns-2 c = sym (outside 97 122 (c .before .args .byte) (omega arith))
 
 returns-3 : tie.Need-returns-3
-returns-3 c = letter-no _ (omega arith)
+returns-3 c = sym (outside 97 122 (c .before .before .args .byte) (omega arith))
 
 pub is-letter-spec : {M : Type 1} → statement M
 is-letter-spec = tie.close (tie.spec returns returns-2 returns-3)

@@ -8,11 +8,11 @@ use Rattle.book.proofs.Layouts.{entry-shape}
 use Rattle.book.proofs.layout.word_part.Statement.{statement}
 use Rattle.book.proofs.layout.word_part.Tie as tie
 
-shared-slice-read-wide : tie.Need-shared-slice-read-wide
-shared-slice-read-wide c = let s = entry-shape _ (c .before .before .pre) in omega arith
+shared-slice-read-wide-byte : tie.Need-shared-slice-read-wide-byte
+shared-slice-read-wide-byte c = let s = entry-shape _ (c .before .before .pre) in omega arith
 
-wide-requires : tie.Need-wide-requires
-wide-requires c κs = search needs
+wide-byte-requires : tie.Need-wide-byte-requires
+wide-byte-requires c κs = search needs
 
 add-end : tie.Need-add-end
 add-end c = search needs
@@ -24,20 +24,20 @@ part-result-start : tie.Need-part-result-start
 part-result-start c = search needs
 
 part-result-end : tie.Need-part-result-end
-part-result-end c = let s = entry-shape _ (c .before .before .before .pre) in let e = c .wide .ensures .0 in omega arith
+part-result-end c = let s = entry-shape _ (c .before .before .before .pre) in let e = c .wide-byte .ensures .0 in omega arith
 
 returns : tie.Need-returns
 returns c =
     let body = c .before .before .before .before .args .body .now in
-    let n : 1 + c .before .wide .result - 1 ≡ c .before .wide .result = omega arith in
-    ap (λ (k : ℕ). take k (drop 1 body)) (n ∙ c .before .wide .ensures .0)
+    let n : 1 + c .before .wide-byte .result - 1 ≡ c .before .wide-byte .result = omega arith in
+    ap (λ (k : ℕ). take k (drop 1 body)) (n ∙ c .before .wide-byte .ensures .0)
 
 pub word-part-spec : {M : Type 1} → statement M
 word-part-spec =
     tie.close
     (tie.spec
-    shared-slice-read-wide
-    wide-requires
+    shared-slice-read-wide-byte
+    wide-byte-requires
     add-end
     sub-result
     part-result-start

@@ -37,7 +37,7 @@ use denote.Triple.Table.{entered, cited}
 use denote.Triple.Walked.{says, needs, Stays, stay-none, stay-none-slice, walkOf, goes-none, goes-none-slice, Walks, ends-at, walked, walk-meets}
 use denote.Exit.{yes}
 use denote.Triple.Clauses.{ensured, lasts}
-use Rattle.book.specs.Format.{recordFault}
+use Rattle.book.specs.Format.{recordRules, firstBroken}
 use Rattle.book.specs.Kept.{bodiesAt, Whole}
 use Rattle.book.specs.declared.RecordReader.{RecordReader}
 use Rattle.book.proofs.RecordReader as T
@@ -99,7 +99,7 @@ module _ {M : Type 1} (𝓤 : URA M) (H : Heap 𝓤) (A : Atoms 𝓤) (W : Given
   Asked s i = (i ≤ length (now s)) × Whole (now s) (now names) t
 
   abbrev found : RefT (List ℕ) → ℕ → ℕ
-  found s i = recordFault (now s) i (bodiesAt (now s) (now names) t) n seen
+  found s i = firstBroken (recordRules (now s) i (bodiesAt (now s) (now names) t) n seen)
 
   -- the reader's type as a local of a body has it
   abbrev αᵉ : NamedLft

@@ -42,7 +42,7 @@ use denote.Triple.Table.{entered, cited}
 use denote.Triple.Walked.{says, needs, Stays, stay-none, stay-none-slice, walkOf, goes-none, goes-none-slice, Walks, ends-at, walked, walk-meets}
 use denote.Exit.{yes}
 use denote.Triple.Clauses.{ensured, lasts}
-use Rattle.book.specs.Format.{recordFault}
+use Rattle.book.specs.Format.{recordRules, firstBroken}
 use Rattle.book.specs.Kept.{bodiesAt, Whole}
 use Rattle.book.specs.declared.RecordReader.{RecordReader}
 use Rattle.book.proofs.RecordReader as T
@@ -96,7 +96,7 @@ module _ {M : Type 1} (𝓤 : URA M) (H : Heap 𝓤) (A : Atoms 𝓤) (W : Given
   vals = (mach ∷ [], (v′ ∷ [], (vint w64 t ∷ [], (vint w64 n ∷ [], (vbool seen ∷ [], tt)))))
 
   abbrev found : ℕ
-  found = recordFault (now (d .book)) (d .at) (bodiesAt (now (d .book)) (now names) t) n seen
+  found = firstBroken (recordRules (now (d .book)) (d .at) (bodiesAt (now (d .book)) (now names) t) n seen)
 
   abbrev Post : Val → SProp 𝓤
   Post = walkOf 𝓤 H A next-fault.ended stayed (next-fault.clauses 𝓤 H A mem run) .post ((κs, (q, (q′, tt)), tt, args, vals), tt)

@@ -1,10 +1,11 @@
--- `book::records::scan_book` meets its contract: what is kept always stands for a draft from which the definition ends the same.
+-- `book::records::scan_book` meets its contract: what is kept always stands for what the good records hold.
 use native.Mathlib.Omega.{arith}
 use Prim.Native.Nat.{_-_}
 use mathlib.Core.Path.{_≡_}
 use lib.ListN.{length}
 use Rattle.book.specs.Format.{nextAt}
-use Rattle.book.proofs.Scanning.{Standing, too-long, standing-start, standing-next, standing-bad, standing-none, standing-some}
+use Rattle.book.proofs.Parsing.{long-refused}
+use Rattle.book.proofs.Scanning.{Standing, standing-start, standing-next, standing-bad, standing-none, standing-some}
 use Rattle.book.specs.Kept.{store}
 use Rattle.book.proofs.records.scan_book.Statement.{statement}
 use Rattle.book.proofs.records.scan_book.Tie as tie
@@ -16,7 +17,7 @@ abbrev μ-loop : tie.MeasureT-loop
 μ-loop book names₀ entries₀ direct₀ p₀ names entries direct p = length book - p .at
 
 returns : tie.Need-returns Inv-loop μ-loop
-returns c = too-long _ (omega arith)
+returns c = long-refused _ (omega arith)
 
 loop-holds : tie.Need-loop-holds Inv-loop μ-loop
 loop-holds c = let a = c .before .before .before .before .before .args in standing-start (a .book .now) (store (a .names .now) (a .entries .now) (a .direct .now)) (omega arith) (c .before .before .before .before .before .pre .0) (c .before .before .before .before .before .pre .1)

@@ -4,10 +4,10 @@ use native.Mathlib.Omega.{arith}
 use mathlib.Core.Path.{_≡_, sym, ap, _∙_}
 use Prim.Native.Nat.{ℕ, _+_, _<_, _≤_}
 use lib.ListN.{length, getD}
-use Rattle.book.specs.Format.{Bytes, basic-type, order-pair, entry, target, bodyAt, nextAt, kindAt}
+use Rattle.book.specs.Format.{Bytes, bodyAt, headLength, nextAt, kindAt}
 use Rattle.book.specs.Kept.{Store, store, Sound}
 use Rattle.book.specs.declared.Progress.{Progress}
-use Rattle.book.proofs.WholeRecords.{whole-length, kind-1, kind-2, kind-3}
+use Rattle.book.proofs.WholeRecords.{whole-length}
 use Rattle.book.proofs.Keeping.{Found, fault-kept, whole, name-place, entry-place, pair-place, target-place, kind-left, name-taken, entry-taken, pair-taken, target-taken}
 use Rattle.book.proofs.records.take_record.Statement.{statement}
 use Rattle.book.proofs.records.take_record.Tie as tie
@@ -49,23 +49,23 @@ module _ (c : tie.After-body-at) where
   second-byte : getD {A = ℕ} (c .body-at .result .now) 1 0 ≡ getD {A = ℕ} body 1 0
   second-byte = ap (λ (l : Bytes). getD {A = ℕ} l 1 0) (c .body-at .ensures)
 
-  next-is : p (c .before) .at + 4 + length (c .body-at .result .now) ≡ nextAt (bytes (c .before)) (p (c .before) .at)
-  next-is = ap (λ (m : ℕ). p (c .before) .at + 4 + m) (ap length (c .body-at .ensures) ∙ whole-length (bytes (c .before)) (p (c .before) .at) (all (c .before)))
+  next-is : p (c .before) .at + headLength + length (c .body-at .result .now) ≡ nextAt (bytes (c .before)) (p (c .before) .at)
+  next-is = ap (λ (m : ℕ). p (c .before) .at + headLength + m) (ap length (c .body-at .ensures) ∙ whole-length (bytes (c .before)) (p (c .before) .at) (all (c .before)))
 
 -- The kind of the record in each arm, and what the laws of Keeping say of it.
-name-kind : (c : tie.At-match-keys1) → kindAt (bytes (c .before .before .before)) (p (c .before .before .before) .at) ≡ basic-type
-name-kind c = kind-1 _ (sym (c .before .two-bytes .ensures .0) ∙ c .match .keys1)
+name-kind : (c : tie.At-match-keys1) → kindAt (bytes (c .before .before .before)) (p (c .before .before .before) .at) ≡ 1
+name-kind c = sym (c .before .two-bytes .ensures .0) ∙ c .match .keys1
 
-pair-kind : (c : tie.At-match-keys2) → kindAt (bytes (c .before .before .before)) (p (c .before .before .before) .at) ≡ order-pair
-pair-kind c = kind-2 _ (sym (c .before .two-bytes .ensures .0) ∙ c .match .keys2)
+pair-kind : (c : tie.At-match-keys2) → kindAt (bytes (c .before .before .before)) (p (c .before .before .before) .at) ≡ 2
+pair-kind c = sym (c .before .two-bytes .ensures .0) ∙ c .match .keys2
 
 pair-fits : (c : tie.At-match-keys2) → (length (body (c .before .before)) ≡ 2) × (getD {A = ℕ} (body (c .before .before)) 0 0 < p (c .before .before .before) .types) × (getD {A = ℕ} (body (c .before .before)) 1 0 < p (c .before .before .before) .types)
 pair-fits c = pair-place (bytes (c .before .before .before)) (kept (c .before .before .before)) (p (c .before .before .before)) (sound (c .before .before .before)) (found (c .before .before .before)) (pair-kind c)
 
-entry-kind : (c : tie.At-match-keys3) → kindAt (bytes (c .before .before .before)) (p (c .before .before .before) .at) ≡ entry
-entry-kind c = kind-3 _ (sym (c .before .two-bytes .ensures .0) ∙ c .match .keys3)
+entry-kind : (c : tie.At-match-keys3) → kindAt (bytes (c .before .before .before)) (p (c .before .before .before) .at) ≡ 3
+entry-kind c = sym (c .before .two-bytes .ensures .0) ∙ c .match .keys3
 
-target-kind : (c : tie.At-match-rest) → kindAt (bytes (c .before .before .before)) (p (c .before .before .before) .at) ≡ target
+target-kind : (c : tie.At-match-rest) → kindAt (bytes (c .before .before .before)) (p (c .before .before .before) .at) ≡ 4
 target-kind c =
     let none = c .match .rest in
     kind-left (bytes (c .before .before .before)) (kept (c .before .before .before)) (p (c .before .before .before)) (sound (c .before .before .before)) (found (c .before .before .before)) _ (c .before .two-bytes .ensures .0) (none .0 .0 .1) (none .0 .1) (none .1)
@@ -105,11 +105,11 @@ slice-write-names c = omega (arith, name-place (bytes (c .before .before .before
 add-t22 : tie.Need-add-t22
 add-t22 c = search needs
 
-shared-slice-read-wide : tie.Need-shared-slice-read-wide
-shared-slice-read-wide c = omega (arith, pair-fits (c .before) .0, ap length (c .before .before .before .body-at .ensures))
+shared-slice-read-wide-byte : tie.Need-shared-slice-read-wide-byte
+shared-slice-read-wide-byte c = omega (arith, pair-fits (c .before) .0, ap length (c .before .before .before .body-at .ensures))
 
-wide-requires : tie.Need-wide-requires
-wide-requires c κs = search needs
+wide-byte-requires : tie.Need-wide-byte-requires
+wide-byte-requires c κs = search needs
 
 mul-with : tie.Need-mul-with
 mul-with c = search needs
@@ -117,7 +117,7 @@ mul-with c = search needs
 slice-read-with : tie.Need-slice-read-with
 slice-read-with c =
     let s = sound (c .before .before .before .before .before .before) in
-    omega (arith, pair-fits (c .before .before .before) .1, s .few-types, s .roomy .rows, c .before .wide .ensures .0, first-byte (c .before .before .before .before .before))
+    omega (arith, pair-fits (c .before .before .before) .1, s .few-types, s .roomy .rows, c .before .wide-byte .ensures .0, first-byte (c .before .before .before .before .before))
 
 shared-slice-read-with : tie.Need-shared-slice-read-with
 shared-slice-read-with c = omega (arith, pair-fits (c .before .before .before .before) .0, ap length (c .before .before .before .before .before .before .body-at .ensures))
@@ -131,7 +131,7 @@ mul-direct c = search needs
 slice-write-direct : tie.Need-slice-write-direct
 slice-write-direct c =
     let s = sound (c .before .before .before .before .before .before .before .before) in
-    omega (arith, pair-fits (c .before .before .before .before .before) .1, s .few-types, s .roomy .rows, c .before .before .before .wide .ensures .0, first-byte (c .before .before .before .before .before .before .before))
+    omega (arith, pair-fits (c .before .before .before .before .before) .1, s .few-types, s .roomy .rows, c .before .before .before .wide-byte .ensures .0, first-byte (c .before .before .before .before .before .before .before))
 
 cast-entries : tie.Need-cast-entries
 cast-entries c = search needs
@@ -163,7 +163,7 @@ same-length-4 c = search needs
 returns-3 : tie.Need-returns-3
 returns-3 c =
     pair-taken (bytes (c .before .before .before .before .before .before .before .before)) (kept (c .before .before .before .before .before .before .before .before)) (p (c .before .before .before .before .before .before .before .before)) (sound (c .before .before .before .before .before .before .before .before)) (found (c .before .before .before .before .before .before .before .before)) _ (next-is (c .before .before .before .before .before .before .before)) (pair-kind (c .before .before .before .before .before)) _ _ _
-    (c .before .before .before .wide .ensures .0 ∙ first-byte (c .before .before .before .before .before .before .before)) (second-byte (c .before .before .before .before .before .before .before)) (c .with .ensures)
+    (c .before .before .before .wide-byte .ensures .0 ∙ first-byte (c .before .before .before .before .before .before .before)) (second-byte (c .before .before .before .before .before .before .before)) (c .with .ensures)
 
 same-length-5 : tie.Need-same-length-5
 same-length-5 c = search needs
@@ -196,8 +196,8 @@ take-record-spec =
     mul-names
     slice-write-names
     add-t22
-    shared-slice-read-wide
-    wide-requires
+    shared-slice-read-wide-byte
+    wide-byte-requires
     mul-with
     slice-read-with
     shared-slice-read-with

@@ -19,18 +19,18 @@ abbrev μ-loop : tie.MeasureT-loop
 loop-holds : tie.Need-loop-holds Inv-loop μ-loop
 loop-holds c = (omega arith, refl, c .before .pre, refl)
 
-shared-slice-read-wide : tie.Need-shared-slice-read-wide Inv-loop μ-loop
-shared-slice-read-wide c = omega arith
+shared-slice-read-wide-byte : tie.Need-shared-slice-read-wide-byte Inv-loop μ-loop
+shared-slice-read-wide-byte c = omega arith
 
-wide-requires : tie.Need-wide-requires Inv-loop μ-loop
-wide-requires c κs = omega arith
+wide-byte-requires : tie.Need-wide-byte-requires Inv-loop μ-loop
+wide-byte-requires c κs = omega arith
 
 returns : tie.Need-returns Inv-loop μ-loop
 returns c =
     let l = c .before .before .before .before .loop in
     let part = c .before .before .before .before .before .before .args .part .now in
     let types = c .before .before .before .before .before .before .args .types in
-    let e = c .before .wide .ensures .0 in
+    let e = c .before .wide-byte .ensures .0 in
     sym (l .inv .3 ∙ simples-stop (λ (x : Simple). x .base) (declaredAmong types) part (l .i) (omega arith) (le-ltb (getD {A = ℕ} part (l .i) 0) types (omega arith)))
 
 add-i : tie.Need-add-i Inv-loop μ-loop
@@ -44,7 +44,7 @@ loop-again c =
     let l = c .before .before .before .before .loop in
     let part = c .before .before .before .before .before .before .args .part .now in
     let types = c .before .before .before .before .before .before .args .types in
-    let e = c .before .wide .ensures .0 in
+    let e = c .before .wide-byte .ensures .0 in
     (omega arith, omega arith, l .inv .2, l .inv .3 ∙ simples-pass (λ (x : Simple). x .base) (declaredAmong types) part (l .i) (omega arith) (lt-ltb (getD {A = ℕ} part (l .i) 0) types (omega arith)))
 
 returns-2 : tie.Need-returns-2 Inv-loop μ-loop
@@ -60,8 +60,8 @@ all-declared-spec =
     Inv-loop
     μ-loop
     loop-holds
-    shared-slice-read-wide
-    wide-requires
+    shared-slice-read-wide-byte
+    wide-byte-requires
     returns
     add-i
     loop-less

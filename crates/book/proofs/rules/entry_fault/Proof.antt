@@ -1,10 +1,10 @@
 -- `book::rules::entry_fault` meets its contract: the tests come in the order of their numbers.
 use borrow.Author.Needs.{needs}
-use mathlib.Core.Path.{sym, refl, ap, _∙_}
+use mathlib.Core.Path.{sym, refl, ap, ap₂, _∙_}
 use borrow.Author.Tests.{not-true, not-false, le-leb, lt-leb}
 use Prim.Native.Nat.{ℕ}
-use mathlib.Core.Path.{ap₂}
 use native.Mathlib.Omega.{arith}
+use Rattle.figures.specs.Limits.{maxEntries}
 use Rattle.book.proofs.Layouts.{entry-shape}
 use Rattle.book.specs.Format.{Bytes, every, declaredAmong, bases, simplesOf, exponentListed, exponents}
 use Rattle.book.proofs.Faults.{entry-faults}
@@ -40,7 +40,7 @@ returns-4 c = λ names seen h.
 
 returns-5 : tie.Need-returns-5
 returns-5 c = λ names seen h.
-    sym (entry-faults _ names _ seen (sym (c .before .before .before .before .before .before .before .is-entry .ensures) ∙ not-false _ (c .before .before .before .before .before .before .if1 .left)) (ap₂ (λ (n : ℕ) (X : Bytes). every (declaredAmong n) (bases (simplesOf X))) h (sym (c .before .before .before .before .before .type-part .ensures)) ∙ sym (c .before .before .before .before .all-declared .ensures) ∙ not-false _ (c .before .before .before .if2 .left)) (ap (λ (X : Bytes). every exponentListed (exponents (simplesOf X))) (sym (c .before .before .before .before .before .type-part .ensures)) ∙ sym (c .before .before .all-exponents .ensures) ∙ not-false _ (c .before .if3 .left)) (lt-leb 1024 (c .before .before .before .before .before .before .before .before .before .args .entries) (omega arith)))
+    sym (entry-faults _ names _ seen (sym (c .before .before .before .before .before .before .before .is-entry .ensures) ∙ not-false _ (c .before .before .before .before .before .before .if1 .left)) (ap₂ (λ (n : ℕ) (X : Bytes). every (declaredAmong n) (bases (simplesOf X))) h (sym (c .before .before .before .before .before .type-part .ensures)) ∙ sym (c .before .before .before .before .all-declared .ensures) ∙ not-false _ (c .before .before .before .if2 .left)) (ap (λ (X : Bytes). every exponentListed (exponents (simplesOf X))) (sym (c .before .before .before .before .before .type-part .ensures)) ∙ sym (c .before .before .all-exponents .ensures) ∙ not-false _ (c .before .if3 .left)) (lt-leb maxEntries (c .before .before .before .before .before .before .before .before .before .args .entries) (omega arith)))
 
 pub entry-fault-spec : {M : Type 1} → statement M
 entry-fault-spec =

@@ -4,6 +4,7 @@ use mathlib.Core.Path.{sym, refl, _∙_}
 use borrow.Author.Tests.{not-true, not-false, le-leb, lt-leb}
 use lib.ListN.{length}
 use native.Mathlib.Omega.{arith}
+use Rattle.figures.specs.Limits.{maxTypes}
 use Rattle.book.proofs.Names.{bodies-length}
 use Rattle.book.specs.Kept.{bodiesAt}
 use Rattle.book.proofs.Faults.{name-faults}
@@ -27,14 +28,14 @@ returns-3 c =
     let a = c .before .before .before .before .before .before .before .before .args in
     let names = bodiesAt (a .book .now) (a .names .now) (a .types) in
     let count = bodies-length (a .book .now) (a .names .now) (a .types) (c .before .before .before .before .before .before .before .before .pre .room) in
-    λ entries seen. sym (name-faults _ names entries seen (sym (c .before .before .before .before .is-name .ensures) ∙ not-false _ (c .before .before .before .if1 .left)) (sym (c .before .before .name-used .ensures) ∙ c .before .if2 .left) (le-leb 64 (length names) (omega arith)))
+    λ entries seen. sym (name-faults _ names entries seen (sym (c .before .before .before .before .is-name .ensures) ∙ not-false _ (c .before .before .before .if1 .left)) (sym (c .before .before .name-used .ensures) ∙ c .before .if2 .left) (le-leb maxTypes (length names) (omega arith)))
 
 returns-4 : tie.Need-returns-4
 returns-4 c =
     let a = c .before .before .before .before .before .before .before .before .args in
     let names = bodiesAt (a .book .now) (a .names .now) (a .types) in
     let count = bodies-length (a .book .now) (a .names .now) (a .types) (c .before .before .before .before .before .before .before .before .pre .room) in
-    λ entries seen. sym (name-faults _ names entries seen (sym (c .before .before .before .before .is-name .ensures) ∙ not-false _ (c .before .before .before .if1 .left)) (sym (c .before .before .name-used .ensures) ∙ c .before .if2 .left) (lt-leb 64 (length names) (omega arith)))
+    λ entries seen. sym (name-faults _ names entries seen (sym (c .before .before .before .before .is-name .ensures) ∙ not-false _ (c .before .before .before .if1 .left)) (sym (c .before .before .name-used .ensures) ∙ c .before .if2 .left) (lt-leb maxTypes (length names) (omega arith)))
 
 pub name-fault-spec : {M : Type 1} → statement M
 name-fault-spec =

@@ -8,7 +8,7 @@ use Rattle.book.specs.Format.{Bytes, sameBytes}
 use Rattle.book.proofs.Names.{differs, same-test, bodies-length, name-found, name-other}
 use Rattle.book.proofs.Every.{every-end}
 use Rattle.book.specs.Kept.{bodiesAt}
-use Rattle.book.specs.Format.{every, bodyAt, nameUsed}
+use Rattle.book.specs.Format.{every, bodyAt}
 use Rattle.book.proofs.rules.name_used.Statement.{statement}
 use Rattle.book.proofs.rules.name_used.Tie as tie
 
@@ -21,30 +21,29 @@ abbrev μ-loop : tie.MeasureT-loop
 loop-holds : tie.Need-loop-holds Inv-loop μ-loop
 loop-holds c = (omega arith, refl)
 
-mul-offset : tie.Need-mul-offset Inv-loop μ-loop
-mul-offset c = omega arith
+mul-wide-number : tie.Need-mul-wide-number Inv-loop μ-loop
+mul-wide-number c = omega arith
 
-shared-slice-read-offset : tie.Need-shared-slice-read-offset Inv-loop μ-loop
-shared-slice-read-offset c = omega arith
+shared-slice-read-wide-number : tie.Need-shared-slice-read-wide-number Inv-loop μ-loop
+shared-slice-read-wide-number c = omega arith
 
-offset-requires : tie.Need-offset-requires Inv-loop μ-loop
-offset-requires c κs = omega arith
+wide-number-requires : tie.Need-wide-number-requires Inv-loop μ-loop
+wide-number-requires c κs = omega arith
 
 body-at-requires : tie.Need-body-at-requires Inv-loop μ-loop
 body-at-requires c κs =
     let a = c .before .before .before .before .before .before .before .args in
     let i = c .before .before .before .loop .i in
-    rw (c .offset .ensures) (c .before .before .before .before .before .before .before .pre .whole i (omega arith))
+    rw (c .wide-number .ensures) (c .before .before .before .before .before .before .before .pre .whole i (omega arith))
 
 same-requires : tie.Need-same-requires Inv-loop μ-loop
 same-requires c κs = omega arith
 
 returns : tie.Need-returns Inv-loop μ-loop
-unfolding nameUsed
 returns c =
     let a = c .before .before .before .before .before .before .before .before .before .before .args in
     let l = c .before .before .before .before .before .before .loop in
-    let found = ap (λ (X : Bytes). sameBytes (a .body .now) X) (sym (c .before .before .body-at .ensures ∙ ap (bodyAt (a .book .now)) (c .before .before .before .offset .ensures)))
+    let found = ap (λ (X : Bytes). sameBytes (a .body .now) X) (sym (c .before .before .body-at .ensures ∙ ap (bodyAt (a .book .now)) (c .before .before .before .wide-number .ensures)))
     ∙ same-test _ _ _ (c .before .same .ensures) in
     ap not (sym (l .inv .1 ∙ name-found (a .book .now) (a .names .now) (a .types) (c .before .before .before .before .before .before .before .before .before .before .pre .room) (a .body .now) (l .i) (omega arith) _ found (c .if1 .taken)))
 
@@ -58,12 +57,11 @@ loop-again : tie.Need-loop-again Inv-loop μ-loop
 loop-again c =
     let a = c .before .before .before .before .before .before .before .before .before .before .args in
     let l = c .before .before .before .before .before .before .loop in
-    let found = ap (λ (X : Bytes). sameBytes (a .body .now) X) (sym (c .before .before .body-at .ensures ∙ ap (bodyAt (a .book .now)) (c .before .before .before .offset .ensures)))
+    let found = ap (λ (X : Bytes). sameBytes (a .body .now) X) (sym (c .before .before .body-at .ensures ∙ ap (bodyAt (a .book .now)) (c .before .before .before .wide-number .ensures)))
     ∙ same-test _ _ _ (c .before .same .ensures) in
     (omega arith, l .inv .1 ∙ name-other (a .book .now) (a .names .now) (a .types) (c .before .before .before .before .before .before .before .before .before .before .pre .room) (a .body .now) (l .i) (omega arith) _ found (c .if1 .left))
 
 returns-2 : tie.Need-returns-2 Inv-loop μ-loop
-unfolding nameUsed
 returns-2 c =
     let a = c .before .before .before .before .before .args in
     let l = c .before .loop in
@@ -76,9 +74,9 @@ name-used-spec =
     Inv-loop
     μ-loop
     loop-holds
-    mul-offset
-    shared-slice-read-offset
-    offset-requires
+    mul-wide-number
+    shared-slice-read-wide-number
+    wide-number-requires
     body-at-requires
     same-requires
     returns

@@ -11,36 +11,36 @@ use Rattle.book.proofs.rules.pair_fault.Tie as tie
 returns : tie.Need-returns
 returns c = λ names entries seen h. sym (pair-faults _ names entries seen (ne-eqb _ _ (c .if1 .taken)) refl)
 
-shared-slice-read-wide : tie.Need-shared-slice-read-wide
-shared-slice-read-wide c = search needs
+shared-slice-read-wide-byte : tie.Need-shared-slice-read-wide-byte
+shared-slice-read-wide-byte c = search needs
 
-wide-requires : tie.Need-wide-requires
-wide-requires c κs = search needs
+wide-byte-requires : tie.Need-wide-byte-requires
+wide-byte-requires c κs = search needs
 
 returns-2 : tie.Need-returns-2
 returns-2 c =
     let body = c .before .before .before .before .before .args .body .now in
-    let e0 = c .before .wide .ensures .0 in
+    let e0 = c .before .wide-byte .ensures .0 in
     λ names entries seen h. sym (pair-faults body names entries seen (eq-eqb (length body) 2 (omega arith)) (two-first-no (length names) body (omega arith) (omega arith)))
 
-shared-slice-read-wide-2 : tie.Need-shared-slice-read-wide-2
-shared-slice-read-wide-2 c = search needs
+shared-slice-read-wide-byte-2 : tie.Need-shared-slice-read-wide-byte-2
+shared-slice-read-wide-byte-2 c = search needs
 
-wide-requires-2 : tie.Need-wide-requires-2
-wide-requires-2 c κs = search needs
+wide-byte-requires-2 : tie.Need-wide-byte-requires-2
+wide-byte-requires-2 c κs = search needs
 
 returns-3 : tie.Need-returns-3
 returns-3 c =
     let body = c .before .before .before .before .before .before .before .before .args .body .now in
-    let e0 = c .before .wide2 .ensures .0 in
-    let e1 = c .before .before .before .before .wide .ensures .0 in
+    let e0 = c .before .wide-byte2 .ensures .0 in
+    let e1 = c .before .before .before .before .wide-byte .ensures .0 in
     λ names entries seen h. sym (pair-faults body names entries seen (eq-eqb (length body) 2 (omega arith)) (two-second-no (length names) body (omega arith) (omega arith) (omega arith)))
 
 returns-4 : tie.Need-returns-4
 returns-4 c =
     let body = c .before .before .before .before .before .before .before .before .args .body .now in
-    let e0 = c .before .wide2 .ensures .0 in
-    let e1 = c .before .before .before .before .wide .ensures .0 in
+    let e0 = c .before .wide-byte2 .ensures .0 in
+    let e1 = c .before .before .before .before .wide-byte .ensures .0 in
     λ names entries seen h. sym (pair-faults body names entries seen (eq-eqb (length body) 2 (omega arith)) (two-yes (length names) body (omega arith) (omega arith) (omega arith)))
 
 pub pair-fault-spec : {M : Type 1} → statement M
@@ -48,10 +48,10 @@ pair-fault-spec =
     tie.close
     (tie.spec
     returns
-    shared-slice-read-wide
-    wide-requires
+    shared-slice-read-wide-byte
+    wide-byte-requires
     returns-2
-    shared-slice-read-wide-2
-    wide-requires-2
+    shared-slice-read-wide-byte-2
+    wide-byte-requires-2
     returns-3
     returns-4)

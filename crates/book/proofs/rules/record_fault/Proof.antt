@@ -1,8 +1,8 @@
 -- `book::rules::record_fault` meets its contract: a cut record is 2, and any other has the fault of its body by its kind.
 use borrow.Author.Needs.{needs}
 use native.Mathlib.Omega.{arith}
-use mathlib.Core.Path.{sym, _∙_}
-use Rattle.book.proofs.WholeRecords.{cut-head, cut-body, kind-1, kind-2, kind-3, kind-4, kind-other, record-cut, record-whole}
+use mathlib.Core.Path.{refl, sym, _∙_}
+use Rattle.book.proofs.WholeRecords.{cut-head, cut-body, kind-other, record-cut, record-whole}
 use Rattle.book.proofs.Faults.{unlisted-faults}
 use Rattle.book.proofs.Names.{bodies-length}
 use Rattle.book.specs.Kept.{bodiesAt}
@@ -53,7 +53,7 @@ returns-3 c =
     let a = c .before .before .before .before .before .before .before .before .before .args in
     let names = bodiesAt (a .book .now) (a .names .now) (a .types) in
     let count = bodies-length (a .book .now) (a .names .now) (a .types) (c .before .before .before .before .before .before .before .before .before .pre .1 .room) in
-    let kind = kind-1 _ (sym (c .before .before .two-bytes2 .ensures .0) ∙ c .before .match .keys1) in
+    let kind = sym (c .before .before .two-bytes2 .ensures .0) ∙ c .before .match .keys1 in
     (rw (c .before .before .before .body-at .ensures) at (c .name-fault .ensures (a .entries) (a .seen)))
     ∙ record-whole (a .book .now) (a .at) names (a .entries) (a .seen) (omega (arith, c .before .before .before .before .before .two-bytes .ensures .0)) kind
 
@@ -62,7 +62,7 @@ returns-4 c =
     let a = c .before .before .before .before .before .before .before .before .before .args in
     let names = bodiesAt (a .book .now) (a .names .now) (a .types) in
     let count = bodies-length (a .book .now) (a .names .now) (a .types) (c .before .before .before .before .before .before .before .before .before .pre .1 .room) in
-    let kind = kind-2 _ (sym (c .before .before .two-bytes2 .ensures .0) ∙ c .before .match .keys2) in
+    let kind = sym (c .before .before .two-bytes2 .ensures .0) ∙ c .before .match .keys2 in
     (rw (c .before .before .before .body-at .ensures) at (c .pair-fault .ensures names (a .entries) (a .seen) count))
     ∙ record-whole (a .book .now) (a .at) names (a .entries) (a .seen) (omega (arith, c .before .before .before .before .before .two-bytes .ensures .0)) kind
 
@@ -71,7 +71,7 @@ returns-5 c =
     let a = c .before .before .before .before .before .before .before .before .before .args in
     let names = bodiesAt (a .book .now) (a .names .now) (a .types) in
     let count = bodies-length (a .book .now) (a .names .now) (a .types) (c .before .before .before .before .before .before .before .before .before .pre .1 .room) in
-    let kind = kind-3 _ (sym (c .before .before .two-bytes2 .ensures .0) ∙ c .before .match .keys3) in
+    let kind = sym (c .before .before .two-bytes2 .ensures .0) ∙ c .before .match .keys3 in
     (rw (c .before .before .before .body-at .ensures) at (c .entry-fault .ensures names (a .seen) count))
     ∙ record-whole (a .book .now) (a .at) names (a .entries) (a .seen) (omega (arith, c .before .before .before .before .before .two-bytes .ensures .0)) kind
 
@@ -80,7 +80,7 @@ returns-6 c =
     let a = c .before .before .before .before .before .before .before .before .before .args in
     let names = bodiesAt (a .book .now) (a .names .now) (a .types) in
     let count = bodies-length (a .book .now) (a .names .now) (a .types) (c .before .before .before .before .before .before .before .before .before .pre .1 .room) in
-    let kind = kind-4 _ (sym (c .before .before .two-bytes2 .ensures .0) ∙ c .before .match .keys4) in
+    let kind = sym (c .before .before .two-bytes2 .ensures .0) ∙ c .before .match .keys4 in
     (rw (c .before .before .before .body-at .ensures) at (c .target-fault .ensures names (a .entries) count))
     ∙ record-whole (a .book .now) (a .at) names (a .entries) (a .seen) (omega (arith, c .before .before .before .before .before .two-bytes .ensures .0)) kind
 
@@ -90,10 +90,10 @@ returns-7 c =
     let names = bodiesAt (a .book .now) (a .names .now) (a .types) in
     let read = c .before .two-bytes2 .ensures .0 in
     let none = c .match .rest in
-    let kind =
+    let other =
     kind-other _ (λ e. none .0 .0 .0 .1 (read ∙ e)) (λ e. none .0 .0 .1 (read ∙ e)) (λ e. none .0 .1 (read ∙ e)) (λ e. none .1 (read ∙ e)) in
-    sym (unlisted-faults _ names (a .entries) (a .seen))
-    ∙ record-whole (a .book .now) (a .at) names (a .entries) (a .seen) (omega (arith, c .before .before .before .before .two-bytes .ensures .0)) kind
+    sym (unlisted-faults _ names (a .entries) (a .seen) _ other)
+    ∙ record-whole (a .book .now) (a .at) names (a .entries) (a .seen) (omega (arith, c .before .before .before .before .two-bytes .ensures .0)) refl
 
 pub record-fault-spec : {M : Type 1} → statement M
 record-fault-spec =

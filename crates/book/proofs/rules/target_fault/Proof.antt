@@ -11,33 +11,33 @@ use Rattle.book.proofs.rules.target_fault.Tie as tie
 returns : tie.Need-returns
 returns c = λ names entries h. sym (target-faults _ names entries _ (ne-eqb _ _ (c .if1 .taken)) refl)
 
-shared-slice-read-wide : tie.Need-shared-slice-read-wide
-shared-slice-read-wide c = search needs
+shared-slice-read-wide-byte : tie.Need-shared-slice-read-wide-byte
+shared-slice-read-wide-byte c = search needs
 
-wide-requires : tie.Need-wide-requires
-wide-requires c κs = search needs
+wide-byte-requires : tie.Need-wide-byte-requires
+wide-byte-requires c κs = search needs
 
 returns-2 : tie.Need-returns-2
 returns-2 c =
     let a = c .before .before .before .before .before .args in
     let body = a .body .now in
-    let e0 = c .before .wide .ensures .0 in
+    let e0 = c .before .wide-byte .ensures .0 in
     λ names entries h. sym (target-faults body names entries (a .seen) (eq-eqb (length body) 1 (omega arith)) (one-no (length names) body (omega arith) (omega arith)))
 
 returns-3 : tie.Need-returns-3
 returns-3 c =
     let a = c .before .before .before .before .before .before .args in
     let body = a .body .now in
-    let e0 = c .before .before .wide .ensures .0 in
+    let e0 = c .before .before .wide-byte .ensures .0 in
     λ names entries h. rw (c .if3 .taken) (sym (target-faults body names entries _ (eq-eqb (length body) 1 (omega arith)) (one-yes (length names) body (omega arith) (omega arith))))
 
 returns-4 : tie.Need-returns-4
 returns-4 c =
     let a = c .before .before .before .before .before .before .args in
     let body = a .body .now in
-    let e0 = c .before .before .wide .ensures .0 in
+    let e0 = c .before .before .wide-byte .ensures .0 in
     λ names entries h. rw (c .if3 .left) (sym (target-faults body names entries _ (eq-eqb (length body) 1 (omega arith)) (one-yes (length names) body (omega arith) (omega arith))))
 
 pub target-fault-spec : {M : Type 1} → statement M
 target-fault-spec =
-    tie.close (tie.spec returns shared-slice-read-wide wide-requires returns-2 returns-3 returns-4)
+    tie.close (tie.spec returns shared-slice-read-wide-byte wide-byte-requires returns-2 returns-3 returns-4)

@@ -19,44 +19,44 @@ loop-holds c =
     let a = c .before .before .before .before .before .before .before .args in
     entering-start (a .book .now) (a .offsets .now) (a .found .now) (a .n) (a .boundary) (a .p) (cells (a .simples .now) (a .nexts .now) (a .enters .now) (a .numbers .now)) (c .before .before .before .before .before .before .before .pre)
 
-mul-offset : tie.Need-mul-offset Inv-loop μ-loop
-mul-offset c = omega (arith, c .loop-test .taken, c .before .before .before .before .before .before .before .before .before .pre .named .few, c .before .before .before .before .before .before .before .before .before .pre .lexicon .entries .few)
+mul-wide-number : tie.Need-mul-wide-number Inv-loop μ-loop
+mul-wide-number c = omega (arith, c .loop-test .taken, c .before .before .before .before .before .before .before .before .before .pre .named .few, c .before .before .before .before .before .before .before .before .before .pre .lexicon .entries .few)
 
-shared-slice-read-offset : tie.Need-shared-slice-read-offset Inv-loop μ-loop
-shared-slice-read-offset c = omega (arith, c .before .loop-test .taken, c .before .before .before .before .before .before .before .before .before .before .pre .named .room)
+shared-slice-read-wide-number : tie.Need-shared-slice-read-wide-number Inv-loop μ-loop
+shared-slice-read-wide-number c = omega (arith, c .before .loop-test .taken, c .before .before .before .before .before .before .before .before .before .before .pre .named .room)
 
-offset-requires : tie.Need-offset-requires Inv-loop μ-loop
-offset-requires c κs = omega arith
+wide-number-requires : tie.Need-wide-number-requires Inv-loop μ-loop
+wide-number-requires c κs = omega arith
 
-mul-offset-2 : tie.Need-mul-offset-2 Inv-loop μ-loop
-mul-offset-2 c =
+mul-wide-number-2 : tie.Need-mul-wide-number-2 Inv-loop μ-loop
+mul-wide-number-2 c =
     let low = c .before .before .before .before .before .before .before .before .before .before .before .pre .named .low (c .before .before .before .loop .k) (c .before .before .loop-test .taken) in
-    omega (arith, low, c .offset .ensures, c .before .before .before .before .before .before .before .before .before .before .before .pre .lexicon .entries .few)
+    omega (arith, low, c .wide-number .ensures, c .before .before .before .before .before .before .before .before .before .before .before .pre .lexicon .entries .few)
 
-shared-slice-read-offset-2 : tie.Need-shared-slice-read-offset-2 Inv-loop μ-loop
-shared-slice-read-offset-2 c =
+shared-slice-read-wide-number-2 : tie.Need-shared-slice-read-wide-number-2 Inv-loop μ-loop
+shared-slice-read-wide-number-2 c =
     let low = c .before .before .before .before .before .before .before .before .before .before .before .before .pre .named .low (c .before .before .before .before .loop .k) (c .before .before .before .loop-test .taken) in
-    omega (arith, low, c .before .offset .ensures, c .before .before .before .before .before .before .before .before .before .before .before .before .pre .lexicon .entries .whole .room)
+    omega (arith, low, c .before .wide-number .ensures, c .before .before .before .before .before .before .before .before .before .before .before .before .pre .lexicon .entries .whole .room)
 
-offset-requires-2 : tie.Need-offset-requires-2 Inv-loop μ-loop
-offset-requires-2 c κs = omega arith
+wide-number-requires-2 : tie.Need-wide-number-requires-2 Inv-loop μ-loop
+wide-number-requires-2 c κs = omega arith
 
 body-at-requires : tie.Need-body-at-requires Inv-loop μ-loop
 body-at-requires c κs =
     let low = c .before .before .before .before .before .before .before .before .before .before .before .before .before .pre .named .low (c .before .before .before .before .before .loop .k) (c .before .before .before .before .loop-test .taken) in
-    rw (c .offset2 .ensures, c .before .before .offset .ensures) (c .before .before .before .before .before .before .before .before .before .before .before .before .before .pre .lexicon .entries .whole .whole _ low)
+    rw (c .wide-number2 .ensures, c .before .before .wide-number .ensures) (c .before .before .before .before .before .before .before .before .before .before .before .before .before .pre .lexicon .entries .whole .whole _ low)
 
 type-part-requires : tie.Need-type-part-requires Inv-loop μ-loop
 type-part-requires c κs =
     let low = c .before .before .before .before .before .before .before .before .before .before .before .before .before .before .pre .named .low (c .before .before .before .before .before .before .loop .k) (c .before .before .before .before .before .loop-test .taken) in
-    rw (c .body-at .ensures, c .before .offset2 .ensures, c .before .before .before .offset .ensures) (c .before .before .before .before .before .before .before .before .before .before .before .before .before .before .pre .lexicon .entries .layouts _ low)
+    rw (c .body-at .ensures, c .before .wide-number2 .ensures, c .before .before .before .wide-number .ensures) (c .before .before .before .before .before .before .before .before .before .before .before .before .before .before .pre .lexicon .entries .layouts _ low)
 
 lay-slot-requires : tie.Need-lay-slot-requires Inv-loop μ-loop
 lay-slot-requires c κs =
     let a = c .before .before .before .before .before .before .before .before .before .before .before .before .before .before .before .before .before .before .before .args in
     let l = c .before .before .before .before .before .before .before .before .before .before .before .loop in
-    let part = rw (c .before .before .before .before .before .body-at .ensures, c .before .before .before .before .before .before .offset2 .ensures) at (c .before .before .before .before .type-part .ensures) in
-    entering-fits (a .book .now) (a .offsets .now) (a .found .now) (a .n) (a .boundary) (a .p) (cells (a .simples .now) (a .nexts .now) (a .enters .now) (a .numbers .now)) (c .before .before .before .before .before .before .before .before .before .before .before .before .before .before .before .before .before .before .before .pre) (l .place) (cells (l .simples) (l .nexts) (l .enters) (l .numbers)) (l .k) (l .inv) (c .before .before .before .before .before .before .before .before .before .before .loop-test .taken) (c .before .before .before .before .before .before .before .before .offset .result) (c .before .before .before .before .before .before .before .before .offset .ensures) (c .before .before .before .before .type-part .result .now) part
+    let part = rw (c .before .before .before .before .before .body-at .ensures, c .before .before .before .before .before .before .wide-number2 .ensures) at (c .before .before .before .before .type-part .ensures) in
+    entering-fits (a .book .now) (a .offsets .now) (a .found .now) (a .n) (a .boundary) (a .p) (cells (a .simples .now) (a .nexts .now) (a .enters .now) (a .numbers .now)) (c .before .before .before .before .before .before .before .before .before .before .before .before .before .before .before .before .before .before .before .pre) (l .place) (cells (l .simples) (l .nexts) (l .enters) (l .numbers)) (l .k) (l .inv) (c .before .before .before .before .before .before .before .before .before .before .loop-test .taken) (c .before .before .before .before .before .before .before .before .wide-number .result) (c .before .before .before .before .before .before .before .before .wide-number .ensures) (c .before .before .before .before .type-part .result .now) part
 
 add-k : tie.Need-add-k Inv-loop μ-loop
 add-k c = omega (arith, c .before .before .before .before .before .before .before .before .before .before .before .before .before .before .before .before .before .before .before .loop-test .taken, c .before .before .before .before .before .before .before .before .before .before .before .before .before .before .before .before .before .before .before .before .before .before .before .before .before .before .before .before .pre .named .few, c .before .before .before .before .before .before .before .before .before .before .before .before .before .before .before .before .before .before .before .before .before .before .before .before .before .before .before .before .pre .lexicon .entries .few)
@@ -68,11 +68,11 @@ loop-again : tie.Need-loop-again Inv-loop μ-loop
 loop-again c =
     let a = c .before .before .before .before .before .before .before .before .before .before .before .before .before .before .before .before .before .before .before .before .before .before .before .before .before .before .before .before .args in
     let l = c .before .before .before .before .before .before .before .before .before .before .before .before .before .before .before .before .before .before .before .before .loop in
-    let part = rw (c .before .before .before .before .before .before .before .before .before .before .before .before .before .before .body-at .ensures, c .before .before .before .before .before .before .before .before .before .before .before .before .before .before .before .offset2 .ensures) at (c .before .before .before .before .before .before .before .before .before .before .before .before .before .type-part .ensures) in
+    let part = rw (c .before .before .before .before .before .before .before .before .before .before .before .before .before .before .body-at .ensures, c .before .before .before .before .before .before .before .before .before .before .before .before .before .before .before .wide-number2 .ensures) at (c .before .before .before .before .before .before .before .before .before .before .before .before .before .type-part .ensures) in
     let m = c .before .before .before .before .before .before .before .before .lay-slot .last .1 .1 .1 .1 in
     record {
       inside = omega (arith, c .before .before .before .before .before .before .before .before .before .before .before .before .before .before .before .before .before .before .before .loop-test .taken);
-      lays = entering-next (a .book .now) (a .offsets .now) (a .found .now) (a .n) (a .boundary) (a .p) (cells (a .simples .now) (a .nexts .now) (a .enters .now) (a .numbers .now)) (c .before .before .before .before .before .before .before .before .before .before .before .before .before .before .before .before .before .before .before .before .before .before .before .before .before .before .before .before .pre) (l .place) (cells (l .simples) (l .nexts) (l .enters) (l .numbers)) (l .k) (l .inv) (c .before .before .before .before .before .before .before .before .before .before .before .before .before .before .before .before .before .before .before .loop-test .taken) (c .before .before .before .before .before .before .before .before .before .before .before .before .before .before .before .before .before .offset .result) (c .before .before .before .before .before .before .before .before .before .before .before .before .before .before .before .before .before .offset .ensures) (c .before .before .before .before .before .before .before .before .before .before .before .before .before .type-part .result .now) part (c .before .before .before .before .before .before .before .before .lay-slot .result) (cells (m .0) (m .1 .0) (m .1 .1 .0) (m .1 .1 .1 .0)) (c .before .before .before .before .before .before .before .before .lay-slot .ensures);
+      lays = entering-next (a .book .now) (a .offsets .now) (a .found .now) (a .n) (a .boundary) (a .p) (cells (a .simples .now) (a .nexts .now) (a .enters .now) (a .numbers .now)) (c .before .before .before .before .before .before .before .before .before .before .before .before .before .before .before .before .before .before .before .before .before .before .before .before .before .before .before .before .pre) (l .place) (cells (l .simples) (l .nexts) (l .enters) (l .numbers)) (l .k) (l .inv) (c .before .before .before .before .before .before .before .before .before .before .before .before .before .before .before .before .before .before .before .loop-test .taken) (c .before .before .before .before .before .before .before .before .before .before .before .before .before .before .before .before .before .wide-number .result) (c .before .before .before .before .before .before .before .before .before .before .before .before .before .before .before .before .before .wide-number .ensures) (c .before .before .before .before .before .before .before .before .before .before .before .before .before .type-part .result .now) part (c .before .before .before .before .before .before .before .before .lay-slot .result) (cells (m .0) (m .1 .0) (m .1 .1 .0) (m .1 .1 .1 .0)) (c .before .before .before .before .before .before .before .before .lay-slot .ensures);
       simples-length = omega (arith, l .inv .simples-length);
       nexts-length = omega (arith, l .inv .nexts-length);
       enters-length = omega (arith, l .inv .enters-length);
@@ -104,12 +104,12 @@ lay-entries-spec =
     Inv-loop
     μ-loop
     loop-holds
-    mul-offset
-    shared-slice-read-offset
-    offset-requires
-    mul-offset-2
-    shared-slice-read-offset-2
-    offset-requires-2
+    mul-wide-number
+    shared-slice-read-wide-number
+    wide-number-requires
+    mul-wide-number-2
+    shared-slice-read-wide-number-2
+    wide-number-requires-2
     body-at-requires
     type-part-requires
     lay-slot-requires

@@ -17,19 +17,19 @@ abbrev μ-loop : tie.MeasureT-loop
 loop-holds : tie.Need-loop-holds Inv-loop μ-loop
 loop-holds c = let a = c .before .before .before .before .args in (finding-start (a .book .now) (a .offsets .now) (a .count) (a .word .now) (a .found .now), refl)
 
-mul-offset : tie.Need-mul-offset Inv-loop μ-loop
-mul-offset c = omega arith
+mul-wide-number : tie.Need-mul-wide-number Inv-loop μ-loop
+mul-wide-number c = omega arith
 
-shared-slice-read-offset : tie.Need-shared-slice-read-offset Inv-loop μ-loop
-shared-slice-read-offset c = omega (arith, c .before .before .before .before .before .before .before .pre .0 .whole .room)
+shared-slice-read-wide-number : tie.Need-shared-slice-read-wide-number Inv-loop μ-loop
+shared-slice-read-wide-number c = omega (arith, c .before .before .before .before .before .before .before .pre .0 .whole .room)
 
-offset-requires : tie.Need-offset-requires Inv-loop μ-loop
-offset-requires c κs = omega arith
+wide-number-requires : tie.Need-wide-number-requires Inv-loop μ-loop
+wide-number-requires c κs = omega arith
 
 belongs-requires : tie.Need-belongs-requires Inv-loop μ-loop
 belongs-requires c κs =
     let kept = c .before .before .before .before .before .before .before .before .pre .0 in
-    rw (c .offset .ensures) (kept .whole .whole (c .before .before .before .loop .i) (c .before .before .loop-test .taken), kept .layouts (c .before .before .before .loop .i) (c .before .before .loop-test .taken))
+    rw (c .wide-number .ensures) (kept .whole .whole (c .before .before .before .loop .i) (c .before .before .loop-test .taken), kept .layouts (c .before .before .before .loop .i) (c .before .before .loop-test .taken))
 
 cast-found : tie.Need-cast-found Inv-loop μ-loop
 cast-found c = omega (arith, c .before .before .before .before .loop-test .taken, c .before .before .before .before .before .before .before .before .before .before .pre .0 .few)
@@ -54,7 +54,7 @@ loop-again c =
     let a = c .before .before .before .before .before .before .before .before .before .before .args in
     let kept = c .before .before .before .before .before .before .before .before .before .before .pre .0 in
     let l = c .before .before .before .before .before .loop in
-    let says = rw (c .before .before .offset .ensures) at (c .before .belongs .ensures) in
+    let says = rw (c .before .before .wide-number .ensures) at (c .before .belongs .ensures) in
     let room : l .n < length (l .found) = omega (arith, l .inv .0 .few, c .before .before .before .before .loop-test .taken, c .before .before .before .before .before .before .before .before .before .before .pre .1, l .inv .1) in
     ⊎-elim
     (λ w. rw (w .1, w .2) (finding-same (a .book .now) (a .offsets .now) (a .count) (a .word .now) kept (l .found) (l .n) (l .i) (l .inv .0) (c .before .before .before .before .loop-test .taken) room says (w .0 .taken), length-set (l .found) (l .n) (l .i) ∙ l .inv .1))
@@ -77,9 +77,9 @@ find-entries-spec =
     Inv-loop
     μ-loop
     loop-holds
-    mul-offset
-    shared-slice-read-offset
-    offset-requires
+    mul-wide-number
+    shared-slice-read-wide-number
+    wide-number-requires
     belongs-requires
     cast-found
     mul-found

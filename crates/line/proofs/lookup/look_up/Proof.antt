@@ -6,7 +6,8 @@ use lib.ListN.{length}
 use Rattle.line.proofs.LineLaws.{Looking, looking-start, looking-none, looking-next, looking-full, looking-end}
 use Rattle.line.specs.LookUp.{entriesKept}
 use Rattle.line.specs.Split.{SplitInto}
-use Rattle.book.specs.Format.{Book, maxEntries}
+use Rattle.figures.specs.Limits.{maxEntries}
+use Rattle.book.specs.Format.{Book}
 use Rattle.line.proofs.lookup.look_up.Statement.{statement}
 use Rattle.line.proofs.lookup.look_up.Tie as tie
 

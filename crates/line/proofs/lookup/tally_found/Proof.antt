@@ -15,37 +15,37 @@ abbrev μ-loop : tie.MeasureT-loop
 loop-holds : tie.Need-loop-holds Inv-loop μ-loop
 loop-holds c = let a = c .before .before .before .args in tally-start (a .book .now) (a .offsets .now) (a .found .now) (a .n)
 
-mul-offset : tie.Need-mul-offset Inv-loop μ-loop
-mul-offset c = omega arith
+mul-wide-number : tie.Need-mul-wide-number Inv-loop μ-loop
+mul-wide-number c = omega arith
 
-shared-slice-read-offset : tie.Need-shared-slice-read-offset Inv-loop μ-loop
-shared-slice-read-offset c = omega (arith, c .before .before .before .before .before .before .pre .numbers .room)
+shared-slice-read-wide-number : tie.Need-shared-slice-read-wide-number Inv-loop μ-loop
+shared-slice-read-wide-number c = omega (arith, c .before .before .before .before .before .before .pre .numbers .room)
 
-offset-requires : tie.Need-offset-requires Inv-loop μ-loop
-offset-requires c κs = omega arith
+wide-number-requires : tie.Need-wide-number-requires Inv-loop μ-loop
+wide-number-requires c κs = omega arith
 
-mul-offset-2 : tie.Need-mul-offset-2 Inv-loop μ-loop
-mul-offset-2 c =
+mul-wide-number-2 : tie.Need-mul-wide-number-2 Inv-loop μ-loop
+mul-wide-number-2 c =
     let low = c .before .before .before .before .before .before .before .pre .numbers .low (c .before .before .before .loop .k) (c .before .before .loop-test .taken) in
-    omega (arith, low, c .offset .ensures, c .before .before .before .before .before .before .before .pre .entries .few)
+    omega (arith, low, c .wide-number .ensures, c .before .before .before .before .before .before .before .pre .entries .few)
 
-shared-slice-read-offset-2 : tie.Need-shared-slice-read-offset-2 Inv-loop μ-loop
-shared-slice-read-offset-2 c =
+shared-slice-read-wide-number-2 : tie.Need-shared-slice-read-wide-number-2 Inv-loop μ-loop
+shared-slice-read-wide-number-2 c =
     let low = c .before .before .before .before .before .before .before .before .pre .numbers .low (c .before .before .before .before .loop .k) (c .before .before .before .loop-test .taken) in
-    omega (arith, low, c .before .offset .ensures, c .before .before .before .before .before .before .before .before .pre .entries .whole .room)
+    omega (arith, low, c .before .wide-number .ensures, c .before .before .before .before .before .before .before .before .pre .entries .whole .room)
 
-offset-requires-2 : tie.Need-offset-requires-2 Inv-loop μ-loop
-offset-requires-2 c κs = omega arith
+wide-number-requires-2 : tie.Need-wide-number-requires-2 Inv-loop μ-loop
+wide-number-requires-2 c κs = omega arith
 
 body-at-requires : tie.Need-body-at-requires Inv-loop μ-loop
 body-at-requires c κs =
     let low = c .before .before .before .before .before .before .before .before .before .pre .numbers .low (c .before .before .before .before .before .loop .k) (c .before .before .before .before .loop-test .taken) in
-    rw (c .offset2 .ensures, c .before .before .offset .ensures) (c .before .before .before .before .before .before .before .before .before .pre .entries .whole .whole _ low)
+    rw (c .wide-number2 .ensures, c .before .before .wide-number .ensures) (c .before .before .before .before .before .before .before .before .before .pre .entries .whole .whole _ low)
 
 type-part-requires : tie.Need-type-part-requires Inv-loop μ-loop
 type-part-requires c κs =
     let low = c .before .before .before .before .before .before .before .before .before .before .pre .numbers .low (c .before .before .before .before .before .before .loop .k) (c .before .before .before .before .before .loop-test .taken) in
-    rw (c .body-at .ensures, c .before .offset2 .ensures, c .before .before .before .offset .ensures) (c .before .before .before .before .before .before .before .before .before .before .pre .entries .layouts _ low)
+    rw (c .body-at .ensures, c .before .wide-number2 .ensures, c .before .before .before .wide-number .ensures) (c .before .before .before .before .before .before .before .before .before .before .pre .entries .layouts _ low)
 
 -- The sum with one entry more.
 module _ (c : tie.After-type-part Inv-loop μ-loop) where
@@ -53,7 +53,7 @@ module _ (c : tie.After-type-part Inv-loop μ-loop) where
   next =
       let a = c .before .before .before .before .before .before .before .before .before .before .before .args in
       let l = c .before .before .before .before .before .before .before .loop in
-      tally-next (a .book .now) (a .offsets .now) (a .found .now) (a .n) (c .before .before .before .before .before .before .before .before .before .before .before .pre) (l .sum) (l .k) (l .inv) (c .before .before .before .before .before .before .loop-test .taken) _ (rw (c .before .body-at .ensures, c .before .before .offset2 .ensures, c .before .before .before .before .offset .ensures) at (c .type-part .ensures))
+      tally-next (a .book .now) (a .offsets .now) (a .found .now) (a .n) (c .before .before .before .before .before .before .before .before .before .before .before .pre) (l .sum) (l .k) (l .inv) (c .before .before .before .before .before .before .loop-test .taken) _ (rw (c .before .body-at .ensures, c .before .before .wide-number2 .ensures, c .before .before .before .before .wide-number .ensures) at (c .type-part .ensures))
 
 add-sum : tie.Need-add-sum Inv-loop μ-loop
 add-sum c = omega (arith, next c .small, c .before .before .before .before .before .before .loop-test .taken, c .before .before .before .before .before .before .before .before .before .before .before .pre .numbers .few, c .before .before .before .before .before .before .before .before .before .before .before .pre .entries .few)
@@ -80,12 +80,12 @@ tally-found-spec =
     Inv-loop
     μ-loop
     loop-holds
-    mul-offset
-    shared-slice-read-offset
-    offset-requires
-    mul-offset-2
-    shared-slice-read-offset-2
-    offset-requires-2
+    mul-wide-number
+    shared-slice-read-wide-number
+    wide-number-requires
+    mul-wide-number-2
+    shared-slice-read-wide-number-2
+    wide-number-requires-2
     body-at-requires
     type-part-requires
     add-sum

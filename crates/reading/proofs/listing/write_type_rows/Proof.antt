@@ -14,14 +14,14 @@ abbrev μ-loop : tie.MeasureT-loop
 loop-holds : tie.Need-loop-holds Inv-loop μ-loop
 loop-holds c = omega arith
 
-mul-number-of : tie.Need-mul-number-of Inv-loop μ-loop
-mul-number-of c = omega arith
+mul-wide-number : tie.Need-mul-wide-number Inv-loop μ-loop
+mul-wide-number c = omega arith
 
-shared-slice-read-number-of : tie.Need-shared-slice-read-number-of Inv-loop μ-loop
-shared-slice-read-number-of c = omega arith
+shared-slice-read-wide-number : tie.Need-shared-slice-read-wide-number Inv-loop μ-loop
+shared-slice-read-wide-number c = omega arith
 
-number-of-requires : tie.Need-number-of-requires Inv-loop μ-loop
-number-of-requires c κs = omega arith
+wide-number-requires : tie.Need-wide-number-requires Inv-loop μ-loop
+wide-number-requires c κs = omega arith
 
 type-of-requires : tie.Need-type-of-requires Inv-loop μ-loop
 type-of-requires c κs = omega arith
@@ -48,9 +48,9 @@ write-type-rows-spec =
     Inv-loop
     μ-loop
     loop-holds
-    mul-number-of
-    shared-slice-read-number-of
-    number-of-requires
+    mul-wide-number
+    shared-slice-read-wide-number
+    wide-number-requires
     type-of-requires
     write-simple-types-requires
     add-i

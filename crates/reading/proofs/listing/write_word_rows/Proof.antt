@@ -17,14 +17,14 @@ loop-holds c = omega arith
 add-write-word-row : tie.Need-add-write-word-row Inv-loop μ-loop
 add-write-word-row c = omega arith
 
-mul-number-of : tie.Need-mul-number-of Inv-loop μ-loop
-mul-number-of c = omega arith
+mul-wide-number : tie.Need-mul-wide-number Inv-loop μ-loop
+mul-wide-number c = omega arith
 
-shared-slice-read-number-of : tie.Need-shared-slice-read-number-of Inv-loop μ-loop
-shared-slice-read-number-of c = omega arith
+shared-slice-read-wide-number : tie.Need-shared-slice-read-wide-number Inv-loop μ-loop
+shared-slice-read-wide-number c = omega arith
 
-number-of-requires : tie.Need-number-of-requires Inv-loop μ-loop
-number-of-requires c κs = omega arith
+wide-number-requires : tie.Need-wide-number-requires Inv-loop μ-loop
+wide-number-requires c κs = omega arith
 
 write-word-row-requires : tie.Need-write-word-row-requires Inv-loop μ-loop
 write-word-row-requires c κs = omega arith
@@ -49,9 +49,9 @@ write-word-rows-spec =
     μ-loop
     loop-holds
     add-write-word-row
-    mul-number-of
-    shared-slice-read-number-of
-    number-of-requires
+    mul-wide-number
+    shared-slice-read-wide-number
+    wide-number-requires
     write-word-row-requires
     add-i
     loop-less
