@@ -20,7 +20,7 @@ use Rattle.linking.proofs.FirstLinking.{first-linking-greedy}
 use Rattle.bits.specs.Rows.{HasRow, RowSays}
 use Rattle.bits.specs.Gathered.{Gathered}
 use Rattle.table.specs.Table.{stringOf, Right, MemberPart}
-use Rattle.answer.specs.Links.{RemainsAt, Kept, LinkedFrom, ReducingThere, FirstLinked}
+use Rattle.answer.specs.Links.{RemainsAt, KeptOutside, LinkedFrom, ReducingThere, FirstLinked}
 use Rattle.table.proofs.Stretches.{length-string}
 use Rattle.answer.proofs.Reducing.{reducing-says}
 
@@ -52,7 +52,7 @@ greedy-from-agree {i = i} (links k l n m u w) same =
     (greedy-agree u (λ p h c. same p (omega arith) (omega arith))) (greedy-from-agree w (λ p h c. same p (omega arith) c))
 
 -- Lists that agree outside a part.
-kept-front : (before after : List ℕ) (at m : ℕ) → length after ≡ length before → at + m ≤ length before → Kept before after at (at + m)
+kept-front : (before after : List ℕ) (at m : ℕ) → length after ≡ length before → at + m ≤ length before → KeptOutside before after at (at + m)
     → take at after ≡ take at before
 kept-front before after at m size space kept =
     let long = length-take-le at after (omega arith) in
@@ -60,14 +60,14 @@ kept-front before after at m size space kept =
     ext-getD 0 (take at after) (take at before) (omega arith)
     (λ i h. getD-take at after i 0 (omega arith) ∙ kept i (inl (omega arith)) ∙ sym (getD-take at before i 0 (omega arith)))
 
-kept-back : (before after : List ℕ) (at m : ℕ) → length after ≡ length before → Kept before after at (at + m)
+kept-back : (before after : List ℕ) (at m : ℕ) → length after ≡ length before → KeptOutside before after at (at + m)
     → drop (at + m) after ≡ drop (at + m) before
 kept-back before after at m size kept =
     ext-getD 0 (drop (at + m) after) (drop (at + m) before) (omega (arith, length-drop (at + m) after, length-drop (at + m) before))
     (λ i h. getD-drop (at + m) after i 0 ∙ kept (at + m + i) (inr (omega arith)) ∙ sym (getD-drop (at + m) before i 0))
 
 kept-parts :
-    (before after : List ℕ) (at m : ℕ) → length after ≡ length before → at + m ≤ length before → Kept before after at (at + m)
+    (before after : List ℕ) (at m : ℕ) → length after ≡ length before → at + m ≤ length before → KeptOutside before after at (at + m)
     → after ≡ take at before ++ (take m (drop at after) ++ drop (at + m) before)
 kept-parts before after at m size space kept =
     sym (take-append-drop at after)
@@ -83,7 +83,7 @@ first-linked {Le} {s} string before after at m size space linked =
     let P = take m (drop at after) in
     let whole : length X ≡ m = length-string string m in
     let from : at + 0 ≡ at = omega arith in
-    let kept : Kept before after at (at + m) = rw from at (linked .kept) in
+    let kept : KeptOutside before after at (at + m) = rw from at (linked .kept) in
     record {
       partners = P;
       whole = length-take-le m (drop at after) (omega (arith, length-drop at after)) ∙ sym whole;

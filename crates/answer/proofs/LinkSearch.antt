@@ -1,8 +1,9 @@
--- The search for the nearest partner of i walks the members of row e of `ends`, the indices behind a possible partner.
+-- The search for the nearest partner of i walks the members of row e of `ends`, the places behind a possible partner, until one is found.
 use Prim.Native.Nat.{ℕ, _+_, _-_, _≤_, _<_}
 use native.Mathlib.Omega.{arith}
-use mathlib.Core.Path.{_≡_}
-use mathlib.Core.Logic.{⊎-elim}
+use mathlib.Core.Path.{_≡_, sym, _∙_}
+use mathlib.Core.Logic.{_↔_, _⊎_, inl, inr, ⊎-elim}
+use mathlib.Core.Bool.{Bool, true, false, true≢false}
 use mathlib.Core.List.{List}
 use Rattle.pregroup.specs.Order.{Relation}
 use Rattle.figures.specs.Limits.{rowBits}
@@ -11,14 +12,14 @@ use Rattle.answer.specs.Links.{Closes, MayLink, NearestLink}
 use Rattle.bits.proofs.Cases.{less-or-not}
 
 module _ (Le : Relation) (string table ends : List ℕ) (e i : ℕ) where
-  -- The walk has come to j, and i may be linked to nothing before the index before j.
+  -- The walk has come to j, and i may be linked to nothing before the place before j.
   pub record Searched (j : ℕ) : Type 0 where
     pub from-on : i + 2 ≤ j
     pub near : j ≤ rowBits
     pub member : j < rowBits → InRow ends e j
     pub none : (k : ℕ) → i < k → k + 1 < j → MayLink Le string table ends e i k → ⊥
 
-  pub search-starts : (j : ℕ) → NextMember ends e (i + 2) j → Searched j
+  search-starts : (j : ℕ) → NextMember ends e (i + 2) j → Searched j
   search-starts j first = record {
     from-on = first .from-on;
     near = first .within;
@@ -26,7 +27,7 @@ module _ (Le : Relation) (string table ends : List ℕ) (e i : ℕ) where
     none = λ k h g m. first .least (k + 1) (omega arith) g (m .rest);
   }
 
-  pub search-turns : (j j′ : ℕ) → Searched j → (Closes Le string table i (j - 1) → ⊥) → NextMember ends e (j + 1) j′ → Searched j′
+  search-turns : (j j′ : ℕ) → Searched j → (Closes Le string table i (j - 1) → ⊥) → NextMember ends e (j + 1) j′ → Searched j′
   search-turns j j′ so-far apart next = record {
     from-on = omega (arith, so-far .from-on, next .from-on);
     near = next .within;
@@ -42,7 +43,7 @@ module _ (Le : Relation) (string table ends : List ℕ) (e i : ℕ) where
           (λ (b : k + 1 ≤ j). let same : k ≡ j - 1 = omega arith in apart (rw same at (m .closing))) (less-or-not j (k + 1)))
           (less-or-not (k + 1) j)
 
-  pub search-finds : (j : ℕ) → Searched j → j < rowBits → Closes Le string table i (j - 1) → NearestLink Le string table ends e i (j - 1)
+  search-finds : (j : ℕ) → Searched j → j < rowBits → Closes Le string table i (j - 1) → NearestLink Le string table ends e i (j - 1)
   search-finds j so-far h closes =
       let from-on = so-far .from-on in
       let one : j - 1 + 1 ≡ j = omega arith in
@@ -51,8 +52,32 @@ module _ (Le : Relation) (string table ends : List ℕ) (e i : ℕ) where
         found = λ g. (omega arith, record { closing = closes; rest = rw one (so-far .member h) });
       }
 
-  pub search-ends : (j : ℕ) → Searched j → rowBits ≤ j → NearestLink Le string table ends e i rowBits
+  search-ends : (j : ℕ) → Searched j → rowBits ≤ j → NearestLink Le string table ends e i rowBits
   search-ends j so-far h = record {
     least = λ k l g m. so-far .none k l (omega (arith, m .rest .small)) m;
     found = λ g. absurd (omega arith);
   }
+
+  -- The search stands at j with the partner that it has found: `rowBits` as long as there is none, and then one before j.
+  pub data Seeking (j : ℕ) : ℕ → Type 0 where
+    ahead : Searched j → Seeking j rowBits
+    behind : {k : ℕ} → k < j → NearestLink Le string table ends e i k → Seeking j k
+
+  pub seeking-starts : (j : ℕ) → NextMember ends e (i + 2) j → Seeking j rowBits
+  seeking-starts j first = ahead (search-starts j first)
+
+  pub seeking-ahead : {j k : ℕ} → Seeking j k → j < k → (i + 2 ≤ j) × (j < rowBits) × InRow ends e j
+  seeking-ahead (ahead s) h = (s .from-on, h, s .member h)
+  seeking-ahead (behind l n) h = absurd (omega arith)
+
+  pub seeking-turns :
+      {j j′ k k′ : ℕ} {may : Bool} → Seeking j k → j < k → (may ≡ true) ↔ Closes Le string table i (j - 1) → NextMember ends e (j + 1) j′
+      → ((may ≡ true) × (k′ ≡ j - 1)) ⊎ ((may ≡ false) × (k′ ≡ k)) → Seeking j′ k′
+  seeking-turns {j} {j′} (ahead s) h says next (inl w) =
+      rw (w .1) (behind {k = j - 1} (omega (arith, next .from-on)) (search-finds j s h (says .0 (w .0))))
+  seeking-turns {j} {j′} (ahead s) h says next (inr w) = rw (w .1) (ahead (search-turns j j′ s (λ c. true≢false (sym (says .1 c) ∙ w .0)) next))
+  seeking-turns (behind l n) h says next w = absurd (omega arith)
+
+  pub seeking-ends : {j k : ℕ} → Seeking j k → k ≤ j → NearestLink Le string table ends e i k
+  seeking-ends {j} (ahead s) h = search-ends j s h
+  seeking-ends (behind l n) h = n

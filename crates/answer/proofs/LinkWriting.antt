@@ -14,7 +14,7 @@ use Rattle.linking.specs.Greedy.{Link}
 use Rattle.linking.specs.Greedy.{Stay, VanishBehind, ReducesFrom, Greedy, done, nearest, GreedyFrom, stays, links}
 use Rattle.linking.proofs.Greedy.{greedy-agree}
 use Rattle.table.specs.Table.{stringOf}
-use Rattle.answer.specs.Links.{withLink, Kept, LinkedWithin, LinkedFrom}
+use Rattle.answer.specs.Links.{withLink, KeptOutside, LinkedWithin, LinkedFrom}
 use Rattle.table.proofs.Stretches.{length-string}
 use Rattle.answer.proofs.Nearest.{Chosen}
 
@@ -36,8 +36,8 @@ linked-none A at i j e = record { kept = λ p h. refl; greedy = λ n h. done (ap
 
 -- The ends of a link are written, then what stands between them, then what stands behind.
 module _ (before between after : List ℕ) (at i j k : ℕ) (ahead : i < k) (inside : k < j) (space : at + j ≤ length before)
-    (first : Kept (withLink before at i k) between (at + (i + 1)) (at + k)) (second : Kept between after (at + (k + 1)) (at + j)) where
-  link-kept : Kept before after (at + i) (at + j)
+    (first : KeptOutside (withLink before at i k) between (at + (i + 1)) (at + k)) (second : KeptOutside between after (at + (k + 1)) (at + j)) where
+  link-kept : KeptOutside before after (at + i) (at + j)
   link-kept p h =
       second p (⊎-elim (λ (l : p < at + i). inl (omega arith)) inr h)
       ∙ first p (⊎-elim (λ (l : p < at + i). inl (omega arith)) (λ (l : at + j ≤ p). inr (omega arith)) h)

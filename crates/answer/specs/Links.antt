@@ -54,17 +54,17 @@ pub record LinkingThere (Le : Relation) (string table answer : List ℕ) (at j :
   pub space : at + j ≤ length answer
 
 -- Nothing is written before `from`, nor from `to` on.
-abbrev pub Kept : List ℕ → List ℕ → ℕ → ℕ → Type 0
-Kept before after from to = (p : ℕ) → (p < from) ⊎ (to ≤ p) → getD after p 0 ≡ getD before p 0
+abbrev pub KeptOutside : List ℕ → List ℕ → ℕ → ℕ → Type 0
+KeptOutside before after from to = (p : ℕ) → (p < from) ⊎ (to ≤ p) → getD after p 0 ≡ getD before p 0
 
 -- The partners of the stretch from i up to j are written: each the nearest.
 pub record LinkedWithin (Le : Relation) (string before after : List ℕ) (at i j : ℕ) : Type 0 where
-  pub kept : Kept before after (at + i) (at + j)
+  pub kept : KeptOutside before after (at + i) (at + j)
   pub greedy : (n : ℕ) → j ≤ n → Greedy Le (stringOf string n) (drop at after) (suc i) (suc j)
 
 -- The partners of the string from i on are written.
 pub record LinkedFrom (Le : Relation) (s : Basic) (string before after : List ℕ) (at m i : ℕ) : Type 0 where
-  pub kept : Kept before after (at + i) (at + m)
+  pub kept : KeptOutside before after (at + i) (at + m)
   pub greedy : GreedyFrom Le s (stringOf string m) (drop at after) (suc i)
 
 -- The row has the places from which the string reduces to the target.

@@ -48,14 +48,15 @@ fn nearest(order: &[u64], string: &[u16], table: &[u64], ends: &[u64], e: usize,
     requires { ⌜ EndsThere (now string) (now table) (now ends) e ⌝ }
     ensures { λ r. ⌜ NearestLink (InRows (now (order .entry))) (now (string .entry)) (now (table .entry)) (now (ends .entry)) e i r ⌝ }
 {
+    let mut found = ROW_BITS;
     let mut j = rows::next_member(ends, e, i + 2);
-    while j < ROW_BITS {
+    while j < found {
         if may_close(order, string, table, i, j - 1) {
-            return j - 1;
+            found = j - 1;
         }
         j = rows::next_member(ends, e, j + 1);
     }
-    ROW_BITS
+    found
 }
 
 // Writes i as its own partner.

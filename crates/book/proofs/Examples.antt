@@ -9,7 +9,7 @@ use Rattle.bits.specs.Totals.{total}
 use Rattle.pregroup.specs.Types.{PregroupType, _⁽_⁾, plain}
 use Rattle.order.specs.Closed.{below, closedCount}
 use Rattle.book.specs.Format.{Bytes, Entry, accepted, every, twoBytes, nameByte, isName, exponentOf, simplesOf, isEntry, exponentListed, sameBytes, bodyRules, recordRules, firstBroken, add, ended, recordsFrom, parse}
-use Rattle.book.specs.Check.{bookCheck, Counted, Cause}
+use Rattle.book.specs.Check.{bookCheck, AcceptedCounts, Cause}
 use Rattle.book.specs.declared.BookCheck.{BookCheck}
 use Rattle.book.specs.declared.BookCheck.the-variants.{Accepted, Refused}
 use Rattle.book.proofs.Promises.{check-promised}
@@ -96,11 +96,11 @@ evaluated = refl
 
 -- What the promises say of them. The first book is accepted with its three values: four types, nine entries, and the five pairs of its closed
 -- order, counted in the closure itself.
-first-counted : Counted firstBook (4 ∷ 9 ∷ 5 ∷ [])
+first-counted : AcceptedCounts firstBook (4 ∷ 9 ∷ 5 ∷ [])
 unfolding every twoBytes nameByte isName exponentOf simplesOf isEntry exponentListed sameBytes bodyRules recordRules firstBroken add ended recordsFrom parse below closedCount total
 first-counted = check-promised firstBook .counts refl
 
-second-counted : Counted secondBook (5 ∷ 10 ∷ 6 ∷ [])
+second-counted : AcceptedCounts secondBook (5 ∷ 10 ∷ 6 ∷ [])
 unfolding every twoBytes nameByte isName exponentOf simplesOf isEntry exponentListed sameBytes bodyRules recordRules firstBroken add ended recordsFrom parse below closedCount total
 second-counted = check-promised secondBook .counts refl
 

@@ -9,7 +9,7 @@ use Rattle.figures.specs.Refusals.{Reply}
 use Rattle.order.specs.Closed.{Closed, Listed, HasPairs, closedCount}
 use Rattle.order.proofs.PairCount.{closed-has-pairs, pairs-unique}
 use Rattle.book.specs.Format.{Bytes, Book, Parsed, accepted, refused, parse, ended}
-use Rattle.book.specs.Check.{answerFor, bookCheck, replyOf, Cause, too-long, bad-record, no-target, Checked}
+use Rattle.book.specs.Check.{answerFor, bookCheck, replyOf, Cause, too-long, bad-record, no-target, BookPromised}
 use Rattle.book.proofs.SmallestNumber.{breaks-some}
 use Rattle.book.proofs.Parsing.{end-parse, cause-refuses, Comes, whole, stopped, parse-comes}
 use Rattle.book.proofs.Accepted.{good-declares}
@@ -33,7 +33,7 @@ same-book : (A B : Book) → accepted A ≡ accepted B → A ≡ B
 same-book A B e = cc
 
 module _ (bytes : Bytes) where
-  checked : {p : Parsed} → Comes bytes p → parse bytes ≡ p → Checked bytes (replyOf (answerFor p))
+  checked : {p : Parsed} → Comes bytes p → parse bytes ≡ p → BookPromised bytes (replyOf (answerFor p))
   checked (whole {B} short good) parsed =
       let never : (n v : ℕ) → Cause bytes n v → ⊥ = λ n v cause. not-both _ n v (sym parsed ∙ cause-refuses bytes cause) in
       record {
@@ -63,10 +63,10 @@ module _ (bytes : Bytes) where
         );
       }
 
-  pub check-promised : Checked bytes (replyOf (bookCheck bytes))
+  pub check-promised : BookPromised bytes (replyOf (bookCheck bytes))
   check-promised = checked (parse-comes bytes) refl
 
-  module _ (reply : Reply) (promised : Checked bytes reply) where
+  module _ (reply : Reply) (promised : BookPromised bytes reply) where
     only : {p : Parsed} → Comes bytes p → parse bytes ≡ p → reply ≡ replyOf (answerFor p)
     unfolding ended
     only (stopped {n} {v} cause) parsed = promised .refuses n v .1 cause

@@ -1,5 +1,5 @@
 -- What the book check answers: document 01's three numbers for an accepted book, or the number of the refusal and the value returned with it.
--- `bookCheck` computes the answer; `Checked` is what the paper promises of it, in the paper's own terms.
+-- `bookCheck` computes the answer; `BookPromised` is what the paper promises of it, in the paper's own terms.
 use Prim.Native.Nat.{ℕ, _≤_, _<_}
 use mathlib.Core.Path.{_≡_}
 use mathlib.Core.Logic.{_↔_}
@@ -43,7 +43,7 @@ pub data Cause (bytes : Bytes) : ℕ → ℕ → Type 0 where
   no-target : {B : Book} → length bytes ≤ maxBook → GoodUpTo bytes (length bytes) (record { book = B; seen = false }) → Cause bytes noTarget (length bytes)
 
 -- The values of an accepted book: how many basic types its records hold, how many entries, and how many pairs p ≤ q their closed order has.
-pub record Counted (bytes : Bytes) (values : List ℕ) : Type 0 where
+pub record AcceptedCounts (bytes : Bytes) (values : List ℕ) : Type 0 where
   pub contents : Book
   pub good : GoodUpTo bytes (length bytes) (record { book = contents; seen = true })
   pub pairs : ℕ
@@ -52,7 +52,7 @@ pub record Counted (bytes : Bytes) (values : List ℕ) : Type 0 where
 
 -- The promises. The answer is 0 exactly when nothing is cause for a refusal, and then has the three values; it is a refusal with a number and a
 -- value exactly when there is that cause.
-pub record Checked (bytes : Bytes) (reply : Reply) : Type 0 where
+pub record BookPromised (bytes : Bytes) (reply : Reply) : Type 0 where
   pub accepts : (reply .number ≡ 0) ↔ ((n v : ℕ) → Cause bytes n v → ⊥)
-  pub counts : reply .number ≡ 0 → Counted bytes (reply .values)
+  pub counts : reply .number ≡ 0 → AcceptedCounts bytes (reply .values)
   pub refuses : (n v : ℕ) → (reply ≡ record { number = n; values = v ∷ [] }) ↔ Cause bytes n v

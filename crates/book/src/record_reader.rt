@@ -24,7 +24,8 @@ pub fn next_fault<'a, 'b>(
     seen: bool,
 ) -> u32
     requires { ⌜ (r .at ≤ length (now (r .book))) × Whole (now (r .book)) (now names) types ⌝ }
-    ensures { λ n. ⌜ n ≡ firstBroken (recordRules (now (r .entry .book)) (r .entry .at) (bodiesAt (now (r .entry .book)) (now (names .entry)) types) entries seen) ⌝ }
+    ensures { λ n. ⌜ n ≡ firstBroken (recordRules (now (r .entry .book)) (r .entry .at)
+        (bodiesAt (now (r .entry .book)) (now (names .entry)) types) entries seen) ⌝ }
 {
     record_fault(r.book, r.at, names, types, entries, seen)
 }
@@ -39,7 +40,8 @@ pub fn fault_at(
     seen: bool,
 ) -> u32
     requires { ⌜ (at ≤ length (now book)) × Whole (now book) (now names) types ⌝ }
-    ensures { λ r. ⌜ r ≡ firstBroken (recordRules (now (book .entry)) at (bodiesAt (now (book .entry)) (now (names .entry)) types) entries seen) ⌝ }
+    ensures { λ r. ⌜ r ≡ firstBroken (recordRules (now (book .entry)) at (bodiesAt (now (book .entry)) (now (names .entry)) types) entries
+        seen) ⌝ }
 {
     next_fault(reader_at(book, at), names, types, entries, seen)
 }

@@ -26,7 +26,8 @@ fn take_record(
     p: Progress,
 ) -> Taken
     requires { ⌜ Sound (now book) (store (now names) (now entries) (now direct)) p ⌝ }
-    ensures { λ r. ⌜ TakenSays (now (book .entry)) (store (now (names .entry)) (now (entries .entry)) (now (direct .entry))) p (store (now (names .exit)) (now (entries .exit)) (now (direct .exit))) r ⌝ }
+    ensures { λ r. ⌜ TakenSays (now (book .entry)) (store (now (names .entry)) (now (entries .entry)) (now (direct .entry))) p
+        (store (now (names .exit)) (now (entries .exit)) (now (direct .exit))) r ⌝ }
 {
     let at = p.at;
     let types = p.types;

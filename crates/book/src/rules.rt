@@ -76,7 +76,8 @@ fn name_used(book: &[u8], names: &[u16], types: usize, body: &[u8]) -> bool
 // The rules for a basic type: its layout, a name used before, one too many.
 fn name_fault(book: &[u8], names: &[u16], types: usize, body: &[u8]) -> u32
     requires { ⌜ Whole (now book) (now names) types ⌝ }
-    ensures { λ r. ⌜ ((entries : ℕ) (seen : Bool) → r ≡ firstBroken (bodyRules 1 (now (body .entry)) (bodiesAt (now (book .entry)) (now (names .entry)) types) entries seen)) ⌝ }
+    ensures { λ r. ⌜ ((entries : ℕ) (seen : Bool) → r ≡ firstBroken
+        (bodyRules 1 (now (body .entry)) (bodiesAt (now (book .entry)) (now (names .entry)) types) entries seen)) ⌝ }
 {
     if !is_name(body) {
         return BAD_LAYOUT;
@@ -92,7 +93,8 @@ fn name_fault(book: &[u8], names: &[u16], types: usize, body: &[u8]) -> u32
 
 // The rules for an order pair: its layout, and two declared type numbers.
 fn pair_fault(body: &[u8], types: usize) -> u32
-    ensures { λ r. ⌜ ((names : List Bytes) (entries : ℕ) (seen : Bool) → length names ≡ types → r ≡ firstBroken (bodyRules 2 (now (body .entry)) names entries seen)) ⌝ }
+    ensures { λ r. ⌜ ((names : List Bytes) (entries : ℕ) (seen : Bool) → length names ≡ types → r ≡ firstBroken
+        (bodyRules 2 (now (body .entry)) names entries seen)) ⌝ }
 {
     if body.len() != 2 {
         return BAD_LAYOUT;
@@ -108,7 +110,8 @@ fn pair_fault(body: &[u8], types: usize) -> u32
 
 // The rules for an entry: its layout, declared type numbers, exponents from -8 to 8, one too many.
 fn entry_fault(body: &[u8], types: usize, entries: usize) -> u32
-    ensures { λ r. ⌜ ((names : List Bytes) (seen : Bool) → length names ≡ types → r ≡ firstBroken (bodyRules 3 (now (body .entry)) names entries seen)) ⌝ }
+    ensures { λ r. ⌜ ((names : List Bytes) (seen : Bool) → length names ≡ types → r ≡ firstBroken
+        (bodyRules 3 (now (body .entry)) names entries seen)) ⌝ }
 {
     if !is_entry(body) {
         return BAD_LAYOUT;
@@ -128,7 +131,8 @@ fn entry_fault(body: &[u8], types: usize, entries: usize) -> u32
 
 // The rules for a target: its layout, a declared type number, no target before.
 fn target_fault(body: &[u8], types: usize, seen: bool) -> u32
-    ensures { λ r. ⌜ ((names : List Bytes) (entries : ℕ) → length names ≡ types → r ≡ firstBroken (bodyRules 4 (now (body .entry)) names entries seen)) ⌝ }
+    ensures { λ r. ⌜ ((names : List Bytes) (entries : ℕ) → length names ≡ types → r ≡ firstBroken
+        (bodyRules 4 (now (body .entry)) names entries seen)) ⌝ }
 {
     if body.len() != 1 {
         return BAD_LAYOUT;
@@ -152,7 +156,8 @@ pub(crate) fn record_fault(
     seen: bool,
 ) -> u32
     requires { ⌜ (at ≤ length (now book)) × Whole (now book) (now names) types ⌝ }
-    ensures { λ r. ⌜ r ≡ firstBroken (recordRules (now (book .entry)) at (bodiesAt (now (book .entry)) (now (names .entry)) types) entries seen) ⌝ }
+    ensures { λ r. ⌜ r ≡ firstBroken (recordRules (now (book .entry)) at (bodiesAt (now (book .entry)) (now (names .entry)) types) entries
+        seen) ⌝ }
 {
     if book.len() - at < HEAD {
         return CUT_SHORT;

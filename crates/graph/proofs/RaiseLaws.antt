@@ -12,7 +12,7 @@ use Rattle.pregroup.specs.Types.{Simple}
 use Rattle.pregroup.specs.Held.{bias}
 use Rattle.book.specs.Format.{Bytes, every, exponents, exponentOf, exponentListed, simplesOf}
 use Rattle.book.proofs.Simples.{simpleAt, simples-stop, simples-pass}
-use Rattle.graph.specs.Cells.{Listed}
+use Rattle.graph.specs.Cells.{ExponentsListed}
 
 plain : (e : ℕ) → pos (e + 8) -ℤ pos bias ≡ pos e
 plain e =
@@ -42,7 +42,7 @@ raise-high e h k =
     same : 8 - suc (e - 248) ≡ 255 - e
     same = omega arith
 
-module _ (part : Bytes) (pairs : length part % 2 ≡ 0) (listed : Listed part) where
+module _ (part : Bytes) (pairs : length part % 2 ≡ 0) (listed : ExponentsListed part) where
   abbrev test-at : ℕ → Bool
   test-at i = exponentListed (simpleAt part i .exponent)
 

@@ -13,7 +13,7 @@ use Rattle.book.specs.Format.{Bytes, simplesOf, exponentOf, exponentListed}
 use Rattle.book.proofs.Simples.{simpleAt, simples-step}
 use Rattle.graph.specs.Graph.{Graph, Labelled, labelOf, Boundary, Spells, ended, more}
 use Rattle.figures.specs.Limits.{maxNodes}
-use Rattle.graph.specs.Cells.{Cells, cells, cellsGraph, Same, Continues, Kept, Edges, TypeFits, Typed}
+use Rattle.graph.specs.Cells.{Cells, cells, cellsGraph, Same, Continues, Retained, Edges, TypeFits, Typed}
 use Rattle.graph.proofs.RaiseLaws.{listed-at}
 
 -- Another graph has the same simple type on a node.
@@ -35,7 +35,7 @@ entry-later {g} {h} (more {u = u} {n = n} {x = x} l e) same boundary =
 
 -- What continues later cells continues these.
 pub continues-back :
-    {n s n′ s′ : ℕ} {c c′ : Cells} {g : Graph} {ns : List ℕ} → Kept n s c c′ → Continues n′ s′ c′ g ns → n ≤ n′ → s ≤ s′ → Continues n s c g ns
+    {n s n′ s′ : ℕ} {c c′ : Cells} {g : Graph} {ns : List ℕ} → Retained n s c c′ → Continues n′ s′ c′ g ns → n ≤ n′ → s ≤ s′ → Continues n s c g ns
 continues-back k k′ h i =
     record {
       simples = λ x a. k′ .simples x (omega arith) ∙ k .simples x a;
@@ -44,7 +44,7 @@ continues-back k k′ h i =
       numbers = λ y a. k′ .numbers y (omega arith) ∙ k .numbers y a;
     }
 
-pub kept-here : (n s : ℕ) (c : Cells) → Kept n s c c
+pub kept-here : (n s : ℕ) (c : Cells) → Retained n s c c
 kept-here n s c = record { simples = λ x h. refl; nexts = λ x h. refl; enters = λ y h. refl; numbers = λ y h. refl }
 
 -- What continues the cells far continues them less far.
@@ -67,7 +67,7 @@ no-edge nexts n b up x h = none (getD {A = ℕ} nexts x 0) (λ p. up x p .0)
 pub record Typing (part : Bytes) (node b : ℕ) (c₀ c : Cells) (first i : ℕ) : Type 0 where
   pub even : i % 2 ≡ 0
   pub inside : i ≤ length part
-  pub kept : Kept (node + i / 2) 0 c₀ c
+  pub kept : Retained (node + i / 2) 0 c₀ c
   pub up : Edges (c .nexts) (node + length part / 2) b
   pub spelt : Spells (cellsGraph c) first (simplesOf (drop i part)) b
   pub low : node + i / 2 ≤ first

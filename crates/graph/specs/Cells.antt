@@ -42,8 +42,8 @@ pub record Continues (n s : ℕ) (c : Cells) (g : Graph) (ns : List ℕ) : Type 
   pub enters : Same s (c .enters) (g .enters)
   pub numbers : Same s (c .numbers) ns
 
-abbrev pub Kept : ℕ → ℕ → Cells → Cells → Type 0
-Kept n s c c′ = Continues n s c (cellsGraph c′) (c′ .numbers)
+abbrev pub Retained : ℕ → ℕ → Cells → Cells → Type 0
+Retained n s c c′ = Continues n s c (cellsGraph c′) (c′ .numbers)
 
 -- Simple types stand below n alone, and each leads up, to b at most.
 abbrev pub Edges : List ℕ → ℕ → ℕ → Type 0
@@ -51,13 +51,13 @@ Edges nexts n b =
     (x : ℕ) → 0 < getD {A = ℕ} nexts x 0 → (x < n) × (x < getD {A = ℕ} nexts x 0) × (getD {A = ℕ} nexts x 0 ≤ b)
 
 -- All exponents of a type are from −8 to 8.
-abbrev pub Listed : Bytes → Type 0
-Listed part = every exponentListed (exponents (simplesOf part)) ≡ true
+abbrev pub ExponentsListed : Bytes → Type 0
+ExponentsListed part = every exponentListed (exponents (simplesOf part)) ≡ true
 
 -- A type can be laid from a node on, before the boundary b.
 pub record TypeFits (part : Bytes) (node b : ℕ) (c : Cells) : Type 0 where
   pub pairs : length part % 2 ≡ 0
-  pub listed : Listed part
+  pub listed : ExponentsListed part
   pub fits : node + length part / 2 ≤ b
   pub small : b < maxNodes
   pub simples-room : maxNodes ≤ length (c .simples)
@@ -66,7 +66,7 @@ pub record TypeFits (part : Bytes) (node b : ℕ) (c : Cells) : Type 0 where
 
 -- It is laid: from `first` on it is spelt up to b.
 pub record Typed (part : Bytes) (node b : ℕ) (c c′ : Cells) (first : ℕ) : Type 0 where
-  pub kept : Kept node 0 c c′
+  pub kept : Retained node 0 c c′
   pub up : Edges (c′ .nexts) (node + length part / 2) b
   pub spelt : Spells (cellsGraph c′) first (simplesOf part) b
   pub low : node ≤ first
@@ -88,7 +88,7 @@ pub record Placed (b : ℕ) (p : Place) (c : Cells) : Type 0 where
 pub record Lays (b : ℕ) (p : Place) (c : Cells) (p′ : Place) (c′ : Cells) (es es′ : List NumberedEntry) : Type 0 where
   pub slots : (g : Graph) (numbers : List ℕ) → Continues (p′ .node) (p′ .slot) c′ g numbers → Boundary g b → (to : ℕ)
       → Slots g numbers b (p′ .slot) to (slotted (p′ .seen) es′) → Slots g numbers b (p .slot) to (slotted (p .seen) es)
-  pub kept : Kept (p .node) (p .slot) c c′
+  pub kept : Retained (p .node) (p .slot) c c′
   pub placed : Placed b p′ c′
   pub count : p′ .node + simplesIn es′ ≡ p .node + simplesIn es
   pub node-on : p .node ≤ p′ .node
@@ -98,7 +98,7 @@ pub record Lays (b : ℕ) (p : Place) (c : Cells) (p′ : Place) (c′ : Cells) 
 -- An entry's type can be laid from the place p on.
 pub record SlotFits (part : Bytes) (number b : ℕ) (p : Place) (c : Cells) : Type 0 where
   pub pairs : length part % 2 ≡ 0
-  pub listed : Listed part
+  pub listed : ExponentsListed part
   pub fits : p .node + length part / 2 ≤ b
   pub low : number ≤ maxEntries
   pub placed : Placed b p c
@@ -106,7 +106,7 @@ pub record SlotFits (part : Bytes) (number b : ℕ) (p : Place) (c : Cells) : Ty
 -- The entries that are kept of a book, with exponents from −8 to 8.
 pub record Lexicon (bytes : Bytes) (offsets : List ℕ) (count : ℕ) : Type 0 where
   pub entries : Entries bytes offsets count
-  pub listed : (i : ℕ) → i < count → Listed (typePart (bodyAt bytes (getD {A = ℕ} offsets i 0)))
+  pub listed : (i : ℕ) → i < count → ExponentsListed (typePart (bodyAt bytes (getD {A = ℕ} offsets i 0)))
 
 -- The entries of a word.
 abbrev pub entriesOfWord : Bytes → List ℕ → ℕ → Bytes → List NumberedEntry

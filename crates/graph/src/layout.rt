@@ -56,7 +56,8 @@ fn lay_type(
     nexts: &mut [u16],
 ) -> usize
     requires { ⌜ TypeFits (now part) node boundary (nodes (now simples) (now nexts)) ⌝ }
-    ensures { λ r. ⌜ Typed (now (part .entry)) node boundary (nodes (now (simples .entry)) (now (nexts .entry))) (nodes (now (simples .exit)) (now (nexts .exit))) r ⌝ }
+    ensures { λ r. ⌜ Typed (now (part .entry)) node boundary (nodes (now (simples .entry)) (now (nexts .entry)))
+        (nodes (now (simples .exit)) (now (nexts .exit))) r ⌝ }
 {
     let mut first = boundary;
     let mut i = part.len();
@@ -83,7 +84,10 @@ fn lay_slot(
     numbers: &mut [u16],
 ) -> Place
     requires { ⌜ SlotFits (now part) number boundary p (cells (now simples) (now nexts) (now enters) (now numbers)) ⌝ }
-    ensures { λ r. ⌜ ((rest : List NumberedEntry) → Lays boundary p (cells (now (simples .entry)) (now (nexts .entry)) (now (enters .entry)) (now (numbers .entry))) r (cells (now (simples .exit)) (now (nexts .exit)) (now (enters .exit)) (now (numbers .exit))) (record { number = number; type = simplesOf (now (part .entry)) } ∷ rest) rest) ⌝ }
+    ensures { λ r. ⌜ ((rest : List NumberedEntry) → Lays boundary p
+        (cells (now (simples .entry)) (now (nexts .entry)) (now (enters .entry)) (now (numbers .entry))) r
+        (cells (now (simples .exit)) (now (nexts .exit)) (now (enters .exit)) (now (numbers .exit)))
+        (record { number = number; type = simplesOf (now (part .entry)) } ∷ rest) rest) ⌝ }
 {
     let node = p.node;
     let slot = p.slot;
@@ -117,7 +121,9 @@ fn lay_entries(
     numbers: &mut [u16],
 ) -> Place
     requires { ⌜ EntriesFit (now book) (now offsets) (now found) n boundary p (cells (now simples) (now nexts) (now enters) (now numbers)) ⌝ }
-    ensures { λ r. ⌜ Lays boundary p (cells (now (simples .entry)) (now (nexts .entry)) (now (enters .entry)) (now (numbers .entry))) r (cells (now (simples .exit)) (now (nexts .exit)) (now (enters .exit)) (now (numbers .exit))) (entriesAt (now (book .entry)) (now (offsets .entry)) (now (found .entry)) n) [] ⌝ }
+    ensures { λ r. ⌜ Lays boundary p (cells (now (simples .entry)) (now (nexts .entry)) (now (enters .entry)) (now (numbers .entry))) r
+        (cells (now (simples .exit)) (now (nexts .exit)) (now (enters .exit)) (now (numbers .exit)))
+        (entriesAt (now (book .entry)) (now (offsets .entry)) (now (found .entry)) n) [] ⌝ }
 {
     let mut place = p;
     let mut k = 0;
@@ -154,8 +160,12 @@ fn lay_word(
     enters: &mut [u16],
     numbers: &mut [u16],
 ) -> Place
-    requires { ⌜ WordFits (now book) (now offsets) count (now word) p (lists (now simples) (now nexts) (now froms) (now tos) (now enters) (now numbers)) ⌝ }
-    ensures { λ r. ⌜ ((rest : Words) → Lined p (lists (now (simples .entry)) (now (nexts .entry)) (now (froms .entry)) (now (tos .entry)) (now (enters .entry)) (now (numbers .entry))) r (lists (now (simples .exit)) (now (nexts .exit)) (now (froms .exit)) (now (tos .exit)) (now (enters .exit)) (now (numbers .exit))) (entriesOfWord (now (book .entry)) (now (offsets .entry)) count (now (word .entry)) ∷ rest) rest) ⌝ }
+    requires { ⌜ WordFits (now book) (now offsets) count (now word) p
+        (lists (now simples) (now nexts) (now froms) (now tos) (now enters) (now numbers)) ⌝ }
+    ensures { λ r. ⌜ ((rest : Words) → Lined p (lists (now (simples .entry)) (now (nexts .entry)) (now (froms .entry)) (now (tos .entry))
+        (now (enters .entry)) (now (numbers .entry))) r (lists (now (simples .exit)) (now (nexts .exit)) (now (froms .exit))
+        (now (tos .exit)) (now (enters .exit)) (now (numbers .exit)))
+        (entriesOfWord (now (book .entry)) (now (offsets .entry)) count (now (word .entry)) ∷ rest) rest) ⌝ }
 {
     let node = p.node;
     let slot = p.slot;
@@ -206,8 +216,12 @@ fn lay_words(
     enters: &mut [u16],
     numbers: &mut [u16],
 ) -> Place
-    requires { ⌜ WordsFit (now book) (now offsets) count (now line) (now starts) (now ends) words p (lists (now simples) (now nexts) (now froms) (now tos) (now enters) (now numbers)) ⌝ }
-    ensures { λ r. ⌜ Lined p (lists (now (simples .entry)) (now (nexts .entry)) (now (froms .entry)) (now (tos .entry)) (now (enters .entry)) (now (numbers .entry))) r (lists (now (simples .exit)) (now (nexts .exit)) (now (froms .exit)) (now (tos .exit)) (now (enters .exit)) (now (numbers .exit))) (entriesOfWords (now (book .entry)) (now (offsets .entry)) count (wordsOf (now (line .entry)))) [] ⌝ }
+    requires { ⌜ WordsFit (now book) (now offsets) count (now line) (now starts) (now ends) words p
+        (lists (now simples) (now nexts) (now froms) (now tos) (now enters) (now numbers)) ⌝ }
+    ensures { λ r. ⌜ Lined p (lists (now (simples .entry)) (now (nexts .entry)) (now (froms .entry)) (now (tos .entry))
+        (now (enters .entry)) (now (numbers .entry))) r (lists (now (simples .exit)) (now (nexts .exit)) (now (froms .exit))
+        (now (tos .exit)) (now (enters .exit)) (now (numbers .exit)))
+        (entriesOfWords (now (book .entry)) (now (offsets .entry)) count (wordsOf (now (line .entry)))) [] ⌝ }
 {
     let mut place = p;
     let mut k = 0;
@@ -244,7 +258,9 @@ fn lay_goal(
     enters: &mut [u16],
 ) -> usize
     requires { ⌜ Standing p (lists (now simples) (now nexts) (now froms) (now tos) (now enters) []) × (p .node + 3 ≤ maxNodes) ⌝ }
-    ensures { λ r. ⌜ Ended target p (lists (now (simples .entry)) (now (nexts .entry)) (now (froms .entry)) (now (tos .entry)) (now (enters .entry)) []) (lists (now (simples .exit)) (now (nexts .exit)) (now (froms .exit)) (now (tos .exit)) (now (enters .exit)) []) r ⌝ }
+    ensures { λ r. ⌜ Ended target p (lists (now (simples .entry)) (now (nexts .entry)) (now (froms .entry)) (now (tos .entry))
+        (now (enters .entry)) []) (lists (now (simples .exit)) (now (nexts .exit)) (now (froms .exit)) (now (tos .exit))
+        (now (enters .exit)) []) r ⌝ }
 {
     let node = p.node;
     let slot = p.slot;
@@ -277,8 +293,11 @@ pub fn lay_out(
     enters: &mut [u16],
     numbers: &mut [u16],
 ) -> usize
-    requires { ⌜ LineFits (now book) (now offsets) count (now line) (now starts) (now ends) words (lists (now simples) (now nexts) (now froms) (now tos) (now enters) (now numbers)) ⌝ }
-    ensures { λ r. ⌜ LaidOut (now (book .entry)) (now (offsets .entry)) count (now (line .entry)) target (lists (now (simples .exit)) (now (nexts .exit)) (now (froms .exit)) (now (tos .exit)) (now (enters .exit)) (now (numbers .exit))) r ⌝ }
+    requires { ⌜ LineFits (now book) (now offsets) count (now line) (now starts) (now ends) words
+        (lists (now simples) (now nexts) (now froms) (now tos) (now enters) (now numbers)) ⌝ }
+    ensures { λ r. ⌜ LaidOut (now (book .entry)) (now (offsets .entry)) count (now (line .entry)) target
+        (lists (now (simples .exit)) (now (nexts .exit)) (now (froms .exit)) (now (tos .exit)) (now (enters .exit)) (now (numbers .exit)))
+        r ⌝ }
 {
     let first = Place {
         node: 0,

@@ -152,7 +152,8 @@ pub fn read_line(book: &[u8], line: &[u8], answer: &mut [u16]) -> LineAnswer
             target,
         } => {
             let order = order::close(&direct, types);
-            read_open(book, &entries, count, &order.rows, target, line, answer)
+            let rows = order.rows;
+            read_open(book, &entries, count, &rows, target, line, answer)
         }
     }
 }

@@ -1,3 +1,4 @@
+-- `reader::read_line` meets its contract: the book is scanned and its order closed, and what reading with both gives is the outcome.
 use borrow.Author.Needs.{needs}
 use native.Mathlib.Omega.{arith}
 use Rattle.book.proofs.Checking.{no-pairs, opened-rows}
@@ -31,10 +32,13 @@ close-requires c κs =
 slice-aggregate-read-open : tie.Need-slice-aggregate-read-open
 slice-aggregate-read-open c = search needs
 
+slice-aggregate-read-open-2 : tie.Need-slice-aggregate-read-open-2
+slice-aggregate-read-open-2 c = search needs
+
 read-open-requires : tie.Need-read-open-requires
 read-open-requires c κs =
-    let o = rw (c .before .before .before .before .before .before .before .before .scan2 .given .1) at (c .before .before .before .before .before .before .before .before .before .before .before .before .before .scan-book .ensures) in
-    (o .0, is-open _ _ _ _ _ (o .0) _ (o .1) (c .before .before .before .before .before .close .ensures))
+    let o = rw (c .before .before .before .before .before .before .before .scan2 .given .1) at (c .before .before .before .before .before .before .before .before .before .before .before .before .scan-book .ensures) in
+    (o .0, is-open _ _ _ _ _ (o .0) _ (o .1) (c .before .before .before .before .close .ensures))
 
 returns : tie.Need-returns
 returns c =
@@ -62,6 +66,7 @@ read-line-spec =
     enum-known-scan-2
     close-requires
     slice-aggregate-read-open
+    slice-aggregate-read-open-2
     read-open-requires
     returns
     same-length

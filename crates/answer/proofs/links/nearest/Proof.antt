@@ -1,19 +1,19 @@
 -- `answer::links::nearest` meets its contract: its loop is the search of proofs/LinkSearch.antt.
-use Prim.Native.Nat.{_-_}
+use Prim.Native.Nat.{_+_, _-_, _≤_, _<_}
 use native.Mathlib.Omega.{arith}
-use mathlib.Core.Path.{sym, _∙_}
-use mathlib.Core.Bool.{true≢false}
+use mathlib.Core.Logic.{inl, inr, ⊎-elim}
 use Rattle.pregroup.specs.Held.{InRows}
 use Rattle.figures.specs.Limits.{rowBits}
-use Rattle.answer.proofs.LinkSearch.{Searched, search-starts, search-turns, search-finds, search-ends}
+use Rattle.bits.specs.Rows.{InRow}
+use Rattle.answer.proofs.LinkSearch.{Seeking, seeking-starts, seeking-ahead, seeking-turns, seeking-ends}
 use Rattle.answer.proofs.links.nearest.Statement.{statement}
 use Rattle.answer.proofs.links.nearest.Tie as tie
 
 abbrev Inv-loop : tie.InvT-loop
-Inv-loop order string table ends e i j₀ j = Searched (InRows order) string table ends e i j
+Inv-loop order string table ends e i found₀ j₀ found j = Seeking (InRows order) string table ends e i j found
 
 abbrev μ-loop : tie.MeasureT-loop
-μ-loop order string table ends e i j₀ j = rowBits - j
+μ-loop order string table ends e i found₀ j₀ found j = rowBits - j
 
 add-next-member : tie.Need-add-next-member Inv-loop μ-loop
 add-next-member c = omega arith
@@ -22,43 +22,41 @@ next-member-requires : tie.Need-next-member-requires Inv-loop μ-loop
 next-member-requires c κs = omega arith
 
 loop-holds : tie.Need-loop-holds Inv-loop μ-loop
-loop-holds c = search-starts _ _ _ _ _ _ _ (c .next-member .ensures)
+loop-holds c = seeking-starts _ _ _ _ _ _ _ (c .next-member .ensures)
+
+-- What is known of the place at hand.
+module _ (c : tie.In-loop Inv-loop μ-loop) where
+  at-hand : (c .before .before .before .before .before .before .before .args .i + 2 ≤ c .before .loop .j) × (c .before .loop .j < rowBits) × InRow (c .before .before .before .before .before .before .before .args .ends .now) (c .before .before .before .before .before .before .before .args .e) (c .before .loop .j)
+  at-hand = seeking-ahead _ _ _ _ _ _ (c .before .loop .inv) (c .loop-test .taken)
 
 sub-may-close : tie.Need-sub-may-close Inv-loop μ-loop
-sub-may-close c = omega arith
+sub-may-close c = omega (arith, at-hand c .0)
 
 may-close-requires : tie.Need-may-close-requires Inv-loop μ-loop
 may-close-requires c κs =
-    let l = c .before .loop in
-    let there = c .before .before .before .before .before .before .before .pre .1 .reached (l .j) (l .inv .member (c .loop-test .taken)) in
-    omega arith
+    let on = at-hand c in
+    let there = c .before .before .before .before .before .before .before .pre .1 .reached (c .before .loop .j) (on .2) in
+    omega (arith, on .0)
 
-sub-result : tie.Need-sub-result Inv-loop μ-loop
-sub-result c = omega arith
-
-returns : tie.Need-returns Inv-loop μ-loop
-returns c =
-    let l = c .before .before .before .loop in
-    search-finds _ _ _ _ _ _ (l .j) (l .inv) (c .before .before .loop-test .taken) (c .before .may-close .ensures .0 (c .if1 .taken))
+sub-found : tie.Need-sub-found Inv-loop μ-loop
+sub-found c = omega (arith, at-hand (c .before .before) .0)
 
 add-next-member-2 : tie.Need-add-next-member-2 Inv-loop μ-loop
-add-next-member-2 c = omega arith
+add-next-member-2 c = omega (arith, at-hand (c .before .before) .1)
 
 next-member-requires-2 : tie.Need-next-member-requires-2 Inv-loop μ-loop
-next-member-requires-2 c κs = omega arith
+next-member-requires-2 c κs = (c .before .before .before .before .before .before .before .before .before .pre .1 .room, omega (arith, at-hand (c .before .before) .1))
 
 loop-less : tie.Need-loop-less Inv-loop μ-loop
-loop-less c = omega arith
+loop-less c = omega (arith, at-hand (c .before .before .before) .1, c .next-member2 .ensures .from-on)
 
 loop-again : tie.Need-loop-again Inv-loop μ-loop
 loop-again c =
-    let l = c .before .before .before .before .loop in
-    search-turns _ _ _ _ _ _ (l .j) _ (l .inv) (λ h. true≢false (sym (c .before .before .may-close .ensures .1 h) ∙ c .before .if1 .left)) (c .next-member2 .ensures)
+    seeking-turns _ _ _ _ _ _ (c .before .before .before .before .loop .inv) (c .before .before .before .loop-test .taken) (c .before .before .may-close .ensures) (c .next-member2 .ensures)
+    (⊎-elim (λ w. inl (w .0 .taken, w .1)) (λ w. inr (w .0 .left, w .1)) (c .before .if1 .came))
 
-returns-2 : tie.Need-returns-2 Inv-loop μ-loop
-returns-2 c =
-    let l = c .before .loop in
-    search-ends _ _ _ _ _ _ (l .j) (l .inv) (omega arith)
+returns : tie.Need-returns Inv-loop μ-loop
+returns c = seeking-ends _ _ _ _ _ _ (c .before .loop .inv) (c .loop-test .left)
 
 pub nearest-spec : {M : Type 1} → statement M
 nearest-spec =
@@ -71,10 +69,9 @@ nearest-spec =
     loop-holds
     sub-may-close
     may-close-requires
-    sub-result
-    returns
+    sub-found
     add-next-member-2
     next-member-requires-2
     loop-less
     loop-again
-    returns-2)
+    returns)
