@@ -9,6 +9,7 @@ use mathlib.Core.Bool.{Bool, true, false}
 use mathlib.Core.List.{List, [], _∷_, _++_, map, map-append, append-assoc, append-nil}
 use lib.ListN.{length, getD, set, take, length-map, drop-of-length-le}
 use lib.Seq.{slice, slice-cons, length-take-le, take-suc-set, getD-set-same, getD-set-other}
+use Rattle.figures.specs.Limits.{maxEntrySimples}
 use Rattle.linking.specs.Reading.{NumberedEntry}
 use Rattle.book.specs.Format.{Bytes, bodyAt, typePart, sameBytes, wordOf}
 use Rattle.book.proofs.Layouts.{entry-shape}
@@ -91,7 +92,7 @@ module _ (bytes : Bytes) (offsets : List ℕ) (found : List ℕ) (n : ℕ) where
   pub record Tallying (sum k : ℕ) : Type 0 where
     pub inside : k ≤ n
     pub total : simplesIn (entriesAt bytes offsets found n) ≡ sum + simplesIn (onward k)
-    pub small : sum ≤ 12 * k
+    pub small : sum ≤ maxEntrySimples * k
 
   pub tally-start : Tallying 0 0
   tally-start = record { inside = omega arith; total = omega arith; small = omega arith }

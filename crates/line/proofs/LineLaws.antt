@@ -11,10 +11,12 @@ use mathlib.Core.Option.{none, some}
 use lib.ListN.{length, getD, drop, length-append, List·getD-append, drop-of-length-le}
 use lib.Seq.{drop-cons, getD-at}
 use borrow.Author.Tests.{lt-ltb, le-ltb}
+use Rattle.figures.specs.Limits.{maxEntries, maxEntrySimples, maxLineSimples}
+use Rattle.figures.specs.Refusals.{unknownWord, tooManySimples}
 use Rattle.linking.specs.Reading.{NumberedEntry, Words}
 use Rattle.book.specs.Format.{Bytes, Book}
 use Rattle.line.specs.LineWords.{Word, wordsOf}
-use Rattle.line.specs.LineFaults.{maxSimples, entriesFrom, entriesOf, entriesOfLine, byteFault, wordFault, entryFault, isEmpty, simplesIn, simplesOfWords, passed, stopped, lineCheck}
+use Rattle.line.specs.LineFaults.{entriesFrom, entriesOf, entriesOfLine, byteFault, wordFault, entryFault, isEmpty, simplesIn, simplesOfWords, passed, stopped, lineCheck}
 use Rattle.line.specs.Split.{wordAt, wordsKept, SplitInto, Stopped, at-byte, at-word}
 use Rattle.line.specs.LookUp.{entriesKept, entriesAt, FoundEntries, Tallied, Missing, no-entry, too-many, LookedUp, LineSays}
 use Rattle.line.specs.declared.CheckedLine.{CheckedLine as Split}
@@ -72,7 +74,7 @@ module _ (B : Book) (line : Bytes) (starts ends : List ℕ) (words : ℕ) (s : S
     pub inside : k ≤ words
     pub found : entryFault B (wordsOf line) ≡ entryFault B (drop k (wordsOf line))
     pub simples : simplesOfWords (entriesOfLine B line) ≡ sum + simplesOfWords (map (entriesOf B) (drop k (wordsOf line)))
-    pub small : sum ≤ 12288 * k
+    pub small : sum ≤ maxEntries * maxEntrySimples * k
 
   pub looking-start : Looking 0 0
   looking-start = record { inside = omega arith; found = refl; simples = omega arith; small = omega arith }
@@ -88,7 +90,7 @@ module _ (B : Book) (line : Bytes) (starts ends : List ℕ) (words : ℕ) (s : S
     unfolding entryFault
     unfolded = rw (words-at k h)
 
-    pub looking-none : n ≡ 0 → Missing B line 13 (word k .at)
+    pub looking-none : n ≡ 0 → Missing B line unknownWord (word k .at)
     looking-none e = no-entry (l .found ∙ unfolded ∙ ap (λ (b : Bool). cond b (some (word k .at)) (entryFault B (drop (k + 1) (wordsOf line)))) (empty (entriesOf B (word k)) (sym number ∙ e)))
       where
         empty : (es : List NumberedEntry) → length es ≡ 0 → isEmpty es ≡ true
@@ -127,10 +129,10 @@ module _ (B : Book) (line : Bytes) (starts ends : List ℕ) (words : ℕ) (s : S
       let e : simplesOfWords (leftWords k) ≡ 0 = ap (λ (ws : List Word). simplesOfWords (map (entriesOf B) ws)) (none-left k h) in
       omega (arith, l .simples)
 
-  pub looking-full : (sum k : ℕ) → Looking sum k → words ≤ k → maxSimples < sum → Missing B line 14 0
+  pub looking-full : (sum k : ℕ) → Looking sum k → words ≤ k → maxLineSimples < sum → Missing B line tooManySimples 0
   looking-full sum k l h m = too-many (all-found sum k l h) (omega (arith, all-counted sum k l h))
 
-  pub looking-end : (sum k : ℕ) → Looking sum k → words ≤ k → sum ≤ maxSimples → (entryFault B (wordsOf line) ≡ none) × (simplesOfWords (entriesOfLine B line) ≤ maxSimples)
+  pub looking-end : (sum k : ℕ) → Looking sum k → words ≤ k → sum ≤ maxLineSimples → (entryFault B (wordsOf line) ≡ none) × (simplesOfWords (entriesOfLine B line) ≤ maxLineSimples)
   looking-end sum k l h m = (all-found sum k l h, omega (arith, all-counted sum k l h))
 
 -- The check of a line, from what its parts found.
@@ -143,11 +145,11 @@ module _ (B : Book) (line : Bytes) where
   pub check-missing : {number value : ℕ} → byteFault 0 line ≡ none → wordFault 0 (wordsOf line) ≡ none → Missing B line number value → lineCheck B line ≡ stopped number value
   unfolding lineCheck
   check-missing e f (no-entry g) = rw (e, f, g)
-  check-missing e f (too-many g h) = rw (e, f, g, lt-ltb maxSimples (simplesOfWords (entriesOfLine B line)) h)
+  check-missing e f (too-many g h) = rw (e, f, g, lt-ltb maxLineSimples (simplesOfWords (entriesOfLine B line)) h)
 
-  pub check-passed : byteFault 0 line ≡ none → wordFault 0 (wordsOf line) ≡ none → entryFault B (wordsOf line) ≡ none → simplesOfWords (entriesOfLine B line) ≤ maxSimples → lineCheck B line ≡ passed (entriesOfLine B line)
+  pub check-passed : byteFault 0 line ≡ none → wordFault 0 (wordsOf line) ≡ none → entryFault B (wordsOf line) ≡ none → simplesOfWords (entriesOfLine B line) ≤ maxLineSimples → lineCheck B line ≡ passed (entriesOfLine B line)
   unfolding lineCheck
-  check-passed e f g h = rw (e, f, g, le-ltb maxSimples (simplesOfWords (entriesOfLine B line)) h)
+  check-passed e f g h = rw (e, f, g, le-ltb maxLineSimples (simplesOfWords (entriesOfLine B line)) h)
 
   -- What the look-up found says what the line is.
   pub looked-up : (starts ends : List ℕ) (words : ℕ) → SplitInto line starts ends words → (r : Split) → LookedUp B line words r → LineSays B line starts ends r

@@ -6,16 +6,11 @@ use mathlib.Core.List.{List, [], _∷_, map}
 use mathlib.Core.Option.{Option, none, some}
 use lib.Dec.{leb, ltb}
 use lib.ListN.{length}
-use Rattle.book.specs.Format.{Bytes, Book, Entry, between, sameBytes, maxWord}
+use Rattle.figures.specs.Limits.{maxWord, maxWords, maxLineSimples}
+use Rattle.figures.specs.Refusals.{badLineByte, badWord, unknownWord, tooManySimples}
+use Rattle.book.specs.Format.{Bytes, Book, Entry, between, sameBytes}
 use Rattle.linking.specs.Reading.{NumberedEntry, Words}
 use Rattle.line.specs.LineWords.{Word, wordsOf}
-
--- The figures of the paper.
-abbrev pub maxWords : ℕ
-maxWords = 24
-
-abbrev pub maxSimples : ℕ
-maxSimples = 512
 
 -- Words are the same when their bytes are.
 abbrev pub sameWord : Bytes → Bytes → Bool
@@ -78,7 +73,7 @@ orElse number (some value) next = stopped number value
 unfoldable pub lineCheck : Book → Bytes → LineCheck
 lineCheck B line =
     let words = entriesOfLine B line in
-    let full = cond (ltb maxSimples (simplesOfWords words)) (stopped 14 0) (passed words) in
-    let known = orElse 13 (entryFault B (wordsOf line)) full in
-    let cut = orElse 12 (wordFault 0 (wordsOf line)) known in
-    orElse 11 (byteFault 0 line) cut
+    let full = cond (ltb maxLineSimples (simplesOfWords words)) (stopped tooManySimples 0) (passed words) in
+    let known = orElse unknownWord (entryFault B (wordsOf line)) full in
+    let cut = orElse badWord (wordFault 0 (wordsOf line)) known in
+    orElse badLineByte (byteFault 0 line) cut

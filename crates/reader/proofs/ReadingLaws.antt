@@ -9,6 +9,7 @@ use mathlib.Core.Option.{Option, none, some}
 use lib.ListN.{getD, length, take, drop, length-append}
 use lib.Seq.{length-take-le, getD-take}
 use borrow.Author.Tests.{lt-ltb, le-ltb}
+use Rattle.figures.specs.Limits.{maxWords, rowWords}
 use Rattle.pregroup.specs.Types.{Basic, PregroupType}
 use Rattle.pregroup.specs.Order.{Relation}
 use Rattle.pregroup.specs.Vanish.{Reduces}
@@ -18,12 +19,10 @@ use Rattle.linking.specs.Reading.{Words, Answer, firstReading}
 use Rattle.linking.proofs.Reduction.{linking-iff-reduces}
 use Rattle.linking.proofs.FirstLinking.{first-linking-some, first-linking-none, first-linking-greedy}
 use Rattle.linking.proofs.FirstReading.{first-reading-some}
-use Rattle.line.specs.LineFaults.{maxWords}
 use Rattle.line.proofs.Passed.{choice-brief}
 use Rattle.graph.specs.Graph.{Graph, EntersBy, Upward, VanishTo, Boundary, Spells, ended, more}
 use Rattle.choice.specs.Completion.{SlotChoice, done, choose}
 use Rattle.choice.specs.Grown.{chosen}
-use Rattle.figures.specs.Limits.{rowWords}
 use Rattle.bits.specs.Rows.{HasRow, InRow}
 use Rattle.chart.specs.Chart.{FilledFrom}
 use Rattle.choice.specs.First.{Chose, Choosable, Roomy}

@@ -3,6 +3,7 @@ use Prim.Native.Nat.{ℕ, _+_, _≤_, _<_}
 use mathlib.Core.Path.{_≡_}
 use mathlib.Core.List.{List, _++_}
 use lib.ListN.{getD, length, drop}
+use Rattle.figures.specs.Limits.{maxWords}
 use Rattle.pregroup.specs.Types.{Basic}
 use Rattle.pregroup.specs.Order.{Relation}
 use Rattle.pregroup.specs.Vanish.{Reduces}
@@ -13,7 +14,6 @@ use Rattle.book.specs.Format.{Bytes, Book, accepted, parse}
 use Rattle.linking.specs.Reading.{Words, AllAscending, firstReading}
 use Rattle.linking.specs.Greedy.{GreedyFrom}
 use Rattle.line.specs.LookUp.{entriesKept}
-use Rattle.line.specs.LineFaults.{maxWords}
 use Rattle.line.specs.Passing.{AllKnown, AllBrief}
 use Rattle.bits.specs.Rows.{HasRow}
 use Rattle.graph.specs.Graph.{Graph, Upward, VanishTo}

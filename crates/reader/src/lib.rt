@@ -4,15 +4,15 @@ mod writing;
 
 use book::Scan;
 use book::records::scan_book;
+use figures::limits::MAX_WORDS;
 use graph::MAX_NODES;
 use graph::layout::lay_out;
 use line::CheckedLine;
 use line::lookup::check_line;
-use line::split::MAX_WORDS;
 use run::read_graph;
 ghost use Prim.Native.Nat.{_≤_};
 ghost use lib.ListN.{length};
-ghost use Rattle.line.specs.LineFaults.{maxWords};
+ghost use Rattle.figures.specs.Limits.{maxWords};
 ghost use Rattle.graph.specs.Lists.{Checked};
 ghost use Rattle.reader.specs.Outcome.{outcome};
 ghost use Rattle.reader.specs.Demands.{Promised};

@@ -8,13 +8,15 @@ use mathlib.Core.Option.{Option, none, some}
 use lib.Dec.{ltb, eqb}
 use lib.ListN.{length}
 use borrow.Author.Tests.{eq-eqb, ne-eqb}
+use Rattle.figures.specs.Limits.{maxLineSimples}
+use Rattle.figures.specs.Refusals.{badLineByte, badWord, unknownWord, tooManySimples}
 use Rattle.book.specs.Format.{Bytes, Book, Draft, Parsed, accepted, refused, parse, recordsFrom, ended, recordFault, nextAt, add, kindAt, bodyAt, isSome, nothingYet, maxBytes}
 use Rattle.book.specs.Check.{bookCheck, answerFor}
 use Rattle.book.specs.declared.BookCheck.{BookCheck}
 use Rattle.book.specs.declared.BookCheck.the-variants.{Accepted, Refused}
 use Rattle.linking.specs.Reading.{Answer}
 use Rattle.line.specs.LineWords.{wordsOf}
-use Rattle.line.specs.LineFaults.{LineCheck, passed, stopped, lineCheck, orElse, byteFault, wordFault, entryFault, simplesOfWords, entriesOfLine, maxSimples}
+use Rattle.line.specs.LineFaults.{LineCheck, passed, stopped, lineCheck, orElse, byteFault, wordFault, entryFault, simplesOfWords, entriesOfLine}
 use Rattle.reader.specs.declared.LineAnswer.{LineAnswer}
 use Rattle.reader.specs.declared.LineAnswer.the-variants.{Read, Refused as RefusedLine}
 use Rattle.reader.specs.Outcome.{Outcome, valuesOf, given, readAgainst, readParsed, outcome}
@@ -66,9 +68,9 @@ unfolding lineCheck
 line-named B line =
     let words = wordsOf line in
     let simples = simplesOfWords (entriesOfLine B line) in
-    or-else-named 11 (byteFault 0 line) _ (omega arith)
-    (or-else-named 12 (wordFault 0 words) _ (omega arith)
-    (or-else-named 13 (entryFault B words) _ (omega arith) (either-side NamedLine (ltb maxSimples simples) (stopped 14 0) (passed (entriesOfLine B line)) (omega arith) tt)))
+    or-else-named badLineByte (byteFault 0 line) _ (omega arith)
+    (or-else-named badWord (wordFault 0 words) _ (omega arith)
+    (or-else-named unknownWord (entryFault B words) _ (omega arith) (either-side NamedLine (ltb maxLineSimples simples) (stopped tooManySimples 0) (passed (entriesOfLine B line)) (omega arith) tt)))
 
 abbrev NamedCheck : BookCheck → Type 0
 NamedCheck (Accepted types entries pairs) = Unit {0}
