@@ -1,5 +1,6 @@
 -- Theorems on what reading a line comes to.
 pub mod Table
+pub mod Refusals
 pub mod Promises
 pub mod Selection
 pub mod Gathering

@@ -33,8 +33,8 @@ use Rattle.table.proofs.CopyLaws.{picked-string-map}
 use Rattle.answer.specs.Entries.{entryNumbers}
 use Rattle.answer.proofs.ValueLaws.{entry-numbers-length}
 use Rattle.reader.specs.declared.LineAnswer.the-variants.{Read, Refused}
-use Rattle.reader.specs.Outcome.{valuesOf, given}
-use Rattle.reader.specs.Runs.{Gives, GivesFirst, Drawn, Drawable, Charted, Linkable, Writable, WroteAnswer}
+use Rattle.reader.specs.Outcome.{valuesOf, given, Gives}
+use Rattle.reader.specs.Runs.{GivesFirst, Drawn, Drawable, Charted, Linkable, Writable, WroteAnswer}
 use Rattle.reader.proofs.Gathering.{Gathered, unread-iff, gathered}
 use Rattle.reader.proofs.WritingLaws.{picked-length}
 

@@ -24,12 +24,7 @@ use Rattle.table.specs.Table.{maxString}
 use Rattle.table.specs.Copy.{pickedString}
 use Rattle.answer.specs.Entries.{entryNumbers}
 use Rattle.reader.specs.declared.LineAnswer.{LineAnswer}
-use Rattle.reader.specs.Outcome.{Outcome, valuesOf, given}
-
--- This is returned, and the buffer holds that.
-pub record Gives (o : Outcome) (answer : LineAnswer) (after : List ℕ) : Type 0 where
-  pub returned : answer ≡ o .answer
-  pub left : after ≡ o .buffer
+use Rattle.reader.specs.Outcome.{valuesOf, given, Gives}
 
 -- The book is B, its entries are kept at these offsets, and the rows hold its order.
 pub record Open (bytes : Bytes) (offsets : List ℕ) (count : ℕ) (rows : List ℕ) (target : ℕ) (B : Book) : Type 0 where
