@@ -7,3 +7,4 @@ pub mod Gathering
 pub mod WritingLaws
 pub mod ReadingLaws
 pub mod OpeningLaws
+pub mod Theorems
