@@ -7,18 +7,19 @@ use mathlib.Core.Bool.{Bool, true, false, cond}
 use mathlib.Core.List.{List, [], _∷_, map, List·Memᴰ, List·Memᴰ·not-nil, List·Memᴰ·head, List·Memᴰ·tail, List·Memᴰ·cases-cons}
 use mathlib.Core.Logic.{⊎-elim}
 use mathlib.Core.Option.{Option, none, some}
-use lib.Dec.{ltb}
+use lib.Dec.{eqb, ltb}
 use lib.ListN.{length, length-append}
-use borrow.Author.Tests.{ltb-false}
+use borrow.Author.Tests.{ne-eqb, ltb-false}
 use Rattle.pregroup.specs.Types.{PregroupType}
 use Rattle.figures.specs.Limits.{maxEntrySimples, maxLineSimples}
 use Rattle.figures.specs.Refusals.{badLineByte, badWord, unknownWord, tooManySimples}
-use Rattle.linking.specs.Reading.{NumberedEntry, Words, Choice, take, empty as empty-choice, Ascending, empty, more, AllAscending}
-use Rattle.book.specs.Format.{Bytes, Book, Entry}
+use Rattle.linking.specs.Reading.{NumberedEntry, Words, Choice, take, empty as empty-choice}
+use Rattle.linking.specs.Ascending.{Ascending, empty, more, AllAscending}
+use Rattle.book.specs.Format.{Bytes, Book, Entry, sameBytes}
 use Rattle.book.proofs.Accepted.{AllShort}
 use Rattle.line.specs.Passing.{AllKnown, no-word, known, Brief, AllBrief, no-words, brief}
 use Rattle.line.specs.LineWords.{Word, wordsOf}
-use Rattle.line.specs.LineFaults.{sameWord, entriesFrom, entriesOf, entriesOfLine, byteFault, wordFault, entryFault, isEmpty, simplesOfWords, LineCheck, passed, stopped, orElse, lineCheck}
+use Rattle.line.specs.LineFaults.{entriesFrom, entriesOf, entriesOfLine, byteFault, wordFault, entryFault, simplesOfWords, LineCheck, passed, stopped, orElse, lineCheck}
 
 -- Every entry's number is n or more.
 abbrev NumbersFrom : ℕ → List NumberedEntry → Type 0
@@ -30,7 +31,7 @@ numbers-cons n e es h k f m = ⊎-elim (λ q. let same = ap (λ (x : NumberedEnt
 numbers-from : (n : ℕ) (entries : List Entry) (word : Bytes) → NumbersFrom n (entriesFrom n entries word)
 unfolding entriesFrom
 numbers-from n [] word = λ f m. absurd (List·Memᴰ·not-nil m)
-numbers-from n (e ∷ entries) word = go (sameWord (e .word) word) (λ f m. let h = numbers-from (n + 1) entries word f m in omega arith)
+numbers-from n (e ∷ entries) word = go (sameBytes (e .word) word) (λ f m. let h = numbers-from (n + 1) entries word f m in omega arith)
   where
     rest : List NumberedEntry
     rest = entriesFrom (n + 1) entries word
@@ -42,7 +43,7 @@ numbers-from n (e ∷ entries) word = go (sameWord (e .word) word) (λ f m. let 
 entries-ascend : (n : ℕ) (entries : List Entry) (word : Bytes) → Ascending (entriesFrom n entries word)
 unfolding entriesFrom
 entries-ascend n [] word = empty
-entries-ascend n (e ∷ entries) word = go (sameWord (e .word) word) (entries-ascend (n + 1) entries word)
+entries-ascend n (e ∷ entries) word = go (sameBytes (e .word) word) (entries-ascend (n + 1) entries word)
   where
     rest : List NumberedEntry
     rest = entriesFrom (n + 1) entries word
@@ -60,10 +61,10 @@ unfolding entryFault
 words-known B [] h = no-word
 words-known B (w ∷ words) h = go (entriesOf B w) (λ k. words-known B words k) h
   where
-    go : (es : List NumberedEntry) → (entryFault B words ≡ none → AllKnown (map (entriesOf B) words)) → cond (isEmpty es) (some (w .at)) (entryFault B words) ≡ none
+    go : (es : List NumberedEntry) → (entryFault B words ≡ none → AllKnown (map (entriesOf B) words)) → cond (eqb (length es) 0) (some (w .at)) (entryFault B words) ≡ none
         → AllKnown (es ∷ map (entriesOf B) words)
     go [] rest k = let z : _≡_ {A = ℕ} 0 1 = cc in absurd (omega arith)
-    go (e ∷ es) rest k = known (rest k)
+    go (e ∷ es) rest k = known (rest (rw (ne-eqb (length (e ∷ es)) 0 (omega arith)) at k))
 
 -- What a line that passes comes to.
 pub record Passing (B : Book) (line : Bytes) (words : Words) : Type 0 where
@@ -104,7 +105,7 @@ entries-brief : (n : ℕ) (entries : List Entry) (word : Bytes) → AllShort ent
 unfolding entriesFrom
 entries-brief n [] word short = λ f m. absurd (List·Memᴰ·not-nil m)
 entries-brief n (e ∷ entries) word short =
-    go (sameWord (e .word) word) (entries-brief (n + 1) entries word (λ f m. short f (List·Memᴰ·tail m)))
+    go (sameBytes (e .word) word) (entries-brief (n + 1) entries word (λ f m. short f (List·Memᴰ·tail m)))
   where
     rest : List NumberedEntry
     rest = entriesFrom (n + 1) entries word

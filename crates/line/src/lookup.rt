@@ -15,15 +15,14 @@ ghost use mathlib.Core.Bool.{true};
 ghost use Prim.Native.Nat.{_≤_, _<_};
 ghost use lib.ListN.{length};
 ghost use Rattle.figures.specs.Limits.{maxWords};
-ghost use Rattle.book.specs.Format.{Book, bodyAt, nextAt, isEntry, wordOf};
-ghost use Rattle.line.specs.LineFaults.{sameWord};
+ghost use Rattle.book.specs.Format.{Book, bodyAt, nextAt, isEntry, wordOf, sameBytes};
 ghost use Rattle.line.specs.Split.{SplitInto};
 ghost use Rattle.line.specs.LookUp.{entriesKept, Entries, FoundEntries, Tallyable, Tallied, LookedUp, LineSays};
 
 // Whether the entry whose record stands at an offset is a word's.
 fn belongs(book: &[u8], at: usize, word: &[u8]) -> bool
     requires { ⌜ (nextAt (now book) at ≤ length (now book)) × (isEntry (bodyAt (now book) at) ≡ true) ⌝ }
-    ensures { λ r. ⌜ r ≡ sameWord (wordOf (bodyAt (now (book .entry)) at)) (now (word .entry)) ⌝ }
+    ensures { λ r. ⌜ r ≡ sameBytes (wordOf (bodyAt (now (book .entry)) at)) (now (word .entry)) ⌝ }
 {
     same(word_part(body_at(book, at)), word)
 }

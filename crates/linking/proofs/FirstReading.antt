@@ -10,7 +10,8 @@ use Rattle.pregroup.specs.Types.{Basic, PregroupType}
 use Rattle.pregroup.specs.Order.{Relation}
 use Rattle.pregroup.specs.Tests.{Test, Decides}
 use Rattle.linking.specs.Linking.{IsLinking, first, later, AtMost}
-use Rattle.linking.specs.Reading.{NumberedEntry, Words, Choice, empty, take, IsReading, NotLater, IsFirst, Ascending, more, AllAscending, Answer, firstEntry, firstBehind, firstReading}
+use Rattle.linking.specs.Reading.{NumberedEntry, Words, Choice, empty, take, IsReading, NotLater, IsFirst, Answer, firstEntry, firstBehind, firstReading}
+use Rattle.linking.specs.Ascending.{Ascending, empty, more, AllAscending}
 use Rattle.linking.proofs.Comparison.{before-both}
 use Rattle.linking.proofs.FirstLinking.{FirstLinking, least, no-linking, first-linking}
 

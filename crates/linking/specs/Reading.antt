@@ -1,5 +1,5 @@
 -- Document 01, "A reading": choices of a line, its readings, which of them comes first, and that one as antt computes it.
-use Prim.Native.Nat.{ℕ, _<_}
+use Prim.Native.Nat.{ℕ}
 use mathlib.Core.Path.{_≡_}
 use mathlib.Core.Logic.{_⊎_}
 use mathlib.Core.Option.{Option, none, some}
@@ -43,16 +43,7 @@ pub record IsFirst (Le : Relation) (s : Basic) (words : Words) (ns P : List ℕ)
   pub reading : IsReading Le s words ns P
   pub least : (ns′ P′ : List ℕ) → IsReading Le s words ns′ P′ → NotLater ns P ns′ P′
 
--- The numbers of a word's entries ascend, as they do in a book.
-pub data Ascending : List NumberedEntry → Type 0 where
-  empty : Ascending []
-  more : {e : NumberedEntry} {es : List NumberedEntry} → ((f : NumberedEntry) → List·Memᴰ f es → e .number < f .number) → Ascending es → Ascending (e ∷ es)
-
-pub data AllAscending : Words → Type 0 where
-  empty : AllAscending []
-  more : {es : List NumberedEntry} {rest : Words} → Ascending es → AllAscending rest → AllAscending (es ∷ rest)
-
--- NumberedEntry numbers and partner list.
+-- Entry numbers and partner list.
 abbrev pub Answer : Type 0
 Answer = List ℕ × List ℕ
 

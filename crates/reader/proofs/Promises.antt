@@ -17,7 +17,8 @@ use Rattle.order.proofs.Decision.{below-decides}
 use Rattle.order.proofs.ClosureLaws.{closed-is-order}
 use Rattle.book.specs.Format.{Bytes, Book, Parsed, accepted, refused, parse}
 use Rattle.book.proofs.Accepted.{accepted-declares}
-use Rattle.linking.specs.Reading.{Words, Answer, IsReading, IsFirst, AllAscending, firstReading}
+use Rattle.linking.specs.Reading.{Words, Answer, IsReading, IsFirst, firstReading}
+use Rattle.linking.specs.Ascending.{AllAscending}
 use Rattle.linking.proofs.FirstReading.{first-reading-some, first-reading-none, first-reading-unique}
 use Rattle.linking.proofs.Derivation.{unread-iff-no-chain}
 use Rattle.line.specs.LineFaults.{LineCheck, passed, stopped, lineCheck}

@@ -7,13 +7,13 @@ use mathlib.Core.Option.{Option, none, some}
 use lib.ListN.{length, replicate, drop}
 use Rattle.figures.specs.Refusals.{noReading}
 use Rattle.pregroup.specs.Types.{even}
-use Rattle.pregroup.specs.Tests.{sameExponent, contracts, closes, vanishes}
+use Rattle.pregroup.specs.Tests.{sameExponent, contracts}
 use Rattle.order.specs.Closed.{below}
-use Rattle.linking.specs.Linking.{firstFrom, isSome, mayLink, nearestWithin, partnersWithin, mayStay, reducesFrom, nearestFrom, partnersFrom, firstLinking}
+use Rattle.linking.specs.Linking.{firstSome, linkedTo, firstWithin, unlinkedAt, firstFrom, firstLinking}
 use Rattle.linking.specs.Reading.{Answer, firstEntry, firstBehind, firstReading}
 use Rattle.book.specs.Format.{Bytes, every, twoBytes, kindOf, letter, nameByte, isName, wordByte, exponentOf, simplesOf, isEntry, cutShort, notListed, badLayout, numbersIn, undeclared, exponentsIn, exponentListed, exponentOutside, sameBytes, nameUsed, secondTarget, tooMany, firstFault, bodyFault, recordFault, add, ended, recordsFrom, parse}
 use Rattle.book.proofs.PaperBooks.{typeRecord, pairRecord, entryRecord, targetRecord, join, fetch, bed4, ward7, urgently, admit, site, go, please, log, firstBook, secondBook}
-use Rattle.line.specs.LineWords.{partsFrom}
+use Rattle.line.specs.LineWords.{wordsFrom}
 use Rattle.line.specs.LineFaults.{entriesFrom, byteFault, wordFault, entryFault, simplesIn, simplesOfWords, lineCheck}
 use Rattle.reader.specs.Outcome.{Outcome, valuesOf, given, readAgainst, readParsed, outcome}
 use Rattle.reader.specs.declared.LineAnswer.the-variants.{Read, Refused}
@@ -95,5 +95,5 @@ expected none = record { answer = Refused noReading 0; buffer = lent }
 expected (some a) = record { answer = Read (length (valuesOf a)); buffer = valuesOf a ++ drop (length (valuesOf a)) lent }
 
 pub paper-cases : map (λ (c : Case). outcome (c .book) (lineOf (c .words)) lent) cases ≡ map (λ (c : Case). expected (c .reading)) cases
-unfolding every twoBytes kindOf letter nameByte isName wordByte exponentOf simplesOf isEntry cutShort notListed badLayout numbersIn undeclared exponentsIn exponentListed exponentOutside sameBytes nameUsed secondTarget tooMany firstFault bodyFault recordFault add ended recordsFrom parse even sameExponent contracts closes vanishes firstFrom isSome mayLink nearestWithin partnersWithin mayStay reducesFrom nearestFrom partnersFrom firstLinking firstEntry firstBehind firstReading below partsFrom entriesFrom byteFault wordFault entryFault simplesIn simplesOfWords lineCheck given readAgainst readParsed
+unfolding every twoBytes kindOf letter nameByte isName wordByte exponentOf simplesOf isEntry cutShort notListed badLayout numbersIn undeclared exponentsIn exponentListed exponentOutside sameBytes nameUsed secondTarget tooMany firstFault bodyFault recordFault add ended recordsFrom parse even sameExponent contracts firstSome linkedTo firstWithin unlinkedAt firstFrom firstLinking firstEntry firstBehind firstReading below wordsFrom entriesFrom byteFault wordFault entryFault simplesIn simplesOfWords lineCheck given readAgainst readParsed
 paper-cases = refl

@@ -13,7 +13,8 @@ use Rattle.pregroup.specs.Tests.{Test, Decides}
 use Rattle.pregroup.proofs.General.{general}
 use Rattle.pregroup.proofs.Switching.{switching, switching-contractions}
 use Rattle.linking.specs.Linking.{IsLinking}
-use Rattle.linking.specs.Reading.{Words, Choice, IsReading, IsFirst, AllAscending, firstReading}
+use Rattle.linking.specs.Reading.{Words, Choice, IsReading, IsFirst, firstReading}
+use Rattle.linking.specs.Ascending.{AllAscending}
 use Rattle.linking.proofs.Reduction.{linking-iff-reduces}
 use Rattle.linking.proofs.FirstReading.{first-reading-some, first-reading-none, first-reading-unique}
 use Rattle.linking.proofs.Derivation.{reading-iff-chain}

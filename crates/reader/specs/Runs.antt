@@ -11,7 +11,8 @@ use Rattle.pregroup.specs.Tests.{Test, Decides}
 use Rattle.pregroup.specs.Held.{InRows}
 use Rattle.order.specs.Closed.{below}
 use Rattle.book.specs.Format.{Bytes, Book, accepted, parse}
-use Rattle.linking.specs.Reading.{Words, AllAscending, firstReading}
+use Rattle.linking.specs.Reading.{Words, firstReading}
+use Rattle.linking.specs.Ascending.{AllAscending}
 use Rattle.linking.specs.Greedy.{GreedyFrom}
 use Rattle.line.specs.LookUp.{entriesKept}
 use Rattle.line.specs.Passing.{AllKnown, AllBrief}
