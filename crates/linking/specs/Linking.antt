@@ -2,7 +2,6 @@
 -- partner list: at each position the position that it is linked to, and at the unlinked position its own.
 use Prim.Native.Nat.{ℕ, zero, suc, _-_, _≤_, _<_}
 use mathlib.Core.Path.{_≡_}
-use mathlib.Core.Logic.{_⊎_}
 use mathlib.Core.Bool.{cond, _&&_}
 use mathlib.Core.Option.{Option, none, some, Option·map}
 use mathlib.Core.List.{List, [], _∷_, _++_}
@@ -43,13 +42,11 @@ pub record IsLinking (Le : Relation) (s : Basic) (X : PregroupType) (P : List �
   pub below : Le ((simpleAt X unlinked) .base) s
   pub uncovered : (i : ℕ) → Position X i → i < unlinked → unlinked < partner P i → ⊥
 
--- Smaller at the first difference.
-pub data Before : List ℕ → List ℕ → Type 0 where
-  first : {a b : ℕ} {A B : List ℕ} → a < b → Before (a ∷ A) (b ∷ B)
-  later : {a : ℕ} {A B : List ℕ} → Before A B → Before (a ∷ A) (a ∷ B)
-
-abbrev pub AtMost : List ℕ → List ℕ → Type 0
-AtMost P Q = (P ≡ Q) ⊎ Before P Q
+-- The same, or smaller at the first difference.
+pub data AtMost : List ℕ → List ℕ → Type 0 where
+  equal : {A : List ℕ} → AtMost A A
+  first : {a b : ℕ} {A B : List ℕ} → a < b → AtMost (a ∷ A) (b ∷ B)
+  later : {a : ℕ} {A B : List ℕ} → AtMost A B → AtMost (a ∷ A) (a ∷ B)
 
 -- The stretch of X from position i up to, not including, position j.
 abbrev pub stretch : PregroupType → ℕ → ℕ → PregroupType
