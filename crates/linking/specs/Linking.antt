@@ -58,7 +58,8 @@ firstSome f zero k = none
 firstSome f (suc d) k = elim (f k) [ none ↦ firstSome f d (suc k) | some P ↦ some P ]
 
 module _ (le : Test) (X : PregroupType) where
-  -- The partners from i on with i linked to k, of those between the two and those behind k, where both are there and i and k could contract.
+  -- The partners from i on where i is linked to k: A of what stands between the two, B of what stands behind k. There are none where either
+  -- has none, or where i and k could not contract.
   unfoldable pub linkedTo : ℕ → ℕ → Option (List ℕ) → Option (List ℕ) → Option (List ℕ)
   linkedTo i k none behind = none
   linkedTo i k (some A) none = none
@@ -71,7 +72,7 @@ module _ (le : Test) (X : PregroupType) where
   firstWithin (suc d) i j =
       cond (eqb i j) (some []) (firstSome (λ k. linkedTo i k (firstWithin d (suc i) k) (firstWithin d (suc k) j)) (j - suc i) (suc i))
 
-  -- The partners from i on with i unlinked, of those behind it: i is plain and at or below the target.
+  -- The partners from i on where i stays unlinked, with A of what stands behind it: i must be plain and at or below the target.
   unfoldable pub unlinkedAt : Basic → ℕ → Option (List ℕ) → Option (List ℕ)
   unlinkedAt s i behind =
       cond (leb i (length X) && sameExponent (simpleAt X i .exponent) (pos 0) && le (simpleAt X i .base) s) (Option·map (λ (A : List ℕ). i ∷ A) behind) none
