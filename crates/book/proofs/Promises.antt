@@ -9,13 +9,13 @@ use Rattle.figures.specs.Refusals.{Reply}
 use Rattle.order.specs.Closed.{Closed, Listed, HasPairs, closedCount}
 use Rattle.order.proofs.PairCount.{closed-has-pairs, pairs-unique}
 use Rattle.book.specs.Format.{Bytes, Book, Parsed, accepted, refused, parse, ended}
-use Rattle.book.specs.Check.{answerFor, bookCheck, replyOf, Cause, too-long, bad-record, no-target, BookPromised}
+use Rattle.book.specs.Check.{answerFor, bookCheck, checkReply, Cause, too-long, bad-record, no-target, BookPromised}
 use Rattle.book.proofs.SmallestNumber.{breaks-some}
 use Rattle.book.proofs.Parsing.{end-parse, cause-refuses, Comes, whole, stopped, parse-comes}
 use Rattle.book.proofs.Accepted.{good-declares}
 
 -- No cause has the number 0.
-cause-some : {bytes : Bytes} {n v : ℕ} → Cause bytes n v → 0 < n
+pub cause-some : {bytes : Bytes} {n v : ℕ} → Cause bytes n v → 0 < n
 cause-some (too-long h) = omega arith
 cause-some {bytes} (bad-record {at} {n} {d} short good h b least) = breaks-some bytes at d n b
 cause-some (no-target short good) = omega arith
@@ -33,7 +33,7 @@ same-book : (A B : Book) → accepted A ≡ accepted B → A ≡ B
 same-book A B e = cc
 
 module _ (bytes : Bytes) where
-  checked : {p : Parsed} → Comes bytes p → parse bytes ≡ p → BookPromised bytes (replyOf (answerFor p))
+  checked : {p : Parsed} → Comes bytes p → parse bytes ≡ p → BookPromised bytes (checkReply (answerFor p))
   checked (whole {B} short good) parsed =
       let never : (n v : ℕ) → Cause bytes n v → ⊥ = λ n v cause. not-both _ n v (sym parsed ∙ cause-refuses bytes cause) in
       record {
@@ -63,11 +63,11 @@ module _ (bytes : Bytes) where
         );
       }
 
-  pub check-promised : BookPromised bytes (replyOf (bookCheck bytes))
+  pub check-promised : BookPromised bytes (checkReply (bookCheck bytes))
   check-promised = checked (parse-comes bytes) refl
 
   module _ (reply : Reply) (promised : BookPromised bytes reply) where
-    only : {p : Parsed} → Comes bytes p → parse bytes ≡ p → reply ≡ replyOf (answerFor p)
+    only : {p : Parsed} → Comes bytes p → parse bytes ≡ p → reply ≡ checkReply (answerFor p)
     unfolding ended
     only (stopped {n} {v} cause) parsed = promised .refuses n v .1 cause
     only (whole {B} short good) parsed =
@@ -79,5 +79,5 @@ module _ (bytes : Bytes) where
         let values : reply .values ≡ length (B .names) ∷ length (B .entries) ∷ closedCount (length (B .names)) (B .pairs) ∷ [] = c .counts ∙ rw (held, count) in
         λ i. record { number = zero i; values = values i }
 
-    pub one-answer : reply ≡ replyOf (bookCheck bytes)
+    pub one-answer : reply ≡ checkReply (bookCheck bytes)
     one-answer = only (parse-comes bytes) refl

@@ -22,9 +22,9 @@ abbrev pub bookCheck : Bytes → BookCheck
 bookCheck bytes = answerFor (parse bytes)
 
 -- An answer of the book check as the paper gives it.
-abbrev pub replyOf : BookCheck → Reply
-replyOf (Accepted types entries pairs) = record { number = 0; values = types ∷ entries ∷ pairs ∷ [] }
-replyOf (Refused number value) = record { number = number; values = value ∷ [] }
+abbrev pub checkReply : BookCheck → Reply
+checkReply (Accepted types entries pairs) = record { number = 0; values = types ∷ entries ∷ pairs ∷ [] }
+checkReply (Refused number value) = record { number = number; values = value ∷ [] }
 
 -- The record at an offset, behind records that hold d, breaks the rule with this number.
 abbrev pub Breaks : Bytes → ℕ → Draft → ℕ → Type 0

@@ -1,6 +1,6 @@
 // A book: any bytes at all, accepted with its contents or refused by the first rule it breaks.
 ghost use mathlib.Core.Path.{_≡_};
-ghost use Rattle.book.specs.Check.{bookCheck, replyOf, BookPromised};
+ghost use Rattle.book.specs.Check.{bookCheck, checkReply, BookPromised};
 use figures::limits::MAX_ENTRIES;
 use figures::limits::MAX_TYPES;
 
@@ -63,7 +63,7 @@ pub enum BookCheck {
 // returned with it. The book is not written to.
 pub fn check_book(book: &[u8]) -> BookCheck
     ensures { λ r. ⌜ r ≡ bookCheck (now (book .entry)) ⌝ }
-    ensures { λ r. ⌜ BookPromised (now (book .entry)) (replyOf r) ⌝ }
+    ensures { λ r. ⌜ BookPromised (now (book .entry)) (checkReply r) ⌝ }
 {
     let mut names = [0u16; MAX_TYPES];
     let mut entries = [0u16; MAX_ENTRIES];

@@ -29,16 +29,16 @@ pub record SlotsThere (enters rows : List ℕ) (from to : ℕ) : Type 0 where
   pub slots : to ≤ length enters
   pub room : (s : ℕ) → from ≤ s → s < to → HasRow rows (getD enters s 0)
 
--- y is simple, u could contract with it, and v is in the row of the node behind y.
-pub record Joined (Le : Relation) (simples nexts rows : List ℕ) (u y v : ℕ) : Type 0 where
+-- y is simple, x could contract with it, and v is in the row of the node behind y.
+pub record Joined (Le : Relation) (simples nexts rows : List ℕ) (x y v : ℕ) : Type 0 where
   pub simple : 0 < getD nexts y 0
-  pub contracts : Contracts Le (held (getD simples u 0)) (held (getD simples y 0))
+  pub contracts : Contracts Le (held x) (held (getD simples y 0))
   pub behind : InRow rows (getD nexts y 0) v
 
 -- The part of a node y, for a simple node u: y is in the row of the node behind u, and joined.
 pub record LinkPart (Le : Relation) (simples nexts rows : List ℕ) (u y v : ℕ) : Type 0 where
   pub reached : InRow rows (getD nexts u 0) y
-  pub joined : Joined Le simples nexts rows u y v
+  pub joined : Joined Le simples nexts rows (getD simples u 0) y v
 
 -- The lists have u.
 pub record NodeThere (simples nexts : List ℕ) (u : ℕ) : Type 0 where

@@ -28,26 +28,25 @@ fn boundary_row(enters: &[u16], rows: &[u64], u: usize, from: usize, to: usize) 
     row
 }
 
-// The row with that of the node behind y, where y is simple and u may contract with it.
+// The row with that of the node behind y, where y is simple and x may contract with it.
 fn join_row(
     order: &[u64],
     simples: &[u16],
     nexts: &[u16],
     rows: &[u64],
     row: Row,
-    u: usize,
+    x: u16,
     y: usize,
 ) -> Row
-    requires { ⌜ NodeThere (now simples) (now nexts) u ⌝ }
     requires { ⌜ NodeThere (now simples) (now nexts) y × HasRow (now rows) (getD (now nexts) y 0) ⌝ }
     ensures { λ r. ⌜ RowSays (r .words) 0 (λ v. InRow (row .words) 0 v
-        ⊎ Joined (InRows (now (order .entry))) (now (simples .entry)) (now (nexts .entry)) (now (rows .entry)) u y v) ⌝ }
+        ⊎ Joined (InRows (now (order .entry))) (now (simples .entry)) (now (nexts .entry)) (now (rows .entry)) x y v) ⌝ }
 {
     let next = nexts[y];
     if next == 0 {
         return row;
     }
-    if pregroup::may_contract(order, simples[u], simples[y]) {
+    if pregroup::may_contract(order, x, simples[y]) {
         return rows::unite(row, rows, next as usize);
     }
     row
@@ -61,10 +60,11 @@ fn simple_row(order: &[u64], simples: &[u16], nexts: &[u16], rows: &[u64], u: us
         (Gathered (Only u) (LinkPart (InRows (now (order .entry))) (now (simples .entry)) (now (nexts .entry)) (now (rows .entry)) u)) ⌝ }
 {
     let behind = nexts[u] as usize;
+    let x = simples[u];
     let mut row = rows::put(rows::empty(), u);
     let mut y = rows::next_member(rows, behind, 0);
     while y < ROW_BITS {
-        row = join_row(order, simples, nexts, rows, row, u, y);
+        row = join_row(order, simples, nexts, rows, row, x, y);
         y = rows::next_member(rows, behind, y + 1);
     }
     row

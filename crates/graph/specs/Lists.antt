@@ -3,12 +3,12 @@ use Prim.Native.Nat.{ℕ, _+_, _≤_, _<_}
 use mathlib.Core.Path.{_≡_}
 use mathlib.Core.List.{List, [], map}
 use lib.ListN.{length, getD}
-use Rattle.figures.specs.Limits.{maxNodes}
+use Rattle.figures.specs.Limits.{maxWords, maxNodes}
 use Rattle.pregroup.specs.Types.{Basic}
 use Rattle.linking.specs.Reading.{Words}
 use Rattle.book.specs.Format.{Bytes, Book}
 use Rattle.line.specs.LineWords.{Word, wordsOf}
-use Rattle.line.specs.LineFaults.{maxWords, simplesIn, simplesOfWords, entriesOfLine}
+use Rattle.line.specs.LineFaults.{simplesIn, simplesOfWords, entriesOfLine}
 use Rattle.line.specs.Split.{SplitInto}
 use Rattle.line.specs.LookUp.{entriesKept, LineSays}
 use Rattle.line.specs.declared.CheckedLine.the-variants.{Found}

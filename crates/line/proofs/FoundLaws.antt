@@ -9,10 +9,11 @@ use mathlib.Core.Bool.{Bool, true, false}
 use mathlib.Core.List.{List, [], _∷_, _++_, map, map-append, append-assoc, append-nil}
 use lib.ListN.{length, getD, set, take, length-map, drop-of-length-le}
 use lib.Seq.{slice, slice-cons, length-take-le, take-suc-set, getD-set-same, getD-set-other}
+use Rattle.figures.specs.Limits.{maxEntrySimples}
 use Rattle.linking.specs.Reading.{NumberedEntry}
-use Rattle.book.specs.Format.{Bytes, bodyAt, typePart, sameBytes, wordOf}
+use Rattle.book.specs.Format.{Bytes, bodyAt, typePart, wordOf}
 use Rattle.book.proofs.Layouts.{entry-shape}
-use Rattle.line.specs.LineFaults.{simplesIn}
+use Rattle.line.specs.LineFaults.{simplesIn, sameWord}
 use Rattle.line.specs.LookUp.{Entries, entryAt, entriesAt, FoundEntries, Tallyable, Tallied}
 use Rattle.line.proofs.LookUpLaws.{simples-length, left, left-same, left-other, left-end}
 
@@ -33,7 +34,7 @@ module _ (bytes : Bytes) (offsets : List ℕ) (count : ℕ) (word : Bytes) where
       abbrev mine : Bytes
       mine = wordOf (bodyAt bytes (getD {A = ℕ} offsets i 0))
 
-      pub finding-other : {t : Bool} → t ≡ sameBytes mine word → t ≡ false → Finding found n (i + 1)
+      pub finding-other : {t : Bool} → t ≡ sameWord mine word → t ≡ false → Finding found n (i + 1)
       finding-other says e =
           record {
             inside = omega arith;
@@ -42,7 +43,7 @@ module _ (bytes : Bytes) (offsets : List ℕ) (count : ℕ) (word : Bytes) where
             all = ap (λ (es : List NumberedEntry). entriesAt bytes offsets found n ++ es) (sym (left-other bytes offsets count kept word i h (sym says ∙ e))) ∙ f .all;
           }
 
-      pub finding-same : {t : Bool} → n < length found → t ≡ sameBytes mine word → t ≡ true → Finding (set found n i) (n + 1) (i + 1)
+      pub finding-same : {t : Bool} → n < length found → t ≡ sameWord mine word → t ≡ true → Finding (set found n i) (n + 1) (i + 1)
       finding-same room says e = record { inside = omega arith; few = omega (arith, f .few); low = below; all = together ∙ f .all }
         where
           below : (k : ℕ) → k < n + 1 → getD {A = ℕ} (set found n i) k 0 < count
@@ -91,7 +92,7 @@ module _ (bytes : Bytes) (offsets : List ℕ) (found : List ℕ) (n : ℕ) where
   pub record Tallying (sum k : ℕ) : Type 0 where
     pub inside : k ≤ n
     pub total : simplesIn (entriesAt bytes offsets found n) ≡ sum + simplesIn (onward k)
-    pub small : sum ≤ 12 * k
+    pub small : sum ≤ maxEntrySimples * k
 
   pub tally-start : Tallying 0 0
   tally-start = record { inside = omega arith; total = omega arith; small = omega arith }

@@ -5,16 +5,19 @@ use native.Mathlib.Omega.{arith}
 use native.Mathlib.Decide.{ℕ-discrete}
 use native.Mathlib.Nat.{add-assoc}
 use mathlib.Core.Path.{_≡_, refl, sym, ap, _∙_}
-use mathlib.Core.Bool.{Bool, true, false, cond}
+use mathlib.Core.Bool.{Bool, cond}
 use mathlib.Core.List.{List, [], _∷_, _++_, map}
 use mathlib.Core.Option.{none, some}
+use lib.Dec.{eqb}
 use lib.ListN.{length, getD, drop, length-append, List·getD-append, drop-of-length-le}
 use lib.Seq.{drop-cons, getD-at}
-use borrow.Author.Tests.{lt-ltb, le-ltb}
+use borrow.Author.Tests.{eq-eqb, ne-eqb, lt-ltb, le-ltb}
+use Rattle.figures.specs.Limits.{maxEntries, maxEntrySimples, maxLineSimples}
+use Rattle.figures.specs.Refusals.{unknownWord, tooManySimples}
 use Rattle.linking.specs.Reading.{NumberedEntry, Words}
 use Rattle.book.specs.Format.{Bytes, Book}
 use Rattle.line.specs.LineWords.{Word, wordsOf}
-use Rattle.line.specs.LineFaults.{maxSimples, entriesFrom, entriesOf, entriesOfLine, byteFault, wordFault, entryFault, isEmpty, simplesIn, simplesOfWords, passed, stopped, lineCheck}
+use Rattle.line.specs.LineFaults.{entriesFrom, entriesOf, entriesOfLine, byteFault, wordFault, entryFault, simplesIn, simplesOfWords, passed, stopped, lineCheck}
 use Rattle.line.specs.Split.{wordAt, wordsKept, SplitInto, Stopped, at-byte, at-word}
 use Rattle.line.specs.LookUp.{entriesKept, entriesAt, FoundEntries, Tallied, Missing, no-entry, too-many, LookedUp, LineSays}
 use Rattle.line.specs.declared.CheckedLine.{CheckedLine as Split}
@@ -72,7 +75,7 @@ module _ (B : Book) (line : Bytes) (starts ends : List ℕ) (words : ℕ) (s : S
     pub inside : k ≤ words
     pub found : entryFault B (wordsOf line) ≡ entryFault B (drop k (wordsOf line))
     pub simples : simplesOfWords (entriesOfLine B line) ≡ sum + simplesOfWords (map (entriesOf B) (drop k (wordsOf line)))
-    pub small : sum ≤ 12288 * k
+    pub small : sum ≤ maxEntries * maxEntrySimples * k
 
   pub looking-start : Looking 0 0
   looking-start = record { inside = omega arith; found = refl; simples = omega arith; small = omega arith }
@@ -84,30 +87,22 @@ module _ (B : Book) (line : Bytes) (starts ends : List ℕ) (words : ℕ) (s : S
     number : n ≡ length (entriesOf B (word k))
     number = sym (found-length bytes offsets found n (f .numbers .room)) ∙ ap length entries
 
-    unfolded : entryFault B (drop k (wordsOf line)) ≡ cond (isEmpty (entriesOf B (word k))) (some (word k .at)) (entryFault B (drop (k + 1) (wordsOf line)))
+    unfolded : entryFault B (drop k (wordsOf line)) ≡ cond (eqb (length (entriesOf B (word k))) 0) (some (word k .at)) (entryFault B (drop (k + 1) (wordsOf line)))
     unfolding entryFault
     unfolded = rw (words-at k h)
 
-    pub looking-none : n ≡ 0 → Missing B line 13 (word k .at)
-    looking-none e = no-entry (l .found ∙ unfolded ∙ ap (λ (b : Bool). cond b (some (word k .at)) (entryFault B (drop (k + 1) (wordsOf line)))) (empty (entriesOf B (word k)) (sym number ∙ e)))
-      where
-        empty : (es : List NumberedEntry) → length es ≡ 0 → isEmpty es ≡ true
-        empty [] z = refl
-        empty (x ∷ es) z = absurd (omega arith)
+    pub looking-none : n ≡ 0 → Missing B line unknownWord (word k .at)
+    looking-none e = no-entry (l .found ∙ unfolded ∙ ap (λ (b : Bool). cond b (some (word k .at)) (entryFault B (drop (k + 1) (wordsOf line)))) (eq-eqb _ 0 (sym number ∙ e)))
 
     pub looking-next : (n ≡ 0 → ⊥) → (simples : ℕ) → Tallied bytes offsets found n simples → Looking (sum + simples) (k + 1)
     looking-next any simples t =
         record {
           inside = omega arith;
-          found = l .found ∙ unfolded ∙ ap (λ (b : Bool). cond b (some (word k .at)) (entryFault B (drop (k + 1) (wordsOf line)))) (full (entriesOf B (word k)) (λ z. any (number ∙ z)));
+          found = l .found ∙ unfolded ∙ ap (λ (b : Bool). cond b (some (word k .at)) (entryFault B (drop (k + 1) (wordsOf line)))) (ne-eqb _ 0 (λ z. any (number ∙ z)));
           simples = l .simples ∙ ap (λ (m : ℕ). sum + m) more ∙ sym (add-assoc sum simples (simplesOfWords (leftWords (k + 1))));
           small = omega (arith, l .small, t .small);
         }
       where
-        full : (es : List NumberedEntry) → (length es ≡ 0 → ⊥) → isEmpty es ≡ false
-        full [] z = absurd (z refl)
-        full (x ∷ es) z = refl
-
         added : simplesOfWords (leftWords k) ≡ simplesIn (entriesOf B (word k)) + simplesOfWords (leftWords (k + 1))
         added = ap (λ (ws : List Word). simplesOfWords (map (entriesOf B) ws)) (words-at k h) ∙ simples-cons (entriesOf B (word k)) (leftWords (k + 1))
 
@@ -127,10 +122,10 @@ module _ (B : Book) (line : Bytes) (starts ends : List ℕ) (words : ℕ) (s : S
       let e : simplesOfWords (leftWords k) ≡ 0 = ap (λ (ws : List Word). simplesOfWords (map (entriesOf B) ws)) (none-left k h) in
       omega (arith, l .simples)
 
-  pub looking-full : (sum k : ℕ) → Looking sum k → words ≤ k → maxSimples < sum → Missing B line 14 0
+  pub looking-full : (sum k : ℕ) → Looking sum k → words ≤ k → maxLineSimples < sum → Missing B line tooManySimples 0
   looking-full sum k l h m = too-many (all-found sum k l h) (omega (arith, all-counted sum k l h))
 
-  pub looking-end : (sum k : ℕ) → Looking sum k → words ≤ k → sum ≤ maxSimples → (entryFault B (wordsOf line) ≡ none) × (simplesOfWords (entriesOfLine B line) ≤ maxSimples)
+  pub looking-end : (sum k : ℕ) → Looking sum k → words ≤ k → sum ≤ maxLineSimples → (entryFault B (wordsOf line) ≡ none) × (simplesOfWords (entriesOfLine B line) ≤ maxLineSimples)
   looking-end sum k l h m = (all-found sum k l h, omega (arith, all-counted sum k l h))
 
 -- The check of a line, from what its parts found.
@@ -143,11 +138,11 @@ module _ (B : Book) (line : Bytes) where
   pub check-missing : {number value : ℕ} → byteFault 0 line ≡ none → wordFault 0 (wordsOf line) ≡ none → Missing B line number value → lineCheck B line ≡ stopped number value
   unfolding lineCheck
   check-missing e f (no-entry g) = rw (e, f, g)
-  check-missing e f (too-many g h) = rw (e, f, g, lt-ltb maxSimples (simplesOfWords (entriesOfLine B line)) h)
+  check-missing e f (too-many g h) = rw (e, f, g, lt-ltb maxLineSimples (simplesOfWords (entriesOfLine B line)) h)
 
-  pub check-passed : byteFault 0 line ≡ none → wordFault 0 (wordsOf line) ≡ none → entryFault B (wordsOf line) ≡ none → simplesOfWords (entriesOfLine B line) ≤ maxSimples → lineCheck B line ≡ passed (entriesOfLine B line)
+  pub check-passed : byteFault 0 line ≡ none → wordFault 0 (wordsOf line) ≡ none → entryFault B (wordsOf line) ≡ none → simplesOfWords (entriesOfLine B line) ≤ maxLineSimples → lineCheck B line ≡ passed (entriesOfLine B line)
   unfolding lineCheck
-  check-passed e f g h = rw (e, f, g, le-ltb maxSimples (simplesOfWords (entriesOfLine B line)) h)
+  check-passed e f g h = rw (e, f, g, le-ltb maxLineSimples (simplesOfWords (entriesOfLine B line)) h)
 
   -- What the look-up found says what the line is.
   pub looked-up : (starts ends : List ℕ) (words : ℕ) → SplitInto line starts ends words → (r : Split) → LookedUp B line words r → LineSays B line starts ends r

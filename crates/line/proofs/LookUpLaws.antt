@@ -8,10 +8,10 @@ use mathlib.Core.List.{List, [], _∷_}
 use lib.ListN.{length, getD, drop, length-map, List·getD-map, drop-of-length-le}
 use lib.Seq.{drop-cons}
 use Rattle.linking.specs.Reading.{NumberedEntry}
-use Rattle.book.specs.Format.{Bytes, Entry, bodyAt, entryOf, sameBytes, simplesOf}
+use Rattle.book.specs.Format.{Bytes, Entry, bodyAt, entryOf, simplesOf}
 use Rattle.book.specs.Kept.{bodiesAt}
 use Rattle.book.proofs.Names.{bodies-length, bodies-at}
-use Rattle.line.specs.LineFaults.{entriesFrom}
+use Rattle.line.specs.LineFaults.{entriesFrom, sameWord}
 use Rattle.line.specs.LookUp.{entriesKept, Entries, entryAt}
 
 -- Two bytes a simple type.
@@ -40,15 +40,15 @@ module _ (bytes : Bytes) (offsets : List ℕ) (count : ℕ) (kept : Entries byte
   all-at : (i : ℕ) → i < count → getD all i (entryOf (bodyAt bytes 0)) ≡ entry i
   all-at i h = List·getD-map entryOf (bodiesAt bytes offsets count) i (bodyAt bytes 0) ∙ ap entryOf (bodies-at bytes offsets count i h)
 
-  unfolded : (i : ℕ) → i < count → left bytes offsets count word i ≡ cond (sameBytes (entry i .word) word) (entryAt bytes offsets i ∷ left bytes offsets count word (i + 1)) (left bytes offsets count word (i + 1))
+  unfolded : (i : ℕ) → i < count → left bytes offsets count word i ≡ cond (sameWord (entry i .word) word) (entryAt bytes offsets i ∷ left bytes offsets count word (i + 1)) (left bytes offsets count word (i + 1))
   unfolding entriesFrom
   unfolded i h = rw (drop-cons all i (entryOf (bodyAt bytes 0)) (omega (arith, all-length)), all-at i h, add-one i)
 
   -- The entry is the word's, or another's.
-  pub left-same : (i : ℕ) → i < count → sameBytes (entry i .word) word ≡ true → left bytes offsets count word i ≡ entryAt bytes offsets i ∷ left bytes offsets count word (i + 1)
+  pub left-same : (i : ℕ) → i < count → sameWord (entry i .word) word ≡ true → left bytes offsets count word i ≡ entryAt bytes offsets i ∷ left bytes offsets count word (i + 1)
   left-same i h e = unfolded i h ∙ ap (λ (t : Bool). cond t (entryAt bytes offsets i ∷ left bytes offsets count word (i + 1)) (left bytes offsets count word (i + 1))) e
 
-  pub left-other : (i : ℕ) → i < count → sameBytes (entry i .word) word ≡ false → left bytes offsets count word i ≡ left bytes offsets count word (i + 1)
+  pub left-other : (i : ℕ) → i < count → sameWord (entry i .word) word ≡ false → left bytes offsets count word i ≡ left bytes offsets count word (i + 1)
   left-other i h e = unfolded i h ∙ ap (λ (t : Bool). cond t (entryAt bytes offsets i ∷ left bytes offsets count word (i + 1)) (left bytes offsets count word (i + 1))) e
 
   pub left-end : (i : ℕ) → count ≤ i → left bytes offsets count word i ≡ []

@@ -7,17 +7,19 @@ use mathlib.Core.Bool.{Bool, true, false, cond}
 use mathlib.Core.List.{List, [], _∷_, map, List·Memᴰ, List·Memᴰ·not-nil, List·Memᴰ·head, List·Memᴰ·tail, List·Memᴰ·cases-cons}
 use mathlib.Core.Logic.{⊎-elim}
 use mathlib.Core.Option.{Option, none, some}
-use lib.Dec.{ltb}
+use lib.Dec.{eqb, ltb}
 use lib.ListN.{length, length-append}
-use borrow.Author.Tests.{ltb-false}
+use borrow.Author.Tests.{ne-eqb, ltb-false}
 use Rattle.pregroup.specs.Types.{PregroupType}
-use Rattle.linking.specs.Reading.{NumberedEntry, Words, Choice, take, empty as empty-choice, Ascending, empty, more, AllAscending}
-use Rattle.figures.specs.Limits.{maxEntrySimples}
+use Rattle.figures.specs.Limits.{maxEntrySimples, maxLineSimples}
+use Rattle.figures.specs.Refusals.{badLineByte, badWord, unknownWord, tooManySimples}
+use Rattle.linking.specs.Reading.{NumberedEntry, Words, Choice, take, empty as empty-choice}
+use Rattle.linking.specs.Ascending.{Ascending, empty, more, AllAscending}
 use Rattle.book.specs.Format.{Bytes, Book, Entry}
 use Rattle.book.proofs.Accepted.{AllShort}
 use Rattle.line.specs.Passing.{AllKnown, no-word, known, Brief, AllBrief, no-words, brief}
 use Rattle.line.specs.LineWords.{Word, wordsOf}
-use Rattle.line.specs.LineFaults.{maxSimples, sameWord, entriesFrom, entriesOf, entriesOfLine, byteFault, wordFault, entryFault, isEmpty, simplesOfWords, LineCheck, passed, stopped, orElse, lineCheck}
+use Rattle.line.specs.LineFaults.{entriesFrom, entriesOf, entriesOfLine, byteFault, wordFault, entryFault, simplesOfWords, LineCheck, passed, stopped, orElse, lineCheck, sameWord}
 
 -- Every entry's number is n or more.
 abbrev NumbersFrom : ℕ → List NumberedEntry → Type 0
@@ -59,24 +61,24 @@ unfolding entryFault
 words-known B [] h = no-word
 words-known B (w ∷ words) h = go (entriesOf B w) (λ k. words-known B words k) h
   where
-    go : (es : List NumberedEntry) → (entryFault B words ≡ none → AllKnown (map (entriesOf B) words)) → cond (isEmpty es) (some (w .at)) (entryFault B words) ≡ none
+    go : (es : List NumberedEntry) → (entryFault B words ≡ none → AllKnown (map (entriesOf B) words)) → cond (eqb (length es) 0) (some (w .at)) (entryFault B words) ≡ none
         → AllKnown (es ∷ map (entriesOf B) words)
     go [] rest k = let z : _≡_ {A = ℕ} 0 1 = cc in absurd (omega arith)
-    go (e ∷ es) rest k = known (rest k)
+    go (e ∷ es) rest k = known (rest (rw (ne-eqb (length (e ∷ es)) 0 (omega arith)) at k))
 
 -- What a line that passes comes to.
 pub record Passing (B : Book) (line : Bytes) (words : Words) : Type 0 where
   pub words-are : words ≡ entriesOfLine B line
   pub known-words : AllKnown words
   pub ascending : AllAscending words
-  pub few : simplesOfWords words ≤ maxSimples
+  pub few : simplesOfWords words ≤ maxLineSimples
 
 -- Passing an `orElse` is passing the test and what comes next.
 past : (number : ℕ) (o : Option ℕ) (next : LineCheck) {words : Words} → orElse number o next ≡ passed words → (o ≡ none) × (next ≡ passed words)
 past number none next h = (refl, h)
 past number (some v) next h = let z : _≡_ {A = ℕ} 0 1 = cc in absurd (omega arith)
 
-last-test : (over : Bool) (ws words : Words) → cond over (stopped 14 0) (passed ws) ≡ passed words → (over ≡ false) × (words ≡ ws)
+last-test : (over : Bool) (ws words : Words) → cond over (stopped tooManySimples 0) (passed ws) ≡ passed words → (over ≡ false) × (words ≡ ws)
 last-test true ws words h = let z : _≡_ {A = ℕ} 0 1 = cc in absurd (omega arith)
 last-test false ws words h = (refl, cc)
 
@@ -84,16 +86,16 @@ pub line-passing : (B : Book) (line : Bytes) (words : Words) → lineCheck B lin
 unfolding lineCheck
 line-passing B line words h =
     let ws = entriesOfLine B line in
-    let full = cond (ltb maxSimples (simplesOfWords ws)) (stopped 14 0) (passed ws) in
-    let in-range = past 11 (byteFault 0 line) (orElse 12 (wordFault 0 (wordsOf line)) (orElse 13 (entryFault B (wordsOf line)) full)) h in
-    let cut = past 12 (wordFault 0 (wordsOf line)) (orElse 13 (entryFault B (wordsOf line)) full) (in-range .1) in
-    let each = past 13 (entryFault B (wordsOf line)) full (cut .1) in
-    let fits = last-test (ltb maxSimples (simplesOfWords ws)) ws words (each .1) in
+    let full = cond (ltb maxLineSimples (simplesOfWords ws)) (stopped tooManySimples 0) (passed ws) in
+    let in-range = past badLineByte (byteFault 0 line) (orElse badWord (wordFault 0 (wordsOf line)) (orElse unknownWord (entryFault B (wordsOf line)) full)) h in
+    let cut = past badWord (wordFault 0 (wordsOf line)) (orElse unknownWord (entryFault B (wordsOf line)) full) (in-range .1) in
+    let each = past unknownWord (entryFault B (wordsOf line)) full (cut .1) in
+    let fits = last-test (ltb maxLineSimples (simplesOfWords ws)) ws words (each .1) in
     record {
       words-are = fits .1;
       known-words = subst AllKnown (sym (fits .1)) (words-known B (wordsOf line) (each .0));
       ascending = subst AllAscending (sym (fits .1)) (words-ascend B (wordsOf line));
-      few = subst (λ (w : Words). simplesOfWords w ≤ maxSimples) (sym (fits .1)) (ltb-false _ _ (fits .0));
+      few = subst (λ (w : Words). simplesOfWords w ≤ maxLineSimples) (sym (fits .1)) (ltb-false _ _ (fits .0));
     }
 
 pub brief-cons : (e : NumberedEntry) (es : List NumberedEntry) → length (e .type) ≤ maxEntrySimples → Brief es → Brief (e ∷ es)
@@ -120,7 +122,7 @@ words-brief B short (w ∷ words) = brief (entries-brief 0 (B .entries) (w .byte
 pub line-brief : (B : Book) (line : Bytes) (words : Words) → AllShort (B .entries) → Passing B line words → AllBrief words
 line-brief B line words short p = subst AllBrief (sym (p .words-are)) (words-brief B short (wordsOf line))
 
--- So a choice has at most 12 simple types a word.
+-- So a choice has at most maxEntrySimples simple types a word.
 pub choice-brief : {words : Words} {ns : List ℕ} {X : PregroupType} → AllBrief words → Choice words ns X → length X ≤ maxEntrySimples * length words
 choice-brief no-words empty-choice = omega arith
 choice-brief (brief b rest) (take {e} {X} m c) = let h = choice-brief rest c in let k = b e m in let n = length-append (e .type) X in omega arith

@@ -9,10 +9,11 @@ use mathlib.Core.Option.{none}
 use lib.ListN.{length, getD, drop, set, length-set, length-drop}
 use lib.Seq.{getD-set-same, getD-set-other, length-take-le}
 use borrow.Author.Tests.{lt-ltb, le-ltb, le-leb, lt-leb}
-use Rattle.figures.specs.Limits.{maxWord}
+use Rattle.figures.specs.Limits.{maxWord, maxWords}
+use Rattle.figures.specs.Refusals.{badWord}
 use Rattle.book.specs.Format.{Bytes}
 use Rattle.line.specs.LineWords.{Word, wordsOf}
-use Rattle.line.specs.LineFaults.{maxWords, byteFault, wordFault}
+use Rattle.line.specs.LineFaults.{byteFault, wordFault}
 use Rattle.line.specs.Split.{wordAt, wordsKept, Skipped, Spelt, Lying, SplitInto, Stopped, at-word}
 use Rattle.line.proofs.WordLaws.{wordsHere, words-end}
 
@@ -69,12 +70,12 @@ module _ (line : Bytes) (starts₀ ends₀ starts ends : List ℕ) (count at : �
   here : wordFault 0 (wordsOf line) ≡ wordFault count (wordAt line at end ∷ wordsHere line end)
   here = w .faults ∙ ap (wordFault count) (s .same)
 
-  pub splitting-long : maxWord < end - at → Stopped line 12 at
+  pub splitting-long : maxWord < end - at → Stopped line badWord at
   unfolding wordFault
   splitting-long h =
       at-word {value = at} (w .bytes-fine) (here ∙ (rw (word-length line at end (s .some-bytes) (s .inside), lt-ltb maxWord (end - at) h)))
 
-  pub splitting-many : end - at ≤ maxWord → maxWords ≤ count → Stopped line 12 at
+  pub splitting-many : end - at ≤ maxWord → maxWords ≤ count → Stopped line badWord at
   unfolding wordFault
   splitting-many h k =
       at-word {value = at} (w .bytes-fine) (here ∙ (rw (word-length line at end (s .some-bytes) (s .inside), le-ltb maxWord (end - at) h, le-leb maxWords count k)))

@@ -1,106 +1,114 @@
 -- How the bytes of a line, taken one by one, part into words, and where the first byte stands that no line may have.
-use Prim.Native.Nat.{ℕ, suc, _+_, _-_, _≤_, _<_}
+use Prim.Native.Nat.{ℕ, zero, suc, _+_, _-_, _≤_, _<_}
 use native.Mathlib.Numerals.{add-one}
 use native.Mathlib.Omega.{arith}
-use mathlib.Core.Path.{_≡_, refl, sym, ap, _∙_}
+use native.Mathlib.Decide.{ℕ-discrete}
+use mathlib.Core.Path.{_≡_, refl, sym, ap, subst, _∙_}
 use mathlib.Core.Bool.{Bool, true, false, cond}
-use mathlib.Core.List.{List, [], _∷_, _++_, append-nil, append-assoc}
+use mathlib.Core.List.{List, [], _∷_}
 use mathlib.Core.Option.{none, some}
-use lib.ListN.{length, getD, take, drop, length-drop, drop-of-length-le}
-use lib.Seq.{drop-cons, take-suc, getD-drop, length-take-le}
+use lib.Dec.{eqb}
+use lib.ListN.{length, getD, take, drop, drop-of-length-le}
+use lib.Seq.{drop-cons}
 use borrow.Author.Tests.{eq-eqb, ne-eqb}
 use Rattle.book.specs.Format.{Bytes, between}
-use Rattle.line.specs.LineWords.{Word, isSpace, before, Parts, partsFrom, wordsFrom}
+use Rattle.line.specs.LineWords.{Word, putBefore, wordsFrom}
 use Rattle.line.specs.LineFaults.{byteFault}
 use Rattle.line.specs.Split.{wordAt}
 
--- One more byte of a list.
-grow : (L : Bytes) (k b : ℕ) (T : Bytes) → k < length L → getD {A = ℕ} L k 0 ≡ b → take k L ++ (b ∷ T) ≡ take (suc k) L ++ T
-grow L k b T h e = rw (take-suc L k 0 h, e, append-assoc)
+-- No word starts before n.
+data StartFrom (n : ℕ) : List Word → Type 0 where
+  no-word : StartFrom n []
+  starts : {w : Word} {words : List Word} → n ≤ w .at → StartFrom n (w ∷ words)
+
+-- Words start where their bytes do, or later.
+start-from : (n : ℕ) (bytes : Bytes) → StartFrom n (wordsFrom n bytes)
+unfolding wordsFrom
+start-from n [] = no-word
+start-from n (b ∷ bytes) = go (eqb b 32) (start-from (n + 1) bytes)
+  where
+    later : {words : List Word} → StartFrom (n + 1) words → StartFrom n words
+    later no-word = no-word
+    later (starts {w} h) = starts {w = w} (omega arith)
+
+    put : {words : List Word} → StartFrom (n + 1) words → StartFrom n (putBefore n b words)
+    put no-word = starts {w = record { at = n; bytes = b ∷ [] }} (omega arith)
+    put (starts {w} {words} h) = begun (eqb (w .at) (n + 1)) words
+      where
+        begun : (t : Bool) (words : List Word) → StartFrom n (cond t (record { at = n; bytes = b ∷ w .bytes } ∷ words) (record { at = n; bytes = b ∷ [] } ∷ w ∷ words))
+        begun true words = starts {w = record { at = n; bytes = b ∷ w .bytes }} (omega arith)
+        begun false words = starts {w = record { at = n; bytes = b ∷ [] }} (omega arith)
+
+    go : {words : List Word} (t : Bool) → StartFrom (n + 1) words → StartFrom n (cond t words (putBefore n b words))
+    go true h = later h
+    go false h = put h
+
+-- A byte stands alone where no word starts right behind it.
+put-alone : (at b i : ℕ) {words : List Word} → at + 1 ≡ i → StartFrom (i + 1) words → putBefore at b words ≡ record { at = at; bytes = b ∷ [] } ∷ words
+put-alone at b i e no-word = refl
+put-alone at b i e (starts {w} h) = rw (ne-eqb (w .at) (at + 1) (omega arith))
 
 module _ (line : Bytes) where
-  -- What the line begins with from i on, and the words behind it.
-  abbrev pub here : ℕ → Parts
-  here i = partsFrom i (drop i line)
-
+  -- The words from i on.
   abbrev pub wordsHere : ℕ → List Word
   wordsHere i = wordsFrom i (drop i line)
 
-  unfolded : (i : ℕ) → i < length line → here i ≡ cond (isSpace (getD {A = ℕ} line i 0)) (record { start = []; rest = before (i + 1) (here (i + 1) .start) (here (i + 1) .rest) }) (record { start = getD {A = ℕ} line i 0 ∷ here (i + 1) .start; rest = here (i + 1) .rest })
-  unfolding partsFrom
+  unfolded : (i : ℕ) → i < length line → wordsHere i ≡ cond (eqb (getD {A = ℕ} line i 0) 32) (wordsHere (i + 1)) (putBefore i (getD {A = ℕ} line i 0) (wordsHere (i + 1)))
+  unfolding wordsFrom
   unfolded i h = rw (drop-cons line i 0 h, add-one i)
-
-  at-space : (i : ℕ) → i < length line → getD {A = ℕ} line i 0 ≡ 32 → here i ≡ record { start = []; rest = wordsHere (i + 1) }
-  at-space i h e =
-      unfolded i h
-      ∙ ap (λ (b : Bool). cond b (record { start = []; rest = wordsHere (i + 1) }) (record { start = getD {A = ℕ} line i 0 ∷ here (i + 1) .start; rest = here (i + 1) .rest }))
-      (eq-eqb (getD {A = ℕ} line i 0) 32 e)
-
-  at-byte : (i : ℕ) → i < length line → (getD {A = ℕ} line i 0 ≡ 32 → ⊥) → here i ≡ record { start = getD {A = ℕ} line i 0 ∷ here (i + 1) .start; rest = here (i + 1) .rest }
-  at-byte i h n =
-      unfolded i h
-      ∙ ap (λ (b : Bool). cond b (record { start = []; rest = wordsHere (i + 1) }) (record { start = getD {A = ℕ} line i 0 ∷ here (i + 1) .start; rest = here (i + 1) .rest }))
-      (ne-eqb (getD {A = ℕ} line i 0) 32 n)
-
-  at-end : (i : ℕ) → length line ≤ i → here i ≡ record { start = []; rest = [] }
-  unfolding partsFrom
-  at-end i h = rw (drop-of-length-le line h)
 
   -- A space is passed.
   pub words-space : (i : ℕ) → i < length line → getD {A = ℕ} line i 0 ≡ 32 → wordsHere i ≡ wordsHere (i + 1)
-  words-space i h e = ap (λ (p : Parts). before i (p .start) (p .rest)) (at-space i h e)
+  words-space i h e =
+      unfolded i h ∙ ap (λ (t : Bool). cond t (wordsHere (i + 1)) (putBefore i (getD {A = ℕ} line i 0) (wordsHere (i + 1)))) (eq-eqb (getD {A = ℕ} line i 0) 32 e)
+
+  words-byte : (i : ℕ) → i < length line → (getD {A = ℕ} line i 0 ≡ 32 → ⊥) → wordsHere i ≡ putBefore i (getD {A = ℕ} line i 0) (wordsHere (i + 1))
+  words-byte i h n =
+      unfolded i h ∙ ap (λ (t : Bool). cond t (wordsHere (i + 1)) (putBefore i (getD {A = ℕ} line i 0) (wordsHere (i + 1)))) (ne-eqb (getD {A = ℕ} line i 0) 32 n)
 
   -- There is no word at the end.
   pub words-end : (i : ℕ) → length line ≤ i → wordsHere i ≡ []
-  words-end i h = ap (λ (p : Parts). before i (p .start) (p .rest)) (at-end i h)
+  unfolding wordsFrom
+  words-end i h = rw (drop-of-length-le line h)
 
-  -- The word that starts at `at` holds the bytes up to i, and what the line goes on with from i.
-  pub record Spelling (at i : ℕ) : Type 0 where
-    pub start : here at .start ≡ take (i - at) (drop at line) ++ here i .start
-    pub rest : here at .rest ≡ here i .rest
+  -- No space stands from `at` up to i.
+  abbrev pub Spelling : ℕ → ℕ → Type 0
+  Spelling at i = (k : ℕ) → at ≤ k → k < i → getD {A = ℕ} line k 0 ≡ 32 → ⊥
 
   pub spelling-start : (at : ℕ) → Spelling at at
-  spelling-start at = record { start = ap (λ (n : ℕ). take n (drop at line) ++ here at .start) none-yet; rest = refl }
+  spelling-start at k a b = absurd (omega arith)
+
+  pub spelling-more : (at i : ℕ) → (getD {A = ℕ} line i 0 ≡ 32 → ⊥) → Spelling at i → Spelling at (i + 1)
+  spelling-more at i n s k a b = go (ℕ-discrete k i)
     where
-      none-yet : 0 ≡ at - at
-      none-yet = omega arith
+      go : Dec (k ≡ i) → getD {A = ℕ} line k 0 ≡ 32 → ⊥
+      go (yes e) = rw e n
+      go (no d) = s k a (omega (arith, d))
 
-  pub spelling-more : (at i : ℕ) → at ≤ i → i < length line → (getD {A = ℕ} line i 0 ≡ 32 → ⊥) → Spelling at i → Spelling at (i + 1)
-  spelling-more at i le h n s =
-      let b = at-byte i h n in
-      let one : i + 1 - at ≡ suc (i - at) = omega arith in
-      let byte : getD {A = ℕ} (drop at line) (i - at) 0 ≡ getD {A = ℕ} line i 0 = getD-drop at line (i - at) 0 ∙ ap (λ (k : ℕ). getD {A = ℕ} line k 0) (omega arith) in
-      record {
-        start =
-            s .start ∙ ap (λ (p : Parts). take (i - at) (drop at line) ++ p .start) b
-            ∙ grow (drop at line) (i - at) (getD {A = ℕ} line i 0) (here (i + 1) .start) (omega (arith, length-drop at line)) byte
-            ∙ ap (λ (k : ℕ). take k (drop at line) ++ here (i + 1) .start) (sym one);
-        rest = s .rest ∙ ap (λ (p : Parts). p .rest) b;
-      }
+  word-cons : (at i : ℕ) → at < i → at < length line → wordAt line at i ≡ record { at = at; bytes = getD {A = ℕ} line at 0 ∷ wordAt line (at + 1) i .bytes }
+  word-cons at i h k = let one : i - at ≡ suc (i - (at + 1)) = omega arith in rw (one, drop-cons line at 0 k, add-one at)
 
-  spelt : (at i : ℕ) → (w : Bytes) (rest : List Word) → Spelling at i → here i ≡ record { start = []; rest = rest } → take (i - at) (drop at line) ≡ w → here at ≡ record { start = w; rest = rest }
-  spelt at i w rest s e t =
-      let a : here at .start ≡ w = s .start ∙ ap (λ (p : Parts). take (i - at) (drop at line) ++ p .start) e ∙ append-nil _ ∙ t in
-      let b : here at .rest ≡ rest = s .rest ∙ ap (λ (p : Parts). p .rest) e in
-      λ k. record { start = a k; rest = b k }
+  -- A word is spelt: no space stands in it, and no word starts right behind it.
+  word-spelt : (n at i : ℕ) → at + suc n ≡ i → i ≤ length line → StartFrom (i + 1) (wordsHere i) → Spelling at i → wordsHere at ≡ wordAt line at i ∷ wordsHere i
+  word-spelt zero at i e h behind s =
+      let one : at + 1 ≡ i = omega arith in
+      let none-left : i - (at + 1) ≡ 0 = omega arith in
+      let empty : wordAt line (at + 1) i .bytes ≡ [] = ap (λ (n : ℕ). take n (drop (at + 1) line)) none-left in
+      words-byte at (omega arith) (s at (omega arith) (omega arith)) ∙ ap (λ (m : ℕ). putBefore at (getD {A = ℕ} line at 0) (wordsHere m)) one
+      ∙ put-alone at (getD {A = ℕ} line at 0) i one behind
+      ∙ sym (ap (λ (w : Word). w ∷ wordsHere i) (word-cons at i (omega arith) (omega arith) ∙ ap (λ (bytes : Bytes). record { at = at; bytes = getD {A = ℕ} line at 0 ∷ bytes }) empty))
+  word-spelt (suc n) at i e h behind s =
+      words-byte at (omega arith) (s at (omega arith) (omega arith))
+      ∙ ap (putBefore at (getD {A = ℕ} line at 0)) (word-spelt n (at + 1) i (omega arith) h behind (λ k a b. s k (omega arith) b))
+      ∙ (rw (eq-eqb (at + 1) (at + 1) refl))
+      ∙ sym (ap (λ (w : Word). w ∷ wordsHere i) (word-cons at i (omega arith) (omega arith)))
 
-  before-some : (at : ℕ) (w : Bytes) (rest : List Word) → 0 < length w → before at w rest ≡ record { at = at; bytes = w } ∷ rest
-  before-some at [] rest h = absurd (omega arith)
-  before-some at (b ∷ w) rest h = refl
-
-  -- A word is spelt: what follows it is a space or nothing.
+  -- What follows it is a space or nothing.
   pub word-space : (at i : ℕ) → at < i → i < length line → getD {A = ℕ} line i 0 ≡ 32 → Spelling at i → wordsHere at ≡ wordAt line at i ∷ wordsHere i
-  word-space at i h k e s =
-      let space = at-space i k e in
-      ap (λ (p : Parts). before at (p .start) (p .rest)) (spelt at i _ _ s space refl)
-      ∙ before-some at (take (i - at) (drop at line)) _ (omega (arith, length-drop at line, length-take-le (i - at) (drop at line) (omega (arith, length-drop at line))))
-      ∙ ap (λ (rest : List Word). wordAt line at i ∷ rest) (sym (words-space i k e))
+  word-space at i h k e = word-spelt (i - suc at) at i (omega arith) (omega arith) (subst (StartFrom (i + 1)) (sym (words-space i k e)) (start-from (i + 1) (drop (i + 1) line)))
 
   pub word-end : (at i : ℕ) → at < i → length line ≡ i → Spelling at i → wordsHere at ≡ wordAt line at i ∷ wordsHere i
-  word-end at i h k s =
-      ap (λ (p : Parts). before at (p .start) (p .rest)) (spelt at i _ _ s (at-end i (omega arith)) refl)
-      ∙ before-some at (take (i - at) (drop at line)) _ (omega (arith, length-drop at line, length-take-le (i - at) (drop at line) (omega (arith, length-drop at line))))
-      ∙ ap (λ (rest : List Word). wordAt line at i ∷ rest) (sym (words-end i (omega arith)))
+  word-end at i h k = word-spelt (i - suc at) at i (omega arith) (omega arith) (subst (StartFrom (i + 1)) (sym (words-end i (omega arith))) no-word)
 
   -- 11: bytes that a line may have are passed, and the first other one is found.
   pub byte-fine : (i : ℕ) → i < length line → between 32 126 (getD {A = ℕ} line i 0) ≡ true → byteFault i (drop i line) ≡ byteFault (i + 1) (drop (i + 1) line)

@@ -1,22 +1,16 @@
 -- Document 01, "When the screen says no", causes 11 to 14: each number is tried over the whole line before the next, and the earliest place
 -- is returned. Words that pass are given by their entries, in the book's order.
 use Prim.Native.Nat.{ℕ, _+_}
-use mathlib.Core.Bool.{Bool, true, false, cond, _||_}
-use mathlib.Core.List.{List, [], _∷_, map}
+use mathlib.Core.Bool.{Bool, cond, _||_}
+use mathlib.Core.List.{List, [], _∷_, foldr, map}
 use mathlib.Core.Option.{Option, none, some}
-use lib.Dec.{leb, ltb}
+use lib.Dec.{eqb, leb, ltb}
 use lib.ListN.{length}
-use Rattle.figures.specs.Limits.{maxWord}
+use Rattle.figures.specs.Limits.{maxWord, maxWords, maxLineSimples}
+use Rattle.figures.specs.Refusals.{badLineByte, badWord, unknownWord, tooManySimples}
 use Rattle.book.specs.Format.{Bytes, Book, Entry, between, sameBytes}
 use Rattle.linking.specs.Reading.{NumberedEntry, Words}
 use Rattle.line.specs.LineWords.{Word, wordsOf}
-
--- The figures of the paper.
-abbrev pub maxWords : ℕ
-maxWords = 24
-
-abbrev pub maxSimples : ℕ
-maxSimples = 512
 
 -- Words are the same when their bytes are.
 abbrev pub sameWord : Bytes → Bytes → Bool
@@ -45,22 +39,16 @@ wordFault n (w ∷ words) =
     cond (ltb maxWord (length (w .bytes)) || leb maxWords n) (some (w .at)) rest
 
 -- 13: word without an entry. The offset of the first one.
-abbrev pub isEmpty {ℓ} : {A : Type ℓ} → List A → Bool
-isEmpty [] = true
-isEmpty (x ∷ xs) = false
-
 unfoldable pub entryFault : Book → List Word → Option ℕ
 entryFault B [] = none
-entryFault B (w ∷ words) = let rest = entryFault B words in cond (isEmpty (entriesOf B w)) (some (w .at)) rest
+entryFault B (w ∷ words) = let rest = entryFault B words in cond (eqb (length (entriesOf B w)) 0) (some (w .at)) rest
 
 -- The number of simple types of all entries of all words, a repeated word counted each time.
 unfoldable pub simplesIn : List NumberedEntry → ℕ
-simplesIn [] = 0
-simplesIn (e ∷ entries) = length (e .type) + simplesIn entries
+simplesIn entries = foldr (λ (e : NumberedEntry) (n : ℕ). length (e .type) + n) 0 entries
 
 unfoldable pub simplesOfWords : Words → ℕ
-simplesOfWords [] = 0
-simplesOfWords (entries ∷ words) = simplesIn entries + simplesOfWords words
+simplesOfWords words = foldr (λ (entries : List NumberedEntry) (n : ℕ). simplesIn entries + n) 0 words
 
 -- The words of a line by their entries.
 abbrev pub entriesOfLine : Book → Bytes → Words
@@ -78,8 +66,7 @@ orElse number (some value) next = stopped number value
 -- 14: over 512 simple types; it returns 0.
 unfoldable pub lineCheck : Book → Bytes → LineCheck
 lineCheck B line =
-    let words = entriesOfLine B line in
-    let full = cond (ltb maxSimples (simplesOfWords words)) (stopped 14 0) (passed words) in
-    let known = orElse 13 (entryFault B (wordsOf line)) full in
-    let cut = orElse 12 (wordFault 0 (wordsOf line)) known in
-    orElse 11 (byteFault 0 line) cut
+    orElse badLineByte (byteFault 0 line)
+    (orElse badWord (wordFault 0 (wordsOf line))
+    (orElse unknownWord (entryFault B (wordsOf line))
+    (cond (ltb maxLineSimples (simplesOfWords (entriesOfLine B line))) (stopped tooManySimples 0) (passed (entriesOfLine B line)))))

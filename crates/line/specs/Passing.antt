@@ -10,7 +10,7 @@ pub data AllKnown : Words → Type 0 where
   no-word : AllKnown []
   known : {e : NumberedEntry} {es : List NumberedEntry} {words : Words} → AllKnown words → AllKnown ((e ∷ es) ∷ words)
 
--- No entry of a word has more than 12 simple types ..
+-- No entry of a word has too many simple types ..
 abbrev pub Brief : List NumberedEntry → Type 0
 Brief es = (f : NumberedEntry) → List·Memᴰ f es → length (f .type) ≤ maxEntrySimples
 

@@ -4,10 +4,11 @@ use mathlib.Core.Path.{_≡_}
 use mathlib.Core.List.{List, [], _∷_, _++_}
 use mathlib.Core.Option.{none, some}
 use lib.ListN.{length, getD, take, drop}
-use Rattle.figures.specs.Limits.{maxWord}
+use Rattle.figures.specs.Limits.{maxWord, maxWords}
+use Rattle.figures.specs.Refusals.{badLineByte, badWord}
 use Rattle.book.specs.Format.{Bytes}
 use Rattle.line.specs.LineWords.{Word, wordsFrom, wordsOf}
-use Rattle.line.specs.LineFaults.{maxWords, byteFault, wordFault}
+use Rattle.line.specs.LineFaults.{byteFault, wordFault}
 use Rattle.line.specs.declared.CheckedLine.{CheckedLine}
 use Rattle.line.specs.declared.CheckedLine.the-variants.{Found, Refused}
 
@@ -49,8 +50,8 @@ pub record SplitInto (line : Bytes) (starts ends : List ℕ) (count : ℕ) : Typ
 
 -- A line that breaks 11, or 12 and not 11.
 pub data Stopped (line : Bytes) : ℕ → ℕ → Type 0 where
-  at-byte : {value : ℕ} → byteFault 0 line ≡ some value → Stopped line 11 value
-  at-word : {value : ℕ} → byteFault 0 line ≡ none → wordFault 0 (wordsOf line) ≡ some value → Stopped line 12 value
+  at-byte : {value : ℕ} → byteFault 0 line ≡ some value → Stopped line badLineByte value
+  at-word : {value : ℕ} → byteFault 0 line ≡ none → wordFault 0 (wordsOf line) ≡ some value → Stopped line badWord value
 
 abbrev pub SplitSays : Bytes → List ℕ → List ℕ → CheckedLine → Type 0
 SplitSays line starts ends (Found count) = SplitInto line starts ends count

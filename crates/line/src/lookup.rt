@@ -7,16 +7,18 @@ use book::layout::type_part;
 use book::layout::word_part;
 use book::widths::wide_number;
 use figures::limits::MAX_ENTRIES;
+use figures::limits::MAX_LINE_SIMPLES;
+use figures::refusals::TOO_MANY_SIMPLES;
+use figures::refusals::UNKNOWN_WORD;
 ghost use mathlib.Core.Path.{_≡_};
 ghost use mathlib.Core.Bool.{true};
 ghost use Prim.Native.Nat.{_≤_, _<_};
 ghost use lib.ListN.{length};
+ghost use Rattle.figures.specs.Limits.{maxWords};
 ghost use Rattle.book.specs.Format.{Book, bodyAt, nextAt, isEntry, wordOf};
-ghost use Rattle.line.specs.LineFaults.{maxWords, sameWord};
+ghost use Rattle.line.specs.LineFaults.{sameWord};
 ghost use Rattle.line.specs.Split.{SplitInto};
 ghost use Rattle.line.specs.LookUp.{entriesKept, Entries, FoundEntries, Tallyable, Tallied, LookedUp, LineSays};
-
-pub const MAX_SIMPLES: usize = 512;
 
 // Whether the entry whose record stands at an offset is a word's.
 fn belongs(book: &[u8], at: usize, word: &[u8]) -> bool
@@ -86,16 +88,16 @@ fn look_up(
         let n = find_entries(book, offsets, count, &line[start..end], &mut found);
         if n == 0 {
             return CheckedLine::Refused {
-                number: 13,
+                number: UNKNOWN_WORD,
                 value: start,
             };
         }
         sum += tally_found(book, offsets, &found, n);
         k += 1;
     }
-    if MAX_SIMPLES < sum {
+    if MAX_LINE_SIMPLES < sum {
         return CheckedLine::Refused {
-            number: 14,
+            number: TOO_MANY_SIMPLES,
             value: 0,
         };
     }

@@ -1,17 +1,19 @@
 // The words of a line, and refusals 11 and 12.
 use crate::CheckedLine;
 use figures::limits::MAX_WORD;
+use figures::limits::MAX_WORDS;
+use figures::refusals::BAD_LINE_BYTE;
+use figures::refusals::BAD_WORD;
 ghost use mathlib.Core.Path.{_≡_};
 ghost use mathlib.Core.Bool.{cond};
 ghost use mathlib.Core.Option.{none, some};
 ghost use Prim.Native.Nat.{_≤_, _<_};
 ghost use lib.Dec.{ltb};
 ghost use lib.ListN.{length, getD};
+ghost use Rattle.figures.specs.Limits.{maxWords};
 ghost use Rattle.book.specs.Format.{between};
-ghost use Rattle.line.specs.LineFaults.{maxWords, byteFault};
+ghost use Rattle.line.specs.LineFaults.{byteFault};
 ghost use Rattle.line.specs.Split.{Skipped, Spelt, SplitSays};
-
-pub const MAX_WORDS: usize = 24;
 
 // Whether a line may have this byte: 32 to 126.
 fn is_line_byte(byte: u8) -> bool
@@ -75,7 +77,7 @@ pub fn split(line: &[u8], starts: &mut [usize], ends: &mut [usize]) -> CheckedLi
     let bad = bad_byte(line);
     if bad < line.len() {
         return CheckedLine::Refused {
-            number: 11,
+            number: BAD_LINE_BYTE,
             value: bad,
         };
     }
@@ -85,13 +87,13 @@ pub fn split(line: &[u8], starts: &mut [usize], ends: &mut [usize]) -> CheckedLi
         let end = end_of_word(line, at);
         if MAX_WORD < end - at {
             return CheckedLine::Refused {
-                number: 12,
+                number: BAD_WORD,
                 value: at,
             };
         }
         if MAX_WORDS <= count {
             return CheckedLine::Refused {
-                number: 12,
+                number: BAD_WORD,
                 value: at,
             };
         }

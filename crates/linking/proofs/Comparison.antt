@@ -1,14 +1,13 @@
 -- Partner lists compared position by position, and what that says of their order as lists: `at-most-of-compared`. The order has at most
 -- one least list: `at-most-both`.
 use Prim.Native.Nat.{ℕ, zero, suc, _-_, _≤_, _<_}
-use mathlib.Core.Path.{_≡_, refl, sym, _∙_}
-use mathlib.Core.Logic.{inl, inr}
+use mathlib.Core.Path.{_≡_, refl, sym, ap, subst, _∙_}
 use mathlib.Core.List.{List, [], _∷_}
 use native.Mathlib.Omega.{arith}
 use native.Mathlib.Decide.{decLt}
 use lib.ListN.{length, getD}
 use lib.Seq.{ext-getD}
-use Rattle.linking.specs.Linking.{partner, Before, first, later, AtMost}
+use Rattle.linking.specs.Linking.{partner, AtMost, equal, first, later}
 
 -- From i up to j, P and Q are the same, or P is smaller at their first difference.
 pub data Compared (P Q : List ℕ) (i j : ℕ) : Type 0 where
@@ -47,31 +46,31 @@ module _ {P Q : List ℕ} where
   compared-none e = same (λ m h b. absurd (omega arith))
 
 -- Smaller at the first difference, by its index.
-before-at :
-    (P Q : List ℕ) (m : ℕ) → m < length P → m < length Q → ((l : ℕ) → l < m → getD P l 0 ≡ getD Q l 0) → getD P m 0 < getD Q m 0 → Before P Q
-before-at [] Q m a b f h = absurd (omega arith)
-before-at (x ∷ P) [] m a b f h = absurd (omega arith)
-before-at (x ∷ P) (y ∷ Q) zero a b f h = first h
-before-at (x ∷ P) (y ∷ Q) (suc m) a b f h =
+at-most-at :
+    (P Q : List ℕ) (m : ℕ) → m < length P → m < length Q → ((l : ℕ) → l < m → getD P l 0 ≡ getD Q l 0) → getD P m 0 < getD Q m 0 → AtMost P Q
+at-most-at [] Q m a b f h = absurd (omega arith)
+at-most-at (x ∷ P) [] m a b f h = absurd (omega arith)
+at-most-at (x ∷ P) (y ∷ Q) zero a b f h = first h
+at-most-at (x ∷ P) (y ∷ Q) (suc m) a b f h =
     let e : x ≡ y = f 0 (omega arith) in
-    rw e (later (before-at P Q m (omega arith) (omega arith) (λ l c. f (suc l) (omega arith)) h))
+    rw e (later (at-most-at P Q m (omega arith) (omega arith) (λ l c. f (suc l) (omega arith)) h))
 
 -- Lists of one length, compared from the first position to the last.
 pub at-most-of-compared : (P Q : List ℕ) (n : ℕ) → length P ≡ n → length Q ≡ n → Compared P Q 1 (suc n) → AtMost P Q
 at-most-of-compared P Q n p q (same f) =
-    inl (ext-getD 0 P Q (p ∙ sym q) (λ i h. let e : suc i - 1 ≡ i = omega arith in rw e at (f (suc i) (omega arith) (omega arith))))
+    subst (AtMost P) (ext-getD 0 P Q (p ∙ sym q) (λ i h. let e : suc i - 1 ≡ i = omega arith in rw e at (f (suc i) (omega arith) (omega arith)))) equal
 at-most-of-compared P Q n p q (smaller m h b f l) =
-    inr (before-at P Q (m - 1) (omega arith) (omega arith)
-    (λ i c. let e : suc i - 1 ≡ i = omega arith in rw e at (f (suc i) (omega arith) (omega arith))) l)
+    at-most-at P Q (m - 1) (omega arith) (omega arith) (λ i c. let e : suc i - 1 ≡ i = omega arith in rw e at (f (suc i) (omega arith) (omega arith))) l
 
--- No list is before one that is before it.
-pub before-both : {P Q R S : List ℕ} → Before P Q → Before R S → Q ≡ R → P ≡ S → ⊥
-before-both (first {a} {b} h) (first {a = c} {b = d} g) e f = let x : b ≡ c = cc in let y : a ≡ d = cc in omega arith
-before-both (first {a} {b} h) (later {a = c} g) e f = let x : b ≡ c = cc in let y : a ≡ c = cc in omega arith
-before-both (later {a} h) (first {a = c} {b = d} g) e f = let x : a ≡ c = cc in let y : a ≡ d = cc in omega arith
-before-both (later h) (later g) e f = before-both h g (cc) (cc)
+-- Lists that are each at most the other are the same.
+both : {P Q R S : List ℕ} → AtMost P Q → AtMost R S → Q ≡ R → P ≡ S → P ≡ Q
+both equal k e f = refl
+both (first h) equal e f = f ∙ sym e
+both (later h) equal e f = f ∙ sym e
+both (first {a} {b} h) (first {a = c} {b = d} g) e f = let x : b ≡ c = cc in let y : a ≡ d = cc in absurd (omega arith)
+both (first {a} {b} h) (later {a = c} g) e f = let x : b ≡ c = cc in let y : a ≡ c = cc in absurd (omega arith)
+both (later {a} h) (first {a = c} {b = d} g) e f = let x : a ≡ c = cc in let y : a ≡ d = cc in absurd (omega arith)
+both (later {a} h) (later g) e f = ap (λ (l : List ℕ). a ∷ l) (both h g (cc) (cc))
 
 pub at-most-both : {P Q : List ℕ} → AtMost P Q → AtMost Q P → P ≡ Q
-at-most-both (inl e) b = e
-at-most-both (inr h) (inl e) = sym e
-at-most-both (inr h) (inr g) = absurd (before-both h g refl refl)
+at-most-both h g = both h g refl refl

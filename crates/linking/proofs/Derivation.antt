@@ -11,7 +11,8 @@ use Rattle.pregroup.specs.Order.{Relation, IsOrder}
 use Rattle.pregroup.specs.Steps.{Chain}
 use Rattle.pregroup.specs.Tests.{Test, Decides}
 use Rattle.pregroup.proofs.Switching.{switching}
-use Rattle.linking.specs.Reading.{Words, Choice, IsReading, AllAscending, firstReading}
+use Rattle.linking.specs.Reading.{Words, Choice, IsReading, firstReading}
+use Rattle.linking.specs.Ascending.{AllAscending}
 use Rattle.linking.proofs.Reduction.{linking-iff-reduces}
 use Rattle.linking.proofs.FirstReading.{first-reading-none}
 

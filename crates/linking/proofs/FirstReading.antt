@@ -1,32 +1,29 @@
 -- `firstReading` is right, over a test that decides the order and for words whose entry numbers ascend.
 -- `first-reading-some`, `first-reading-none`: what it gives is the first reading, and it gives none exactly when there is none.
 -- `first-reading-unique`: any first reading is what it gives.
-use Prim.Native.Nat.{ℕ, _<_}
-use mathlib.Core.Path.{_≡_, refl, sym, ap}
-use mathlib.Core.Logic.{_↔_, inl, inr, ⊎-elim}
+use Prim.Native.Nat.{ℕ, suc, _<_}
+use mathlib.Core.Path.{_≡_, refl, sym, ap, _∙_}
+use mathlib.Core.Logic.{_↔_}
 use mathlib.Core.Option.{Option, none, some, Option·some-ne-none}
 use mathlib.Core.List.{List, [], _∷_, _++_, append-nil, append-assoc, List·Memᴰ, List·Memᴰ·head, List·Memᴰ·tail, List·Memᴰ·not-nil}
+use lib.ListN.{length, drop, take as take-front}
+use lib.Seq.{take-append-seam, drop-append-seam}
 use Rattle.pregroup.specs.Types.{Basic, PregroupType}
 use Rattle.pregroup.specs.Order.{Relation}
 use Rattle.pregroup.specs.Tests.{Test, Decides}
-use Rattle.linking.specs.Linking.{IsLinking, first, later, AtMost}
-use Rattle.linking.specs.Reading.{NumberedEntry, Words, Choice, empty, take, IsReading, NotLater, IsFirst, Ascending, more, AllAscending, Answer, firstEntry, firstBehind, firstReading}
-use Rattle.linking.proofs.Comparison.{before-both}
+use Rattle.linking.specs.Linking.{IsLinking, AtMost, first, later}
+use Rattle.linking.specs.Reading.{NumberedEntry, Words, Choice, empty, take, IsReading, IsFirst, Answer, firstEntry, firstBehind, firstReading}
+use Rattle.linking.specs.Ascending.{Ascending, empty, more, AllAscending}
+use Rattle.linking.proofs.Comparison.{at-most-both}
 use Rattle.linking.proofs.FirstLinking.{FirstLinking, least, no-linking, first-linking}
 
 -- What is said of the outcome of a search over the choices of some words, joined behind A: the first entry numbers and linking, or that
 -- there are none.
 data Behind (Le : Relation) (s : Basic) (words : Words) (A : PregroupType) : Option Answer → Type 0 where
   read : {ns P : List ℕ} {X : PregroupType} → Choice words ns X → IsLinking Le s (A ++ X) P
-      → ((ns′ P′ : List ℕ) (X′ : PregroupType) → Choice words ns′ X′ → IsLinking Le s (A ++ X′) P′ → NotLater ns P ns′ P′)
+      → ((ns′ P′ : List ℕ) (X′ : PregroupType) → Choice words ns′ X′ → IsLinking Le s (A ++ X′) P′ → AtMost (ns ++ P) (ns′ ++ P′))
       → Behind Le s words A (some (ns, P))
   unread : ((ns P : List ℕ) (X : PregroupType) → Choice words ns X → IsLinking Le s (A ++ X) P → ⊥) → Behind Le s words A none
-
--- The same entry number before both keeps their order.
-later-behind : {a : ℕ} {ns P ns′ P′ : List ℕ} → NotLater ns P ns′ P′ → NotLater (a ∷ ns) P (a ∷ ns′) P′
-later-behind {a} (inl t) = inl (ap (λ (l : List ℕ). a ∷ l) (t .0), t .1)
-later-behind (inr (inl b)) = inr (inl (later b))
-later-behind {a} (inr (inr t)) = inr (inr (ap (λ (l : List ℕ). a ∷ l) (t .0), t .1))
 
 -- A choice whose first word has the entry e and others takes this one or another.
 data Chosen (e : NumberedEntry) (es : List NumberedEntry) (rest : Words) : List ℕ → PregroupType → Type 0 where
@@ -43,8 +40,8 @@ module _ {Le : Relation} {s : Basic} {A : PregroupType} where
   behind-end (least {P = P} t f) = read {P = P} {X = []} empty (rw append-nil t) (at-end f)
     where
       at-end : {P : List ℕ} → ((Q : List ℕ) → IsLinking Le s A Q → AtMost P Q) → (ns′ P′ : List ℕ) (X′ : PregroupType) → Choice [] ns′ X′
-          → IsLinking Le s (A ++ X′) P′ → NotLater [] P ns′ P′
-      at-end g ns′ P′ X′ empty t′ = ⊎-elim (λ e. inl (refl, e)) (λ b. inr (inr (refl, b))) (g P′ (rw append-nil at t′))
+          → IsLinking Le s (A ++ X′) P′ → AtMost P (ns′ ++ P′)
+      at-end g ns′ P′ X′ empty t′ = g P′ (rw append-nil at t′)
   behind-end (no-linking n) = unread (at-end n)
     where
       at-end : ((P : List ℕ) → IsLinking Le s A P → ⊥) → (ns P : List ℕ) (X : PregroupType) → Choice [] ns X → IsLinking Le s (A ++ X) P → ⊥
@@ -57,7 +54,7 @@ module _ {Le : Relation} {s : Basic} {A : PregroupType} where
       → Behind Le s ((e ∷ es) ∷ rest) A o
   behind-other {e} {es} {rest} n (read {ns} {P} (take m c) t f) = read (take (List·Memᴰ·tail m) c) t (λ ns′ P′ X′ d. at P′ (chosen d))
     where
-      at : {ns′ : List ℕ} (P′ : List ℕ) {X′ : PregroupType} → Chosen e es rest ns′ X′ → IsLinking Le s (A ++ X′) P′ → NotLater ns P ns′ P′
+      at : {ns′ : List ℕ} (P′ : List ℕ) {X′ : PregroupType} → Chosen e es rest ns′ X′ → IsLinking Le s (A ++ X′) P′ → AtMost (ns ++ P) (ns′ ++ P′)
       at P′ (this {ns = ns′} {X = X′} d) t′ = absurd (n ns′ P′ X′ d (rw append-assoc t′))
       at P′ (other {f = g} {ns = ns′} {X = X′} m′ d) t′ = f (g .number ∷ ns′) P′ (g .type ++ X′) (take m′ d) t′
   behind-other {e} {es} {rest} n (unread f) = unread (λ ns P X d. at P (chosen d))
@@ -70,14 +67,14 @@ module _ {Le : Relation} {s : Basic} {A : PregroupType} where
   behind-this :
       {e : NumberedEntry} {es : List NumberedEntry} {rest : Words} {ns P : List ℕ} {X : PregroupType} → ((f : NumberedEntry) → List·Memᴰ f es → e .number < f .number)
       → Choice rest ns X → IsLinking Le s ((A ++ e .type) ++ X) P
-      → ((ns′ P′ : List ℕ) (X′ : PregroupType) → Choice rest ns′ X′ → IsLinking Le s ((A ++ e .type) ++ X′) P′ → NotLater ns P ns′ P′)
+      → ((ns′ P′ : List ℕ) (X′ : PregroupType) → Choice rest ns′ X′ → IsLinking Le s ((A ++ e .type) ++ X′) P′ → AtMost (ns ++ P) (ns′ ++ P′))
       → Behind Le s ((e ∷ es) ∷ rest) A (some (e .number ∷ ns, P))
   behind-this {e} {es} {rest} {ns} {P} {X} lower c t f =
       read (take (List·Memᴰ·head refl) c) (rw append-assoc at t) (λ ns′ P′ X′ d. at P′ (chosen d))
     where
-      at : {ns′ : List ℕ} (P′ : List ℕ) {X′ : PregroupType} → Chosen e es rest ns′ X′ → IsLinking Le s (A ++ X′) P′ → NotLater (e .number ∷ ns) P ns′ P′
-      at P′ (this {ns = ns′} {X = X′} d) t′ = later-behind (f ns′ P′ X′ d (rw append-assoc t′))
-      at P′ (other {f = g} m d) t′ = inr (inl (first (lower g m)))
+      at : {ns′ : List ℕ} (P′ : List ℕ) {X′ : PregroupType} → Chosen e es rest ns′ X′ → IsLinking Le s (A ++ X′) P′ → AtMost (e .number ∷ (ns ++ P)) (ns′ ++ P′)
+      at P′ (this {ns = ns′} {X = X′} d) t′ = later (f ns′ P′ X′ d (rw append-assoc t′))
+      at P′ (other {f = g} m d) t′ = first (lower g m)
 
   -- One entry, then the others of the word.
   behind-step :
@@ -120,14 +117,16 @@ first-of-behind (read {X = X} c t f) =
     })
 first-of-behind (unread n) = no-reading (λ ns P r. n ns P (r .type) (r .chosen) (r .linking))
 
--- Two readings, each no later than the other, are the same.
-not-later-both : {ns P ns′ P′ : List ℕ} → NotLater ns P ns′ P′ → NotLater ns′ P′ ns P → (ns ≡ ns′) × (P ≡ P′)
-not-later-both (inl t) r = t
-not-later-both (inr l) (inl t) = (sym (t .0), sym (t .1))
-not-later-both (inr (inl b)) (inr (inl c)) = absurd (before-both b c refl refl)
-not-later-both (inr (inl b)) (inr (inr t)) = absurd (before-both b b (t .0) (sym (t .0)))
-not-later-both (inr (inr t)) (inr (inl c)) = absurd (before-both c c (t .0) (sym (t .0)))
-not-later-both (inr (inr t)) (inr (inr r)) = absurd (before-both (t .1) (r .1) refl refl)
+choice-length : {words : Words} {ns : List ℕ} {X : PregroupType} → Choice words ns X → length ns ≡ length words
+choice-length empty = refl
+choice-length (take m c) = ap suc (choice-length c)
+
+-- Entry lists of one length, joined with partner lists to the same list, are the same, and so are these.
+joined-same : (ns P ns′ P′ : List ℕ) → length ns ≡ length ns′ → ns ++ P ≡ ns′ ++ P′ → (ns ≡ ns′) × (P ≡ P′)
+joined-same ns P ns′ P′ n e = (
+  sym (take-append-seam ns P) ∙ ap (take-front (length ns)) e ∙ ap (λ (k : ℕ). take-front k (ns′ ++ P′)) n ∙ take-append-seam ns′ P′,
+  sym (drop-append-seam ns P) ∙ ap (drop (length ns)) e ∙ ap (λ (k : ℕ). drop k (ns′ ++ P′)) n ∙ drop-append-seam ns′ P′,
+)
 
 none-iff : {Le : Relation} {s : Basic} {words : Words} {o : Option Answer} → FirstReading Le s words o → (o ≡ none) ↔ ((ns P : List ℕ) → IsReading Le s words ns P → ⊥)
 none-iff (is-first {ns} {P} f) = (λ e. absurd (Option·some-ne-none (ns, P) e), λ n. absurd (n ns P (f .reading)))
@@ -140,7 +139,8 @@ module _ {Le : Relation} {s : Basic} {words : Words} {ns P : List ℕ} where
   -- At most one reading is the first.
   unique : {o : Option Answer} → FirstReading Le s words o → IsFirst Le s words ns P → o ≡ some (ns, P)
   unique (is-first {ns = ns′} {P = P′} f) t =
-      let e : (ns′ ≡ ns) × (P′ ≡ P) = not-later-both (f .least ns P (t .reading)) (t .least ns′ P′ (f .reading)) in
+      let length-same = choice-length (f .reading .chosen) ∙ sym (choice-length (t .reading .chosen)) in
+      let e = joined-same ns′ P′ ns P length-same (at-most-both (f .least ns P (t .reading)) (t .least ns′ P′ (f .reading))) in
       let e₀ = e .0 in
       let e₁ = e .1 in
       cc

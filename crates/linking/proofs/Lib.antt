@@ -9,4 +9,3 @@ pub mod Greedy
 pub mod FirstLinking
 pub mod FirstReading
 pub mod Derivation
-pub mod Examples

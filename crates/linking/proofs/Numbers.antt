@@ -1,12 +1,11 @@
 -- Numbers by cases: where one stands to another, and what a search over them finds.
 use Prim.Native.Nat.{ℕ, zero, suc, _-_, _≤_, _<_}
-use mathlib.Core.Path.{_≡_, refl, sym, _∙_}
-use mathlib.Core.Logic.{_↔_}
-use mathlib.Core.Bool.{Bool, true, false, false≢true}
+use mathlib.Core.Path.{_≡_}
+use mathlib.Core.List.{List}
 use mathlib.Core.Option.{Option, none, some}
 use native.Mathlib.Omega.{arith}
 use native.Mathlib.Decide.{decLt, ℕ-discrete}
-use Rattle.linking.specs.Linking.{firstFrom, isSome}
+use Rattle.linking.specs.Linking.{firstSome}
 
 -- Where m stands to k.
 pub data Placed (m k : ℕ) : Type 0 where
@@ -25,40 +24,46 @@ placed m k = below (decLt m k)
     below (yes h) = under h
     below (no h) = rest h (ℕ-discrete m k)
 
--- What a search from k up to j finds: the first number with a property, or that none has it.
-pub data Search (Good : ℕ → Type 0) (k j : ℕ) : Option ℕ → Type 0 where
-  hit : (m : ℕ) → k ≤ m → m < j → Good m → ((l : ℕ) → k ≤ l → l < m → Good l → ⊥) → Search Good k j (some m)
-  miss : ((l : ℕ) → k ≤ l → l < j → Good l → ⊥) → Search Good k j none
+-- What a search comes to: a list with a property, or that what it looks for is not there.
+pub data Tried (There : Type 0) (Is : List ℕ → Type 0) : Option (List ℕ) → Type 0 where
+  found : {L : List ℕ} → Is L → Tried There Is (some L)
+  missing : (There → ⊥) → Tried There Is none
 
-module _ {test : ℕ → Bool} {Good : ℕ → Type 0} (decides : (m : ℕ) → (test m ≡ true) ↔ Good m) where
-  bad : (m : ℕ) → test m ≡ false → Good m → ⊥
-  bad m e g = false≢true (sym e ∙ decides m .1 g)
+-- Some number from k up to j is good.
+abbrev pub SomeGood : (ℕ → Type 0) → ℕ → ℕ → Type 0
+SomeGood Good k j = (m : ℕ) × (k ≤ m) × (m < j) × Good m
 
-  more-bad : {k m : ℕ} → test k ≡ false → ((l : ℕ) → suc k ≤ l → l < m → Good l → ⊥) → (l : ℕ) → k ≤ l → l < m → Good l → ⊥
-  more-bad {k} {m} e f l c d = at (placed l k)
-    where
-      at : Placed l k → Good l → ⊥
-      at (under h) g = absurd (omega arith)
-      at (same h) g = bad k e (rw h at g)
-      at (over h) g = f l h d g
+-- L is what the first good number from k up to j gives.
+pub record FirstOf (Good : ℕ → Type 0) (Is : ℕ → List ℕ → Type 0) (k j : ℕ) (L : List ℕ) : Type 0 where
+  pub number : ℕ
+  pub from-on : k ≤ number
+  pub before : number < j
+  pub is : Is number L
+  pub none-earlier : (l : ℕ) → k ≤ l → l < number → Good l → ⊥
 
-  search-more : {k j : ℕ} {r : Option ℕ} → test k ≡ false → Search Good (suc k) j r → Search Good k j r
-  search-more {k} e (hit m a b g f) = hit m (omega arith) b g (more-bad e f)
-  search-more {k} e (miss f) = miss (more-bad e f)
+none-more :
+    {Good : ℕ → Type 0} {k m : ℕ} → (Good k → ⊥) → ((l : ℕ) → suc k ≤ l → l < m → Good l → ⊥) → (l : ℕ) → k ≤ l → l < m → Good l → ⊥
+none-more {Good} {k} {m} bad f l c d = at (placed l k)
+  where
+    at : Placed l k → Good l → ⊥
+    at (under h) g = absurd (omega arith)
+    at (same h) g = bad (rw h at g)
+    at (over h) g = f l h d g
 
-  search-step : {k j : ℕ} {r : Option ℕ} (b : Bool) → test k ≡ b → k < j → Search Good (suc k) j r
-      → Search Good k j (elim b [ true ↦ some k | false ↦ r ])
-  search-step {k} true e h t = hit k (omega arith) h (decides k .0 e) (λ l c d. absurd (omega arith))
-  search-step false e h t = search-more e t
+module _ {Good : ℕ → Type 0} {Is : ℕ → List ℕ → Type 0} where
+  search-step :
+      {k j : ℕ} {o r : Option (List ℕ)} → k < j → Tried (Good k) (Is k) o → Tried (SomeGood Good (suc k) j) (FirstOf Good Is (suc k) j) r
+      → Tried (SomeGood Good k j) (FirstOf Good Is k j) (elim o [ none ↦ r | some P ↦ some P ])
+  search-step {k} h (found p) t = found (record { number = k; from-on = omega arith; before = h; is = p; none-earlier = λ l c d. absurd (omega arith) })
+  search-step h (missing n) (found f) =
+      found (record { number = f .number; from-on = omega (arith, f .from-on); before = f .before; is = f .is; none-earlier = none-more n (f .none-earlier) })
+  search-step h (missing n) (missing m) = missing (λ t. none-more n (λ l c d g. m (l, c, d, g)) (t .0) (t .1) (t .2) (t .3))
 
-  -- `firstFrom` finds the first number that passes a test.
-  pub search-right : (d k j : ℕ) → j - k ≡ d → Search Good k j (firstFrom test d k)
-  unfolding firstFrom
-  search-right zero k j e = miss (λ l c d. absurd (omega arith))
-  search-right (suc d) k j e = search-step (test k) refl (omega arith) (search-right d (suc k) j (omega arith))
-
--- Whether a search has found something.
-pub found-iff : {Good : ℕ → Type 0} {k j : ℕ} {o : Option ℕ} → Search Good k j o → (isSome o ≡ true) ↔ ((m : ℕ) × (k ≤ m) × (m < j) × Good m)
-unfolding isSome
-found-iff (hit m a b g f) = (λ h. (m, a, b, g), λ t. refl)
-found-iff (miss f) = (λ h. absurd (false≢true h), λ t. absurd (f (t .0) (t .1) (t .2) (t .3)))
+  -- `firstSome` gives what the first good number gives, if f does so for each.
+  pub search-right :
+      (f : ℕ → Option (List ℕ)) (d k j : ℕ) → j - k ≡ d → ((m : ℕ) → k ≤ m → m < j → Tried (Good m) (Is m) (f m))
+      → Tried (SomeGood Good k j) (FirstOf Good Is k j) (firstSome f d k)
+  unfolding firstSome
+  search-right f zero k j e t = missing (λ g. omega (arith, g .1, g .2))
+  search-right f (suc d) k j e t =
+      search-step (omega arith) (t k (omega arith) (omega arith)) (search-right f d (suc k) j (omega arith) (λ m c b. t m (omega arith) b))

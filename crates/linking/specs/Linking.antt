@@ -2,18 +2,17 @@
 -- partner list: at each position the position that it is linked to, and at the unlinked position its own.
 use Prim.Native.Nat.{ℕ, zero, suc, _-_, _≤_, _<_}
 use mathlib.Core.Path.{_≡_}
-use mathlib.Core.Logic.{_⊎_}
-use mathlib.Core.Bool.{Bool, true, false, _&&_}
-use mathlib.Core.Option.{Option, none, some}
+use mathlib.Core.Bool.{cond, _&&_}
+use mathlib.Core.Option.{Option, none, some, Option·map}
 use mathlib.Core.List.{List, [], _∷_, _++_}
-use lib.Dec.{leb}
+use lib.Dec.{eqb, leb}
 use lib.ListN.{length, getD}
 use lib.Seq.{slice}
 use lib.IntN.{pos}
 use Rattle.pregroup.specs.Types.{Basic, Simple, PregroupType, plain}
 use Rattle.pregroup.specs.Order.{Relation}
 use Rattle.pregroup.specs.Vanish.{Contracts}
-use Rattle.pregroup.specs.Tests.{Test, sameExponent, contracts, vanishes}
+use Rattle.pregroup.specs.Tests.{Test, sameExponent, contracts}
 
 -- Positions count from 1.
 abbrev pub Position : PregroupType → ℕ → Type 0
@@ -43,83 +42,48 @@ pub record IsLinking (Le : Relation) (s : Basic) (X : PregroupType) (P : List �
   pub below : Le ((simpleAt X unlinked) .base) s
   pub uncovered : (i : ℕ) → Position X i → i < unlinked → unlinked < partner P i → ⊥
 
--- Smaller at the first difference.
-pub data Before : List ℕ → List ℕ → Type 0 where
-  first : {a b : ℕ} {A B : List ℕ} → a < b → Before (a ∷ A) (b ∷ B)
-  later : {a : ℕ} {A B : List ℕ} → Before A B → Before (a ∷ A) (a ∷ B)
-
-abbrev pub AtMost : List ℕ → List ℕ → Type 0
-AtMost P Q = (P ≡ Q) ⊎ Before P Q
+-- The same, or smaller at the first difference.
+pub data AtMost : List ℕ → List ℕ → Type 0 where
+  equal : {A : List ℕ} → AtMost A A
+  first : {a b : ℕ} {A B : List ℕ} → a < b → AtMost (a ∷ A) (b ∷ B)
+  later : {a : ℕ} {A B : List ℕ} → AtMost A B → AtMost (a ∷ A) (a ∷ B)
 
 -- The stretch of X from position i up to, not including, position j.
 abbrev pub stretch : PregroupType → ℕ → ℕ → PregroupType
 stretch X i j = slice (i - 1) (j - 1) X
 
--- The first number that passes the test, of d numbers from k on.
-unfoldable pub firstFrom : (ℕ → Bool) → ℕ → ℕ → Option ℕ
-firstFrom test zero k = none
-firstFrom test (suc d) k = elim (test k) [ true ↦ some k | false ↦ firstFrom test d (suc k) ]
-
--- Whether there is a value.
-unfoldable pub isSome : {A : Type 0} → Option A → Bool
-isSome none = false
-isSome (some a) = true
+-- What f gives for the first of d numbers, from k on, for which it gives something.
+unfoldable pub firstSome : (ℕ → Option (List ℕ)) → ℕ → ℕ → Option (List ℕ)
+firstSome f zero k = none
+firstSome f (suc d) k = elim (f k) [ none ↦ firstSome f d (suc k) | some P ↦ some P ]
 
 module _ (le : Test) (X : PregroupType) where
-  -- Whether position i could be linked to k: the two could contract, what stands between them vanishes, and `rest` says yes of what stands
-  -- behind k.
-  unfoldable pub mayLink : ℕ → ℕ → Bool → Bool
-  mayLink i k rest =
-      let between = vanishes le (stretch X (suc i) k) in
-      contracts le (simpleAt X i) (simpleAt X k) && between && rest
+  -- The partners from i on where i is linked to k: A of what stands between the two, B of what stands behind k. There are none where either
+  -- has none, or where i and k could not contract.
+  unfoldable pub linkedTo : ℕ → ℕ → Option (List ℕ) → Option (List ℕ) → Option (List ℕ)
+  linkedTo i k none behind = none
+  linkedTo i k (some A) none = none
+  linkedTo i k (some A) (some B) = cond (contracts le (simpleAt X i) (simpleAt X k)) (some (k ∷ (A ++ (i ∷ B)))) none
 
-  -- The nearest partner of i by which the stretch from i up to j vanishes.
-  unfoldable pub nearestWithin : ℕ → ℕ → Option ℕ
-  nearestWithin i j = firstFrom (λ k. let rest = vanishes le (stretch X (suc k) j) in mayLink i k rest) (j - suc i) (suc i)
+  -- The first partners of the stretch from i up to j, all of it linked: each position takes the nearest partner that leaves the rest
+  -- linkable. The first number bounds the stretch's length.
+  unfoldable pub firstWithin : ℕ → ℕ → ℕ → Option (List ℕ)
+  firstWithin zero i j = some []
+  firstWithin (suc d) i j =
+      cond (eqb i j) (some []) (firstSome (λ k. linkedTo i k (firstWithin d (suc i) k) (firstWithin d (suc k) j)) (j - suc i) (suc i))
 
-  -- The partners of a stretch that vanishes, from i up to j: each the nearest that leaves the rest vanishing. The first number bounds the
-  -- stretch's length.
-  unfoldable pub partnersWithin : ℕ → ℕ → ℕ → List ℕ
-  partnersWithin zero i j = []
-  partnersWithin (suc d) i j =
-      elim (nearestWithin i j) [
-        | none ↦ []
-        | some k ↦ k ∷ (partnersWithin d (suc i) k ++ (i ∷ partnersWithin d (suc k) j))
-      ]
+  -- The partners from i on where i stays unlinked, with A of what stands behind it: i must be plain and at or below the target.
+  unfoldable pub unlinkedAt : Basic → ℕ → Option (List ℕ) → Option (List ℕ)
+  unlinkedAt s i behind =
+      cond (leb i (length X) && sameExponent (simpleAt X i .exponent) (pos 0) && le (simpleAt X i .base) s) (Option·map (λ (A : List ℕ). i ∷ A) behind) none
 
-module _ (le : Test) (s : Basic) (X : PregroupType) where
-  -- Whether u could be the unlinked position, with everything from i on but u linked.
-  unfoldable pub mayStay : ℕ → ℕ → Bool
-  mayStay i u =
-      let before = vanishes le (stretch X i u) in
-      let behind = vanishes le (stretch X (suc u) (suc (length X))) in
-      let below = le (simpleAt X u .base) s in
-      let plain = sameExponent (simpleAt X u .exponent) (pos 0) in
-      leb u (length X) && plain && below && before && behind
-
-  -- Whether the string from position i on reduces to the target.
-  unfoldable pub reducesFrom : ℕ → Bool
-  reducesFrom i = isSome (firstFrom (mayStay i) (suc (length X) - i) i)
-
-  -- The nearest later partner of i by which the string from i on reduces to the target.
-  unfoldable pub nearestFrom : ℕ → Option ℕ
-  nearestFrom i = firstFrom (λ k. let rest = reducesFrom (suc k) in mayLink le X i k rest) (length X - i) (suc i)
-
-  -- The partners of the string from i on: i stays unlinked if it can, and else takes the nearest partner that it can.
-  unfoldable pub partnersFrom : ℕ → ℕ → Option (List ℕ)
-  partnersFrom zero i = none
-  partnersFrom (suc d) i =
-      elim (mayStay i i) [
-        | true ↦ some (i ∷ partnersWithin le X d (suc i) (suc (length X)))
-        | false ↦ elim (nearestFrom i) [
-          | none ↦ none
-          | some k ↦ elim (partnersFrom d (suc k)) [
-            | none ↦ none
-            | some rest ↦ some (k ∷ (partnersWithin le X d (suc i) k ++ (i ∷ rest)))
-          ]
-        ]
-      ]
+  -- The first partners of the string from i on: i stays unlinked if it can, and else takes the nearest partner that it can.
+  unfoldable pub firstFrom : Basic → ℕ → ℕ → Option (List ℕ)
+  firstFrom s zero i = none
+  firstFrom s (suc d) i =
+      let linked = firstSome (λ k. linkedTo i k (firstWithin d (suc i) k) (firstFrom s d (suc k))) (length X - i) (suc i) in
+      elim (unlinkedAt s i (firstWithin d (suc i) (suc (length X)))) [ none ↦ linked | some P ↦ some P ]
 
 -- The first linking of X with target s, if there is one.
 unfoldable pub firstLinking : Test → Basic → PregroupType → Option (List ℕ)
-firstLinking le s X = partnersFrom le s X (length X) 1
+firstLinking le s X = firstFrom le X s (length X) 1

@@ -1,13 +1,11 @@
 -- Document 01, "A reading": choices of a line, its readings, which of them comes first, and that one as antt computes it.
-use Prim.Native.Nat.{ℕ, _<_}
-use mathlib.Core.Path.{_≡_}
-use mathlib.Core.Logic.{_⊎_}
+use Prim.Native.Nat.{ℕ}
 use mathlib.Core.Option.{Option, none, some}
 use mathlib.Core.List.{List, [], _∷_, _++_, List·Memᴰ}
 use Rattle.pregroup.specs.Types.{Basic, PregroupType}
 use Rattle.pregroup.specs.Order.{Relation}
 use Rattle.pregroup.specs.Tests.{Test}
-use Rattle.linking.specs.Linking.{IsLinking, Before, firstLinking}
+use Rattle.linking.specs.Linking.{IsLinking, AtMost, firstLinking}
 
 -- An entry as a line sees it: its number in the book, and its type.
 pub record NumberedEntry : Type 0 where
@@ -30,29 +28,13 @@ pub record IsReading (Le : Relation) (s : Basic) (words : Words) (ns P : List �
   pub chosen : Choice words ns type
   pub linking : IsLinking Le s type P
 
--- By entry list first, then by partner list.
-abbrev pub Earlier : List ℕ → List ℕ → List ℕ → List ℕ → Type 0
-Earlier ns P ns′ P′ = Before ns ns′ ⊎ ((ns ≡ ns′) × Before P P′)
-
--- The same, or earlier.
-abbrev pub NotLater : List ℕ → List ℕ → List ℕ → List ℕ → Type 0
-NotLater ns P ns′ P′ = ((ns ≡ ns′) × (P ≡ P′)) ⊎ Earlier ns P ns′ P′
-
--- The first reading: no later than any reading.
+-- The first reading: at most every reading, by the entry list and then by the partner list. The entry lists of a line are all of one length,
+-- so the two are compared as one list.
 pub record IsFirst (Le : Relation) (s : Basic) (words : Words) (ns P : List ℕ) : Type 0 where
   pub reading : IsReading Le s words ns P
-  pub least : (ns′ P′ : List ℕ) → IsReading Le s words ns′ P′ → NotLater ns P ns′ P′
+  pub least : (ns′ P′ : List ℕ) → IsReading Le s words ns′ P′ → AtMost (ns ++ P) (ns′ ++ P′)
 
--- The numbers of a word's entries ascend, as they do in a book.
-pub data Ascending : List NumberedEntry → Type 0 where
-  empty : Ascending []
-  more : {e : NumberedEntry} {es : List NumberedEntry} → ((f : NumberedEntry) → List·Memᴰ f es → e .number < f .number) → Ascending es → Ascending (e ∷ es)
-
-pub data AllAscending : Words → Type 0 where
-  empty : AllAscending []
-  more : {es : List NumberedEntry} {rest : Words} → Ascending es → AllAscending rest → AllAscending (es ∷ rest)
-
--- NumberedEntry numbers and partner list.
+-- Entry numbers and partner list.
 abbrev pub Answer : Type 0
 Answer = List ℕ × List ℕ
 

@@ -1,8 +1,10 @@
 -- Theorems on what reading a line comes to.
 pub mod Table
+pub mod Refusals
 pub mod Promises
 pub mod Selection
 pub mod Brief
 pub mod FirstFound
 pub mod ReadingLaws
 pub mod OpeningLaws
+pub mod Theorems

@@ -22,9 +22,9 @@ use Rattle.line.proofs.Passed.{line-passing, line-brief}
 use Rattle.graph.specs.Lists.{Lists, graphOf, Checked, LaidOut}
 use Rattle.reader.specs.declared.LineAnswer.{LineAnswer}
 use Rattle.reader.specs.declared.LineAnswer.the-variants.{Refused}
-use Rattle.reader.specs.Outcome.{Outcome, given, readAgainst, readParsed, outcome}
+use Rattle.reader.specs.Outcome.{Outcome, given, readAgainst, readParsed, outcome, Gives}
 use Rattle.reader.specs.Demands.{Promised}
-use Rattle.reader.specs.Runs.{Gives, Open, Drawn}
+use Rattle.reader.specs.Runs.{Open, Drawn}
 use Rattle.reader.proofs.Promises.{outcome-promised}
 
 -- Whatever gives the outcome keeps the promises.

@@ -32,8 +32,8 @@ use Rattle.answer.specs.Entries.{entryNumbers}
 use Rattle.answer.specs.Written.{Linkable, Writable, WroteAnswer}
 use Rattle.answer.proofs.ValueLaws.{entry-numbers-length}
 use Rattle.reader.specs.declared.LineAnswer.the-variants.{Read, Refused}
-use Rattle.reader.specs.Outcome.{valuesOf, given}
-use Rattle.reader.specs.Runs.{Gives, Drawn}
+use Rattle.reader.specs.Outcome.{valuesOf, given, Gives}
+use Rattle.reader.specs.Runs.{Drawn}
 use Rattle.reader.proofs.Brief.{laid-brief}
 use Rattle.reader.proofs.FirstFound.{FirstFound, unread-iff, first-found}
 

@@ -1,17 +1,25 @@
 -- The whole of document 01 in one definition: what is returned, and what the answer buffer holds, for any bytes as book, any bytes as line
 -- and any lent buffer. The book comes before the line; a refusal leaves the buffer as it was.
 use Prim.Native.Nat.{ℕ}
+use mathlib.Core.Path.{_≡_}
 use mathlib.Core.Bool.{cond}
-use mathlib.Core.List.{List, _∷_, _++_}
+use mathlib.Core.List.{List, [], _∷_, _++_}
 use mathlib.Core.Option.{Option, none, some}
 use lib.Dec.{ltb}
-use lib.ListN.{length, drop}
+use lib.ListN.{length, take, drop}
+use Rattle.figures.specs.Refusals.{Reply, noReading, bufferTooShort}
 use Rattle.order.specs.Closed.{below}
 use Rattle.book.specs.Format.{Bytes, Book, Parsed, accepted, refused, parse}
 use Rattle.linking.specs.Reading.{Answer, firstReading}
 use Rattle.line.specs.LineFaults.{LineCheck, passed, stopped, lineCheck}
 use Rattle.reader.specs.declared.LineAnswer.{LineAnswer}
 use Rattle.reader.specs.declared.LineAnswer.the-variants.{Read, Refused}
+
+-- The paper's number and values for each answer, with the buffer behind it: 0 and the values written, or the number of the refusal and the
+-- value returned with it.
+abbrev pub lineReply : LineAnswer → List ℕ → Reply
+lineReply (Read n) buffer = record { number = 0; values = take n buffer }
+lineReply (Refused number value) buffer = record { number = number; values = value ∷ [] }
 
 -- What is returned, and what the buffer holds then.
 pub record Outcome : Type 0 where
@@ -24,10 +32,10 @@ valuesOf a = length (a .0) ∷ (a .0 ++ (length (a .1) ∷ a .1))
 
 -- 15: no reading. 16: answer buffer too short, with the values needed. Values behind an answer stay.
 unfoldable pub given : Option Answer → List ℕ → Outcome
-given none buffer = record { answer = Refused 15 0; buffer = buffer }
+given none buffer = record { answer = Refused noReading 0; buffer = buffer }
 given (some a) buffer =
     let values = valuesOf a in
-    cond (ltb (length buffer) (length values)) (record { answer = Refused 16 (length values); buffer = buffer })
+    cond (ltb (length buffer) (length values)) (record { answer = Refused bufferTooShort (length values); buffer = buffer })
     (record { answer = Read (length values); buffer = values ++ drop (length values) buffer })
 
 unfoldable pub readAgainst : Book → LineCheck → List ℕ → Outcome
@@ -40,3 +48,8 @@ readParsed (accepted B) line buffer = readAgainst B (lineCheck B line) buffer
 
 abbrev pub outcome : Bytes → Bytes → List ℕ → Outcome
 outcome book line buffer = readParsed (parse book) line buffer
+
+-- This is returned, and the buffer holds that.
+pub record Gives (o : Outcome) (answer : LineAnswer) (after : List ℕ) : Type 0 where
+  pub returned : answer ≡ o .answer
+  pub left : after ≡ o .buffer

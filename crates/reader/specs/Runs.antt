@@ -16,13 +16,6 @@ use Rattle.line.specs.Passing.{AllKnown, AllBrief}
 use Rattle.graph.specs.Graph.{Graph, Upward}
 use Rattle.graph.specs.Layout.{Laid}
 use Rattle.graph.specs.Cells.{Lexicon}
-use Rattle.reader.specs.declared.LineAnswer.{LineAnswer}
-use Rattle.reader.specs.Outcome.{Outcome}
-
--- This is returned, and the buffer holds that.
-pub record Gives (o : Outcome) (answer : LineAnswer) (after : List ℕ) : Type 0 where
-  pub returned : answer ≡ o .answer
-  pub left : after ≡ o .buffer
 
 -- The book is B, its entries are kept at these offsets, and the rows hold its order.
 pub record Open (bytes : Bytes) (offsets : List ℕ) (count : ℕ) (rows : List ℕ) (target : ℕ) (B : Book) : Type 0 where

@@ -23,9 +23,9 @@ ghost use Prim.Native.Nat.{_≤_};
 ghost use lib.ListN.{length};
 ghost use Rattle.figures.specs.Limits.{maxWords};
 ghost use Rattle.graph.specs.Lists.{Checked};
-ghost use Rattle.reader.specs.Outcome.{outcome};
+ghost use Rattle.reader.specs.Outcome.{outcome, Gives};
 ghost use Rattle.reader.specs.Demands.{Promised};
-ghost use Rattle.reader.specs.Runs.{Gives, IsOpen};
+ghost use Rattle.reader.specs.Runs.{IsOpen};
 
 // What reading a line answers. `Read`: the buffer holds the answer, and `values` of its values are the answer's. `Refused`: the number
 // of the refusal and the value returned with it; the buffer is as it was.

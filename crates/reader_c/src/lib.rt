@@ -5,9 +5,8 @@ use book::check_book;
 use reader::LineAnswer;
 use reader::read_line;
 ghost use Rattle.book.specs.Check.{bookCheck};
-ghost use Rattle.reader.specs.Outcome.{outcome};
+ghost use Rattle.reader.specs.Outcome.{outcome, Gives};
 ghost use Rattle.reader.specs.Demands.{Promised};
-ghost use Rattle.reader.specs.Runs.{Gives};
 ghost use Rattle.reader_c.specs.Calls.{answerOf, counts, Checks};
 
 // Checks a book alone: any bytes, of any length. 0: `types`, `entries` and `pairs` hold the book's three numbers, and `value` holds 0.

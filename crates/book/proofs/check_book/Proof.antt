@@ -4,7 +4,7 @@ use mathlib.Core.Path.{_≡_, ap, _∙_}
 use native.Mathlib.Omega.{arith}
 use Rattle.figures.specs.Limits.{maxTypes}
 use Rattle.book.specs.Format.{Bytes}
-use Rattle.book.specs.Check.{bookCheck, replyOf, BookPromised}
+use Rattle.book.specs.Check.{bookCheck, checkReply, BookPromised}
 use Rattle.book.specs.declared.BookCheck.{BookCheck}
 use Rattle.book.specs.declared.BookCheck.the-variants.{Accepted}
 use Rattle.book.proofs.Checking.{no-pairs, opened-rows, check-accepted, check-refused}
@@ -13,7 +13,7 @@ use Rattle.book.proofs.check_book.Statement.{statement}
 use Rattle.book.proofs.check_book.Tie as tie
 
 -- An answer that is the book check's has what the book check promises.
-promised : (bytes : Bytes) {r : BookCheck} → r ≡ bookCheck bytes → (r ≡ bookCheck bytes) × BookPromised bytes (replyOf r)
+promised : (bytes : Bytes) {r : BookCheck} → r ≡ bookCheck bytes → (r ≡ bookCheck bytes) × BookPromised bytes (checkReply r)
 promised bytes e = (e, rw e (check-promised bytes))
 
 slice-aggregate-scan-book : tie.Need-slice-aggregate-scan-book

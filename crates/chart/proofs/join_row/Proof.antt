@@ -24,12 +24,6 @@ mul-may-contract c = search needs
 shared-slice-read-may-contract : tie.Need-shared-slice-read-may-contract
 shared-slice-read-may-contract c = search needs
 
-mul-may-contract-2 : tie.Need-mul-may-contract-2
-mul-may-contract-2 c = search needs
-
-shared-slice-read-may-contract-2 : tie.Need-shared-slice-read-may-contract-2
-shared-slice-read-may-contract-2 c = search needs
-
 may-contract-requires : tie.Need-may-contract-requires
 may-contract-requires c κs = search needs
 
@@ -47,7 +41,7 @@ returns-2 c =
 
 returns-3 : tie.Need-returns-3
 returns-3 c =
-    let a = c .before .before .before .before .before .before .before .before .before .before .args in
+    let a = c .before .before .before .before .before .before .before .before .before .args in
     let may = c .before .may-contract .ensures in
     none-says (a .row .words) (λ v j. true≢false (sym (may .1 (j .contracts)) ∙ c .if2 .left))
 
@@ -60,8 +54,6 @@ join-row-spec =
     returns
     mul-may-contract
     shared-slice-read-may-contract
-    mul-may-contract-2
-    shared-slice-read-may-contract-2
     may-contract-requires
     cast-unite
     unite-requires

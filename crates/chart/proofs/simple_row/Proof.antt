@@ -13,12 +13,12 @@ use Rattle.chart.proofs.simple_row.Statement.{statement}
 use Rattle.chart.proofs.simple_row.Tie as tie
 
 abbrev Inv-loop : tie.InvT-loop
-Inv-loop order simples nexts rows u behind row₀ y₀ row y =
-    (y ≤ rowBits) × (behind ≡ getD nexts u 0) × (y < rowBits → InRow rows behind y)
+Inv-loop order simples nexts rows u behind x row₀ y₀ row y =
+    (y ≤ rowBits) × ((behind ≡ getD nexts u 0) × (x ≡ getD simples u 0)) × (y < rowBits → InRow rows behind y)
     × GatheredTo (row .words) (Only u) (LinkPart (InRows order) simples nexts rows u) y
 
 abbrev μ-loop : tie.MeasureT-loop
-μ-loop order simples nexts rows u behind row₀ y₀ row y = rowBits - y
+μ-loop order simples nexts rows u behind x row₀ y₀ row y = rowBits - y
 
 mul-behind : tie.Need-mul-behind Inv-loop μ-loop
 mul-behind c = omega arith
@@ -28,6 +28,12 @@ shared-slice-read-behind c = omega arith
 
 cast-behind : tie.Need-cast-behind Inv-loop μ-loop
 cast-behind c = omega arith
+
+mul-x : tie.Need-mul-x Inv-loop μ-loop
+mul-x c = omega arith
+
+shared-slice-read-x : tie.Need-shared-slice-read-x Inv-loop μ-loop
+shared-slice-read-x c = omega arith
 
 empty-requires : tie.Need-empty-requires Inv-loop μ-loop
 empty-requires c κs = omega arith
@@ -44,10 +50,10 @@ link-part s = LinkPart (InRows (s .args .order .now)) (s .args .simples .now) (s
 
 loop-holds : tie.Need-loop-holds Inv-loop μ-loop
 loop-holds c =
-    let s = c .before .before .before .before .before .before .before .before in
+    let s = c .before .before .before .before .before .before .before .before .before in
     let first = c .next-member .ensures in (
       first .within,
-      refl,
+      (refl, refl),
       first .member,
       gather-starts (Only (s .args .u)) (link-part s) _ (c .next-member .result) (alone-says _ _ refl (c .before .before .empty .ensures) (c .before .put .ensures))
           (λ m v h p. first .least m (omega arith) h (p .reached)),
@@ -56,8 +62,8 @@ loop-holds c =
 join-row-requires : tie.Need-join-row-requires Inv-loop μ-loop
 join-row-requires c κs =
     let l = c .before .loop in
-    let pre = c .before .before .before .before .before .before .before .before .before .before .pre .1 in
-    (pre .node, pre .reached (l .y) (l .inv .2 (c .loop-test .taken)))
+    let pre = c .before .before .before .before .before .before .before .before .before .before .before .pre .1 in
+    pre .reached (l .y) (l .inv .2 (c .loop-test .taken))
 
 add-next-member : tie.Need-add-next-member Inv-loop μ-loop
 add-next-member c = omega arith
@@ -70,14 +76,14 @@ loop-less c = omega arith
 
 loop-again : tie.Need-loop-again Inv-loop μ-loop
 loop-again c =
-    let s = c .before .before .before .before .before .before .before .before .before .before .before .before in
+    let s = c .before .before .before .before .before .before .before .before .before .before .before .before .before in
     let l = c .before .before .before .loop in
     let next = c .next-member2 .ensures in
     let one = gather-one (Only (s .args .u)) (link-part s) (l .row .words) (c .before .join-row .result .words) (l .y) (l .inv .3)
-    (part-says {B = Joined (InRows (s .args .order .now)) (s .args .simples .now) (s .args .nexts .now) (s .args .rows .now) (s .args .u) (l .y)} (c .before .join-row .result .words) (c .before .join-row .ensures)
+    (part-says {B = Joined (InRows (s .args .order .now)) (s .args .simples .now) (s .args .nexts .now) (s .args .rows .now) (getD (s .args .simples .now) (s .args .u) 0) (l .y)} (c .before .join-row .result .words) (c .before .join-row .ensures)
     (λ v. (λ j. record { reached = l .inv .2 (c .before .before .loop-test .taken); joined = j }, λ p. p .joined))) in (
       next .within,
-      refl,
+      (refl, refl),
       next .member,
       gather-skip (Only (s .args .u)) (link-part s) (c .before .join-row .result .words) (l .y + 1) (c .next-member2 .result) one (next .from-on)
           (λ m v on h p. next .least m on h (p .reached)),
@@ -85,7 +91,7 @@ loop-again c =
 
 returns : tie.Need-returns Inv-loop μ-loop
 returns c =
-    let s = c .before .before .before .before .before .before .before .before .before .before in
+    let s = c .before .before .before .before .before .before .before .before .before .before .before in
     let l = c .before .loop in
     gather-ends (Only (s .args .u)) (link-part s) (l .row .words) (l .y) (λ m v p. omega (arith, p .reached .small)) (l .inv .3)
 
@@ -98,6 +104,8 @@ simple-row-spec =
     mul-behind
     shared-slice-read-behind
     cast-behind
+    mul-x
+    shared-slice-read-x
     empty-requires
     put-requires
     next-member-requires

@@ -6,14 +6,14 @@ use lib.ListN.{length}
 use Rattle.line.proofs.LineLaws.{Looking, looking-start, looking-none, looking-next, looking-full, looking-end}
 use Rattle.line.specs.LookUp.{entriesKept}
 use Rattle.line.specs.Split.{SplitInto}
-use Rattle.figures.specs.Limits.{maxEntries}
+use Rattle.figures.specs.Limits.{maxEntries, maxEntrySimples}
 use Rattle.book.specs.Format.{Book}
 use Rattle.line.proofs.lookup.look_up.Statement.{statement}
 use Rattle.line.proofs.lookup.look_up.Tie as tie
 
 abbrev Inv-loop : tie.InvT-loop
 Inv-loop book offsets count line starts ends words found₀ sum₀ k₀ found sum k =
-    (k ≤ words) × (sum ≤ 12288 * k) × (length found ≡ maxEntries) × ((B : Book) → B .entries ≡ entriesKept book offsets count → (s : SplitInto line starts ends words) → Looking B line starts ends words s sum k)
+    (k ≤ words) × (sum ≤ maxEntries * maxEntrySimples * k) × (length found ≡ maxEntries) × ((B : Book) → B .entries ≡ entriesKept book offsets count → (s : SplitInto line starts ends words) → Looking B line starts ends words s sum k)
 
 abbrev μ-loop : tie.MeasureT-loop
 μ-loop book offsets count line starts ends words found₀ sum₀ k₀ found sum k = words - k

@@ -37,7 +37,7 @@ loop-again : tie.Need-loop-again Inv-loop μ-loop
 loop-again c =
     let l = c .before .before .before .loop in
     let a = c .before .before .before .before .args in
-    (omega arith, omega arith, spelling-more (a .line .now) (a .at) (l .i) (l .inv .0) (omega arith) (c .if1 .left) (l .inv .2))
+    (omega arith, omega arith, spelling-more (a .line .now) (a .at) (l .i) (c .if1 .left) (l .inv .2))
 
 returns-2 : tie.Need-returns-2 Inv-loop μ-loop
 returns-2 c =

@@ -1,0 +1,47 @@
+-- No refusal of a book or a line has the number 0, so that 0 can stand for success.
+use Prim.Native.Nat.{ℕ}
+use native.Mathlib.Omega.{arith}
+use mathlib.Core.Path.{_≡_}
+use mathlib.Core.Bool.{Bool, true, false, cond}
+use mathlib.Core.Option.{Option, none, some}
+use lib.Dec.{ltb}
+use Rattle.figures.specs.Limits.{maxLineSimples}
+use Rattle.figures.specs.Refusals.{badLineByte, badWord, unknownWord, tooManySimples}
+use Rattle.book.specs.Format.{Bytes, Book, Parsed, accepted, refused, parse}
+use Rattle.book.proofs.Parsing.{Comes, whole, stopped as parsed-refused, parse-comes}
+use Rattle.book.proofs.Promises.{cause-some}
+use Rattle.line.specs.LineWords.{wordsOf}
+use Rattle.line.specs.LineFaults.{LineCheck, passed, stopped, lineCheck, orElse, byteFault, wordFault, entryFault, simplesOfWords, entriesOfLine}
+
+-- Whatever a test says, a property holds that both of its sides have.
+either-side : {A : Type 0} (P : A → Type 0) (b : Bool) (x y : A) → P x → P y → P (cond b x y)
+either-side P true x y p q = p
+either-side P false x y p q = q
+
+abbrev pub NamedParse : Parsed → Type 0
+NamedParse (accepted B) = Unit {0}
+NamedParse (refused number value) = number ≡ 0 → ⊥
+
+comes-named : {bytes : Bytes} {p : Parsed} → Comes bytes p → NamedParse p
+comes-named (whole short good) = tt
+comes-named (parsed-refused cause) = λ z. omega (arith, cause-some cause)
+
+pub parse-named : (bytes : Bytes) → NamedParse (parse bytes)
+parse-named bytes = comes-named (parse-comes bytes)
+
+abbrev pub NamedLine : LineCheck → Type 0
+NamedLine (passed words) = Unit {0}
+NamedLine (stopped number value) = number ≡ 0 → ⊥
+
+or-else-named : (number : ℕ) (found : Option ℕ) (next : LineCheck) → (number ≡ 0 → ⊥) → NamedLine next → NamedLine (orElse number found next)
+or-else-named number none next named rest = rest
+or-else-named number (some value) next named rest = named
+
+pub line-named : (B : Book) (line : Bytes) → NamedLine (lineCheck B line)
+unfolding lineCheck
+line-named B line =
+    let words = wordsOf line in
+    let simples = simplesOfWords (entriesOfLine B line) in
+    or-else-named badLineByte (byteFault 0 line) _ (omega arith)
+    (or-else-named badWord (wordFault 0 words) _ (omega arith)
+    (or-else-named unknownWord (entryFault B words) _ (omega arith) (either-side NamedLine (ltb maxLineSimples simples) (stopped tooManySimples 0) (passed (entriesOfLine B line)) (omega arith) tt)))

@@ -1,0 +1,105 @@
+-- The results that everything here serves, each in full and proved elsewhere under the name on its last line. They go from the calculus to
+-- linkings and readings, then to a book, and end with what reading a line comes to.
+use Prim.Native.Nat.{ℕ, _≤_}
+use mathlib.Core.Path.{_≡_}
+use mathlib.Core.Logic.{_↔_}
+use mathlib.Core.List.{List, [], _∷_, _++_, map}
+use mathlib.Core.Option.{none, some}
+use lib.ListN.{length}
+use Rattle.figures.specs.Limits.{maxTypes}
+use Rattle.figures.specs.Refusals.{Reply}
+use Rattle.pregroup.specs.Types.{Basic, PregroupType, plain, rightAdjoint}
+use Rattle.pregroup.specs.Order.{Relation, IsOrder, AllDeclared}
+use Rattle.pregroup.specs.Steps.{Chain, Contractions}
+use Rattle.pregroup.specs.Vanish.{Vanish, Reduces}
+use Rattle.pregroup.specs.Tests.{Test, Decides}
+use Rattle.pregroup.proofs.General.{general}
+use Rattle.pregroup.proofs.Switching.{switching, switching-contractions}
+use Rattle.linking.specs.Linking.{IsLinking}
+use Rattle.linking.specs.Reading.{Words, Choice, IsReading, IsFirst, firstReading}
+use Rattle.linking.specs.Ascending.{AllAscending}
+use Rattle.linking.proofs.Reduction.{linking-iff-reduces}
+use Rattle.linking.proofs.FirstReading.{first-reading-some, first-reading-none, first-reading-unique}
+use Rattle.linking.proofs.Derivation.{reading-iff-chain}
+use Rattle.order.specs.Closed.{Closed, Pair, Listed, DeclaredPairs, below, closedCount}
+use Rattle.order.specs.Rows.{Hold, pairsIn}
+use Rattle.order.proofs.Decision.{below-decides}
+use Rattle.order.proofs.Counting.{pairs-in-closed}
+use Rattle.book.specs.Format.{Bytes, nothingYet, recordsFrom}
+use Rattle.book.specs.Check.{bookCheck, checkReply, BookPromised}
+use Rattle.book.proofs.Parsing.{bound-never-ends}
+use Rattle.book.proofs.Promises.{check-promised, one-answer}
+use Rattle.reader.specs.declared.LineAnswer.the-variants.{Refused}
+use Rattle.reader.specs.Outcome.{outcome}
+use Rattle.reader.specs.Demands.{Promised}
+use Rattle.reader.proofs.Promises.{outcome-promised, refusals-named}
+use Rattle.reader.proofs.Table.{Case, lineOf, cases, lent, expected, paper-cases}
+
+module _ {Declared : Basic → Type 0} {Le : Relation} (order : IsOrder Declared Le) where
+  -- The general theorem: X can be turned into Y exactly when X with the right adjoint of Y behind it vanishes.
+  pub general-theorem : (X Y : PregroupType) → AllDeclared Declared Y → Chain Le X Y ↔ Vanish Le (X ++ rightAdjoint Y)
+  general-theorem = general order
+
+  -- The switching lemma: X reaches s exactly when contractions alone bring it to some plain q with q ≤ s.
+  pub switching-lemma : (X : PregroupType) (s : Basic) → Declared s → Chain Le X (plain s ∷ []) ↔ ((q : Basic) × Contractions Le X (plain q ∷ []) × Le q s)
+  switching-lemma = switching-contractions order
+
+  -- The same by what vanishes: X reaches s exactly when everything in it but one plain q with q ≤ s links up.
+  pub switching-by-links : (X : PregroupType) (s : Basic) → Declared s → Chain Le X (plain s ∷ []) ↔ Reduces Le s X
+  switching-by-links = switching order
+
+  -- A line has a reading exactly when the type of some choice can be turned into the target.
+  pub reading-exactly-when-chain : (s : Basic) → Declared s → (words : Words)
+      → ((ns : List ℕ) × (P : List ℕ) × IsReading Le s words ns P) ↔ ((ns : List ℕ) × (X : PregroupType) × Choice words ns X × Chain Le X (plain s ∷ []))
+  reading-exactly-when-chain = reading-iff-chain order
+
+-- A type has a linking exactly when everything in it but one plain type at or below the target links up.
+pub linking-exactly-when-reduces : {Le : Relation} {s : Basic} {X : PregroupType} → Reduces Le s X ↔ ((P : List ℕ) × IsLinking Le s X P)
+linking-exactly-when-reduces = linking-iff-reduces
+
+module _ {le : Test} {Le : Relation} (decides : Decides le Le) (s : Basic) {words : Words} (ascending : AllAscending words) where
+  -- What `firstReading` gives is the first reading.
+  pub found-is-first : {ns P : List ℕ} → firstReading le s words ≡ some (ns, P) → IsFirst Le s words ns P
+  found-is-first = first-reading-some decides s ascending
+
+  -- It gives none exactly when there is no reading.
+  pub none-exactly-when-unread : (firstReading le s words ≡ none) ↔ ((ns P : List ℕ) → IsReading Le s words ns P → ⊥)
+  none-exactly-when-unread = first-reading-none decides s ascending
+
+  -- The first reading is unique: any one is what it gives.
+  pub first-is-unique : {ns P : List ℕ} → IsFirst Le s words ns P → firstReading le s words ≡ some (ns, P)
+  first-is-unique = first-reading-unique decides s ascending
+
+-- The test of a book's order is right: it says yes exactly of what the closure of the pairs relates.
+pub order-is-decided : (types : ℕ) (pairs : List Pair) → DeclaredPairs types pairs → Decides (below types pairs) (Closed types (Listed pairs))
+order-is-decided = below-decides
+
+-- Rows of bits that hold the closure have as many ones as it has pairs p ≤ q.
+pub closure-is-counted : (types : ℕ) (pairs : List Pair) (rows : List ℕ) → types ≤ maxTypes → DeclaredPairs types pairs → Hold rows (Closed types (Listed pairs))
+    → pairsIn rows ≡ closedCount types pairs
+closure-is-counted = pairs-in-closed
+
+module _ (book : Bytes) where
+  -- What `bookCheck` defines keeps every promise made of the book check, and nothing else does.
+  pub check-promises-kept : BookPromised book (checkReply (bookCheck book))
+  check-promises-kept = check-promised book
+
+  pub one-reply : (reply : Reply) → BookPromised book reply → reply ≡ checkReply (bookCheck book)
+  one-reply = one-answer book
+
+  -- The bound in `recordsFrom` is never what ends a book.
+  pub bound-is-enough : (more : ℕ) → length book ≤ more → recordsFrom more book 0 nothingYet ≡ recordsFrom (length book) book 0 nothingYet
+  bound-is-enough = bound-never-ends book
+
+module _ (book line : Bytes) (buffer : List ℕ) where
+  -- What `outcome` defines keeps every promise made of an answer and the buffer.
+  pub promises-kept : Promised book line buffer (outcome book line buffer .answer) (outcome book line buffer .buffer)
+  promises-kept = outcome-promised book line buffer
+
+  -- No refusal has the number 0, which stands for success.
+  pub no-refusal-is-zero : (number value : ℕ) → outcome book line buffer .answer ≡ Refused number value → number ≡ 0 → ⊥
+  no-refusal-is-zero = refusals-named book line buffer
+
+-- The marked cases of the paper come to what its table says.
+pub marked-cases : map (λ (c : Case). outcome (c .book) (lineOf (c .words)) lent) cases ≡ map (λ (c : Case). expected (c .reading)) cases
+marked-cases = paper-cases
