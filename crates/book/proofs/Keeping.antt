@@ -16,8 +16,8 @@ use Rattle.pregroup.specs.Held.{InRows}
 use Rattle.order.specs.Closed.{Pair, Within, Listed}
 use Rattle.figures.specs.Limits.{maxTypes, maxEntries}
 use Rattle.order.specs.Rows.{Hold}
-use Rattle.book.specs.Format.{Bytes, Entry, Draft, twoBytes, bodyAt, nextAt, kindAt, bodyRules, recordRules, firstBroken, nextFault, entryOf, add, every, declaredAmong}
-use Rattle.book.specs.Kept.{bodiesAt, Whole, Formed, AllFormed, Store, store, Sound, Keeps, Taking}
+use Rattle.book.specs.Format.{Bytes, Entry, Draft, twoBytes, bodyAt, nextAt, kindAt, bodyRules, recordRules, firstBroken, entryOf, add, every, declaredAmong}
+use Rattle.book.specs.Kept.{bodiesAt, Whole, Formed, AllFormed, Store, store, Sound, Keeps, Taking, nextFault}
 use Rattle.book.specs.declared.Progress.{Progress}
 use Rattle.book.proofs.Bools.{both}
 use Rattle.book.proofs.Names.{bodies-length}

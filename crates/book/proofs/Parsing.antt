@@ -9,7 +9,8 @@ use lib.ListN.{length}
 use borrow.Author.Tests.{lt-ltb, le-ltb, ne-eqb}
 use Rattle.figures.specs.Limits.{maxBook}
 use Rattle.figures.specs.Refusals.{bookTooLong}
-use Rattle.book.specs.Format.{Bytes, Book, Draft, Parsed, accepted, refused, parse, nothingYet, recordsFrom, ended, nextAt, nextRules, nextFault, nextDraft}
+use Rattle.book.specs.Format.{Bytes, Book, Draft, Parsed, accepted, refused, parse, nothingYet, recordsFrom, ended, nextAt, nextRules, nextDraft}
+use Rattle.book.specs.Kept.{nextFault}
 use Rattle.book.specs.Check.{GoodUpTo, start, next, Cause, too-long, bad-record, no-target}
 use Rattle.book.proofs.NoFault.{no-fault-whole}
 use Rattle.book.proofs.SmallestNumber.{Decided, clean, broken, fault-decided, fault-clean, fault-smallest, breaks-some}

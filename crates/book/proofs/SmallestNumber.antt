@@ -5,7 +5,8 @@ use mathlib.Core.Path.{_≡_, refl, ap}
 use mathlib.Core.Logic.{⊎-elim}
 use mathlib.Core.Bool.{Bool, true, false, cond, true≢false}
 use mathlib.Core.List.{List, [], _∷_, List·Memᴰ, List·Memᴰ·head, List·Memᴰ·tail, List·Memᴰ·not-nil, List·Memᴰ·cases-cons}
-use Rattle.book.specs.Format.{Bytes, Draft, bodyRules, recordRules, firstBroken, nextRules, nextFault}
+use Rattle.book.specs.Format.{Bytes, Draft, bodyRules, recordRules, firstBroken, nextRules}
+use Rattle.book.specs.Kept.{nextFault}
 use Rattle.book.specs.Check.{Breaks}
 
 -- The numbers of the rules rise, all above k.

@@ -171,12 +171,9 @@ add kind body B =
     (record { names = B .names; pairs = B .pairs; entries = B .entries ++ (entryOf body ∷ []); target = B .target })
     (record { names = B .names; pairs = B .pairs; entries = B .entries; target = getD {A = ℕ} body 0 0 })
 
--- The record at an offset behind what has been read: its rules, its fault, and what has been read with it.
+-- The record at an offset behind what has been read: its rules, and what has been read with it.
 abbrev pub nextRules : Bytes → ℕ → Draft → List (ℕ × Bool)
 nextRules bytes at d = recordRules bytes at (d .book .names) (length (d .book .entries)) (d .seen)
-
-abbrev pub nextFault : Bytes → ℕ → Draft → ℕ
-nextFault bytes at d = firstBroken (nextRules bytes at d)
 
 abbrev pub nextDraft : Bytes → ℕ → Draft → Draft
 nextDraft bytes at d = record { book = add (kindAt bytes at) (bodyAt bytes at) (d .book); seen = eqb (kindAt bytes at) 4 || d .seen }
@@ -189,7 +186,7 @@ ended bytes d = cond (d .seen) (accepted (d .book)) (refused noTarget (length by
 unfoldable pub recordsFrom : ℕ → Bytes → ℕ → Draft → Parsed
 recordsFrom zero bytes at d = ended bytes d
 recordsFrom (suc more) bytes at d =
-    let fault = nextFault bytes at d in
+    let fault = firstBroken (nextRules bytes at d) in
     let rest = recordsFrom more bytes (nextAt bytes at) (nextDraft bytes at d) in
     cond (ltb at (length bytes)) (cond (eqb fault 0) rest (refused fault at)) (ended bytes d)
 

@@ -11,7 +11,7 @@ use Rattle.pregroup.specs.Held.{InRows}
 use Rattle.order.specs.Closed.{Within, Listed}
 use Rattle.figures.specs.Limits.{maxTypes, maxEntries, maxBook}
 use Rattle.order.specs.Rows.{Hold}
-use Rattle.book.specs.Format.{Bytes, Book, Draft, accepted, refused, parse, bodyAt, nextAt, every, declaredAmong, bases, exponents, exponentListed, simplesOf, typePart, isEntry, entryOf, nextFault, nextDraft}
+use Rattle.book.specs.Format.{Bytes, Book, Draft, accepted, refused, parse, bodyAt, nextAt, every, declaredAmong, bases, exponents, exponentListed, simplesOf, typePart, isEntry, entryOf, firstBroken, nextRules, nextDraft}
 use Rattle.book.specs.declared.Progress.{Progress}
 use Rattle.book.specs.declared.Taken.{Taken}
 use Rattle.book.specs.declared.Taken.the-variants.{Next, Bad}
@@ -76,6 +76,10 @@ pub record Keeps (bytes : Bytes) (s : Store) (p : Progress) (d : Draft) : Type 0
   pub entries : d .book .entries ≡ map entryOf (bodiesAt bytes (s .entries) (p .entries))
   pub seen : d .seen ≡ ltb (p .target) maxTypes
   pub target : p .target < maxTypes → d .book .target ≡ p .target
+
+-- The number that the record at an offset, behind records that hold d, is refused with, or 0.
+abbrev pub nextFault : Bytes → ℕ → Draft → ℕ
+nextFault bytes at d = firstBroken (nextRules bytes at d)
 
 -- A record taken in: s and p become s′ and p′.
 pub record Taking (bytes : Bytes) (s : Store) (p : Progress) (s′ : Store) (p′ : Progress) : Type 0 where

@@ -15,8 +15,8 @@ ghost use Rattle.book.specs.Format.{twoBytes, bodyAt, nextAt, nameByte, 
 // The bytes of a record's head: the body's length and the kind.
 pub const HEAD: usize = 4;
 
-// The byte of the least exponent.
-const LEAST_EXPONENT: u8 = 255 - (MAX_EXPONENT - 1);
+// The byte of the least exponent, in two's complement.
+pub const LEAST_EXPONENT: u8 = 255 - (MAX_EXPONENT - 1);
 
 // The little-endian number of the two bytes from `at` on.
 pub fn two_bytes(bytes: &[u8], at: usize) -> usize

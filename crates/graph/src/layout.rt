@@ -1,5 +1,6 @@
 // Lays a checked line out: each word a boundary, then the simple types of its entries, and behind the last word the target.
 use crate::Place;
+use book::layout::LEAST_EXPONENT;
 use book::layout::body_at;
 use book::layout::type_part;
 use book::widths::wide_number;
@@ -23,18 +24,15 @@ ghost use Rattle.line.specs.LookUp.{entriesAt};
 ghost use Rattle.graph.specs.Cells.{cells, nodes, TypeFits, Typed, SlotFits, Lays, EntriesFit, entriesOfWord};
 ghost use Rattle.graph.specs.Lists.{lists, WordFits, WordsFit, Lined, entriesOfWords, Ended, Standing, LineFits, LaidOut};
 
-// The byte of the least exponent, -8, which is held as 0.
-const LEAST: u8 = 248;
-
 // An exponent of the book, a byte in two's complement, as it is held: raised, so that it is never negative.
 fn raise(exponent: u8) -> u8
     requires { ⌜ exponentListed (exponentOf exponent) ≡ true ⌝ }
     ensures { λ r. ⌜ pos r -ℤ pos bias ≡ exponentOf exponent ⌝ }
 {
-    if exponent < LEAST {
+    if exponent < LEAST_EXPONENT {
         exponent + EXPONENT_BIAS
     } else {
-        exponent - LEAST
+        exponent - LEAST_EXPONENT
     }
 }
 

@@ -34,9 +34,7 @@ byteFault at (b ∷ bytes) = let rest = byteFault (at + 1) bytes in cond (betwee
 -- 12: word over 31 bytes, or a 25th word. The offset of the first one; `n` words stand before these.
 unfoldable pub wordFault : ℕ → List Word → Option ℕ
 wordFault n [] = none
-wordFault n (w ∷ words) =
-    let rest = wordFault (n + 1) words in
-    cond (ltb maxWord (length (w .bytes)) || leb maxWords n) (some (w .at)) rest
+wordFault n (w ∷ words) = let rest = wordFault (n + 1) words in cond (ltb maxWord (length (w .bytes)) || leb maxWords n) (some (w .at)) rest
 
 -- 13: word without an entry. The offset of the first one.
 unfoldable pub entryFault : Book → List Word → Option ℕ

@@ -41,8 +41,7 @@ Answer = List ℕ × List ℕ
 -- The first entry of a word by which the rest, with this entry's type behind X, has an answer.
 unfoldable pub firstEntry : (PregroupType → Option Answer) → PregroupType → List NumberedEntry → Option Answer
 firstEntry rest X [] = none
-firstEntry rest X (e ∷ es) =
-    elim (rest (X ++ e .type)) [ none ↦ firstEntry rest X es | some a ↦ some (e .number ∷ a .0, a .1) ]
+firstEntry rest X (e ∷ es) = elim (rest (X ++ e .type)) [ none ↦ firstEntry rest X es | some a ↦ some (e .number ∷ a .0, a .1) ]
 
 -- The first choice of the words whose type, joined behind X, has a linking; and its first linking.
 unfoldable pub firstBehind : Test → Basic → Words → PregroupType → Option Answer

@@ -5,11 +5,11 @@ use mathlib.Core.List.{[], _∷_, _++_, append-nil, append-assoc}
 use lib.IntN.{ℤ}
 use Rattle.pregroup.specs.Types.{Simple, PregroupType, _⁽_⁾}
 use Rattle.pregroup.specs.Order.{Relation}
-use Rattle.pregroup.specs.Steps.{Rewriting, Contraction, vanish, contraction, ChainOf, done, next, Chain, Contractions}
+use Rattle.pregroup.specs.Steps.{Contraction, vanish, contraction, ChainOf, done, next, Chain, Contractions}
 use Rattle.pregroup.specs.Vanish.{Contracts, Vanish, empty, link}
 use Rattle.pregroup.proofs.VanishLaws.{vanish-insert}
 
-pub chain-append : {One : Rewriting} {X Y Z : PregroupType} → ChainOf One X Y → ChainOf One Y Z → ChainOf One X Z
+pub chain-append : {One : PregroupType → PregroupType → Type 0} {X Y Z : PregroupType} → ChainOf One X Y → ChainOf One Y Z → ChainOf One X Z
 chain-append done k = k
 chain-append (next s c) k = next s (chain-append c k)
 

@@ -5,10 +5,6 @@ use lib.IntN.{ℤ, sucℤ}
 use Rattle.pregroup.specs.Types.{Basic, PregroupType, _⁽_⁾}
 use Rattle.pregroup.specs.Order.{Relation, Fits}
 
--- A relation between types: what one step may do.
-abbrev pub Rewriting : Type 1
-Rewriting = PregroupType → PregroupType → Type 0
-
 -- Order step (the papers' induced step): a^(z) inside a string becomes b^(z), where it fits.
 pub data OrderStep (Le : Relation) : PregroupType → PregroupType → Type 0 where
   becomes : (S T : PregroupType) (a b : Basic) (z : ℤ) → Fits Le z a b → OrderStep Le (S ++ (a ⁽ z ⁾ ∷ T)) (S ++ (b ⁽ z ⁾ ∷ T))
@@ -28,14 +24,14 @@ pub data Step (Le : Relation) : PregroupType → PregroupType → Type 0 where
   expansion : {X Y : PregroupType} → Expansion Le X Y → Step Le X Y
 
 -- A finite list of steps, perhaps of none, each from the string as it then stands.
-pub data ChainOf (One : Rewriting) : PregroupType → PregroupType → Type 0 where
+pub data ChainOf (One : PregroupType → PregroupType → Type 0) : PregroupType → PregroupType → Type 0 where
   done : {X : PregroupType} → ChainOf One X X
   next : {X Y Z : PregroupType} → One X Y → ChainOf One Y Z → ChainOf One X Z
 
 -- A chain: X can be turned into Y by contractions, expansions and order steps, mixed freely.
-abbrev pub Chain : Relation → Rewriting
+abbrev pub Chain : Relation → PregroupType → PregroupType → Type 0
 Chain Le = ChainOf (Step Le)
 
 -- A chain of contractions alone.
-abbrev pub Contractions : Relation → Rewriting
+abbrev pub Contractions : Relation → PregroupType → PregroupType → Type 0
 Contractions Le = ChainOf (Contraction Le)

@@ -24,9 +24,7 @@ sameExponent (negsuc m) (negsuc n) = eqb m n
 
 -- Whether x and y, in this order, could contract.
 unfoldable pub contracts : Test → Simple → Simple → Bool
-contracts le x y =
-    sameExponent (y .exponent) (sucℤ (x .exponent))
-    && cond (even (x .exponent)) (le (x .base) (y .base)) (le (y .base) (x .base))
+contracts le x y = sameExponent (y .exponent) (sucℤ (x .exponent)) && cond (even (x .exponent)) (le (x .base) (y .base)) (le (y .base) (x .base))
 
 -- Whether the simple types on the stack, the last one on top, can all be closed by the rest of the string, and everything else in it
 -- links up: the first simple type of the rest closes the top one, or is put on the stack itself.

@@ -1,17 +1,17 @@
 -- A refusal handed on as numbers stands for itself: its number is not 0.
 use Prim.Native.Nat.{ℕ}
 use mathlib.Core.Path.{_≡_, refl, sym, subst}
-use mathlib.Core.List.{List}
+use mathlib.Core.List.{List, [], _∷_}
 use borrow.Author.Tests.{ne-eqb}
 use Rattle.book.specs.Format.{Bytes, Parsed, accepted, refused, parse}
-use Rattle.book.specs.Check.{bookCheck, answerFor}
+use Rattle.book.specs.Check.{bookCheck, answerFor, checkReply}
 use Rattle.book.specs.declared.BookCheck.{BookCheck}
 use Rattle.book.specs.declared.BookCheck.the-variants.{Accepted, Refused}
 use Rattle.reader.specs.declared.LineAnswer.the-variants.{Refused as RefusedLine}
 use Rattle.reader.specs.Outcome.{outcome}
 use Rattle.reader.proofs.Refusals.{NamedParse, parse-named}
 use Rattle.reader.proofs.Promises.{refusals-named}
-use Rattle.reader_c.specs.Calls.{Counts, Checks, answerOf}
+use Rattle.reader_c.specs.Calls.{Checks, answerOf}
 
 abbrev NamedCheck : BookCheck → Type 0
 NamedCheck (Accepted types entries pairs) = Unit {0}
@@ -26,13 +26,16 @@ check-named bytes = go (parse bytes) (parse-named bytes)
 
 -- The laws that the two functions use.
 
-pub refused-checks : (bytes : Bytes) (before : Counts) (number value : ℕ) → Refused number value ≡ bookCheck bytes → Checks (bookCheck bytes) before number value before
+pub refused-checks : (bytes : Bytes) (before : List ℕ) (number value : ℕ) → Refused number value ≡ bookCheck bytes → Checks (checkReply (bookCheck bytes)) before number value before
 refused-checks bytes before number value e =
     let named : number ≡ 0 → ⊥ = subst NamedCheck (sym e) (check-named bytes) in
-    record { stands-for = rw (ne-eqb number 0 named) e; no-value = λ z. absurd (named z); kept = λ _. refl }
+    subst (λ check. Checks (checkReply check) before number value before) e
+    (record { same-number = refl; accepted = λ z. absurd (named z); refused = λ _. (refl, refl) })
 
-pub accepted-checks : (bytes : Bytes) (before after : Counts) → Accepted (after .types) (after .entries) (after .pairs) ≡ bookCheck bytes → Checks (bookCheck bytes) before 0 0 after
-accepted-checks bytes before after e = record { stands-for = e; no-value = λ _. refl; kept = λ some. absurd (some refl) }
+pub accepted-checks : (bytes : Bytes) (before : List ℕ) (types entries pairs : ℕ) → Accepted types entries pairs ≡ bookCheck bytes → Checks (checkReply (bookCheck bytes)) before 0 0 (types ∷ entries ∷ pairs ∷ [])
+accepted-checks bytes before types entries pairs e =
+    subst (λ check. Checks (checkReply check) before 0 0 (types ∷ entries ∷ pairs ∷ [])) e
+    (record { same-number = refl; accepted = λ _. (refl, refl); refused = λ some. absurd (some refl) })
 
 pub refused-answers : (book line : Bytes) (buffer : List ℕ) (number value : ℕ) → RefusedLine number value ≡ outcome book line buffer .answer → RefusedLine number value ≡ answerOf number value
 refused-answers book line buffer number value e = rw (ne-eqb number 0 (refusals-named book line buffer number value (sym e)))

@@ -2,31 +2,18 @@
 use Prim.Native.Nat.{ℕ}
 use mathlib.Core.Path.{_≡_}
 use mathlib.Core.Bool.{cond}
+use mathlib.Core.List.{List, [], _∷_}
 use lib.Dec.{eqb}
-use Rattle.book.specs.declared.BookCheck.{BookCheck}
-use Rattle.book.specs.declared.BookCheck.the-variants.{Accepted, Refused}
+use Rattle.figures.specs.Refusals.{Reply}
 use Rattle.reader.specs.declared.LineAnswer.{LineAnswer}
-use Rattle.reader.specs.declared.LineAnswer.the-variants.{Read, Refused as RefusedLine}
+use Rattle.reader.specs.declared.LineAnswer.the-variants.{Read, Refused}
 
--- The three numbers of a book: its basic types, its entries and the pairs p ≤ q in its closed order.
-pub record Counts : Type 0 where
-  pub types : ℕ
-  pub entries : ℕ
-  pub pairs : ℕ
-
-abbrev pub counts : ℕ → ℕ → ℕ → Counts
-counts types entries pairs = record { types = types; entries = entries; pairs = pairs }
-
--- The book check that a number, a value and three numbers stand for.
-abbrev pub checkOf : ℕ → ℕ → Counts → BookCheck
-checkOf number value c = cond (eqb number 0) (Accepted (c .types) (c .entries) (c .pairs)) (Refused number value)
-
--- The numbers stand for this check. The value of an accepted book is 0; a refusal leaves the three numbers as they were.
-pub record Checks (check : BookCheck) (before : Counts) (number value : ℕ) (after : Counts) : Type 0 where
-  pub stands-for : checkOf number value after ≡ check
-  pub no-value : number ≡ 0 → value ≡ 0
-  pub kept : (number ≡ 0 → ⊥) → after ≡ before
+-- A book check's reply as a number, a value and three lent numbers. An accepted book's value is 0; a refusal leaves the three as they were.
+pub record Checks (reply : Reply) (before : List ℕ) (number value : ℕ) (after : List ℕ) : Type 0 where
+  pub same-number : number ≡ reply .number
+  pub accepted : number ≡ 0 → (value ≡ 0) × (after ≡ reply .values)
+  pub refused : (number ≡ 0 → ⊥) → (value ∷ [] ≡ reply .values) × (after ≡ before)
 
 -- The answer that a number and a value stand for.
 abbrev pub answerOf : ℕ → ℕ → LineAnswer
-answerOf number value = cond (eqb number 0) (Read value) (RefusedLine number value)
+answerOf number value = cond (eqb number 0) (Read value) (Refused number value)

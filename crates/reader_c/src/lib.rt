@@ -4,10 +4,11 @@ use book::BookCheck;
 use book::check_book;
 use reader::LineAnswer;
 use reader::read_line;
-ghost use Rattle.book.specs.Check.{bookCheck};
+ghost use mathlib.Core.List.{[], _∷_};
+ghost use Rattle.book.specs.Check.{bookCheck, checkReply};
 ghost use Rattle.reader.specs.Outcome.{outcome, Gives};
 ghost use Rattle.reader.specs.Demands.{Promised};
-ghost use Rattle.reader_c.specs.Calls.{answerOf, counts, Checks};
+ghost use Rattle.reader_c.specs.Calls.{answerOf, Checks};
 
 // Checks a book alone: any bytes, of any length. 0: `types`, `entries` and `pairs` hold the book's three numbers, and `value` holds 0.
 // Else it is refused: the number of the refusal is returned, `value` holds the value returned with it, and the three are as they were.
@@ -19,7 +20,9 @@ pub extern "C" fn vurzhelik_check_book(
     entries: &mut u64,
     pairs: &mut u64,
 ) -> u32
-    ensures { λ r. ⌜ Checks (bookCheck (now (book .entry))) (counts (now (types .entry)) (now (entries .entry)) (now (pairs .entry))) r (now (value .exit)) (counts (now (types .exit)) (now (entries .exit)) (now (pairs .exit))) ⌝ }
+    ensures { λ r. ⌜ Checks (checkReply (bookCheck (now (book .entry))))
+        (now (types .entry) ∷ now (entries .entry) ∷ now (pairs .entry) ∷ []) r (now (value .exit))
+        (now (types .exit) ∷ now (entries .exit) ∷ now (pairs .exit) ∷ []) ⌝ }
 {
     match check_book(book) {
         BookCheck::Refused {

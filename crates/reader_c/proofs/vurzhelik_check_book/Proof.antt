@@ -22,7 +22,7 @@ returns c =
 returns-2 : tie.Need-returns-2
 returns-2 c =
     let check = c .before .before .before .check-book .ensures .0 in
-    accepted-checks _ _ _ (sym (c .before .of-types .given .1) ∙ check)
+    accepted-checks _ _ _ _ _ (sym (c .before .of-types .given .1) ∙ check)
 
 pub vurzhelik-check-book-spec : {M : Type 1} → statement M
 vurzhelik-check-book-spec =
