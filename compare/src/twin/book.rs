@@ -1,14 +1,23 @@
 //! A book: any bytes at all, accepted with its contents or refused by the first rule it breaks.
 use super::bits;
 use super::compare;
-use super::order::{self, MAX_TYPES};
+use super::figures::limits::{
+    MAX_BOOK, MAX_ENTRIES, MAX_ENTRY_SIMPLES, MAX_EXPONENT, MAX_NAME, MAX_TYPES, MAX_WORD,
+};
+use super::figures::refusals::{
+    BAD_LAYOUT, BOOK_TOO_LONG, CUT_SHORT, EXPONENT_OUTSIDE, KIND_NOT_LISTED, NAME_USED, NO_TARGET,
+    SECOND_TARGET, TOO_MANY_RECORDS, UNDECLARED_TYPE,
+};
+use super::order;
 
-const MAX_BYTES: usize = 65535;
-pub const MAX_ENTRIES: usize = 1024;
-const MAX_NAME: usize = 15;
-pub const MAX_WORD: usize = 31;
-const MAX_SIMPLES: usize = 12;
-const NO_TARGET: u8 = 64;
+/// The bytes of a record's head: the body's length and the kind.
+const HEAD: usize = 4;
+
+/// The byte of the least exponent.
+const LEAST_EXPONENT: u8 = 255 - (MAX_EXPONENT - 1);
+
+/// What is kept for the target before there is one: no basic type has this number.
+const UNSET_TARGET: u8 = MAX_TYPES as u8;
 
 /// A reader of a book's records: the book and the offset of the next record.
 struct RecordReader<'a> {
@@ -17,7 +26,7 @@ struct RecordReader<'a> {
 }
 
 /// How far a book has been read: the offset of the next record, how many basic types and entries there were, and the target, or
-/// `NO_TARGET` where there was none.
+/// `UNSET_TARGET` where there was none.
 #[derive(Clone, Copy)]
 struct Progress {
     at: usize,
@@ -54,14 +63,26 @@ pub enum BookCheck {
     },
 }
 
+/// A byte in the width that the code counts in.
+#[inline]
+fn wide_byte(byte: u8) -> usize {
+    byte as usize
+}
+
+/// A number of 16 bits in that width: a kept offset, an entry's number or a value of an answer.
+#[inline]
+pub fn wide_number(number: u16) -> usize {
+    number as usize
+}
+
 /// The little-endian number of the two bytes from `at` on.
 fn two_bytes(bytes: &[u8], at: usize) -> usize {
-    bytes[at] as usize + 256 * bytes[at + 1] as usize
+    wide_byte(bytes[at]) + 256 * wide_byte(bytes[at + 1])
 }
 
 /// The body of the record at an offset, which is there whole.
 pub fn body_at(book: &[u8], at: usize) -> &[u8] {
-    let start = at + 4;
+    let start = at + HEAD;
     let end = start + two_bytes(book, at);
     &book[start..end]
 }
@@ -80,7 +101,7 @@ fn is_word_byte(byte: u8) -> bool {
 
 /// Whether a byte holds an exponent from -8 to 8, in two's complement.
 fn is_exponent(byte: u8) -> bool {
-    matches!(byte, 0..=8 | 248..=255)
+    matches!(byte, 0..=MAX_EXPONENT | LEAST_EXPONENT..=255)
 }
 
 fn all_name_bytes(bytes: &[u8]) -> bool {
@@ -104,7 +125,7 @@ fn is_entry(body: &[u8]) -> bool {
     if body.is_empty() {
         return false;
     }
-    let length = body[0] as usize;
+    let length = wide_byte(body[0]);
     if !(1..=MAX_WORD).contains(&length) || body.len() <= length {
         return false;
     }
@@ -112,24 +133,24 @@ fn is_entry(body: &[u8]) -> bool {
         return false;
     }
     let rest = body.len() - 1 - length;
-    rest.is_multiple_of(2) && rest <= 2 * MAX_SIMPLES
+    rest.is_multiple_of(2) && rest <= 2 * MAX_ENTRY_SIMPLES
 }
 
 /// The part of an entry's body that holds its type.
 pub fn type_part(body: &[u8]) -> &[u8] {
-    let start = 1 + body[0] as usize;
+    let start = 1 + wide_byte(body[0]);
     &body[start..]
 }
 
 /// The word of an entry's body.
 pub fn word_part(body: &[u8]) -> &[u8] {
-    let end = 1 + body[0] as usize;
+    let end = 1 + wide_byte(body[0]);
     &body[1..end]
 }
 
 /// Whether all type numbers of a type are below the number of basic types.
 fn all_declared(part: &[u8], types: usize) -> bool {
-    part.chunks_exact(2).all(|pair| (pair[0] as usize) < types)
+    part.chunks_exact(2).all(|pair| wide_byte(pair[0]) < types)
 }
 
 /// Whether all exponents of a type are from -8 to 8.
@@ -141,19 +162,19 @@ fn all_exponents(part: &[u8]) -> bool {
 fn name_used(book: &[u8], names: &[u16], types: usize, body: &[u8]) -> bool {
     names[..types]
         .iter()
-        .any(|&at| compare::same(body, body_at(book, at as usize)))
+        .any(|&at| compare::same(body, body_at(book, wide_number(at))))
 }
 
 /// The rules for a basic type: its layout, a name used before, one too many.
 fn name_fault(book: &[u8], names: &[u16], types: usize, body: &[u8]) -> u32 {
     if !is_name(body) {
-        return 4;
+        return BAD_LAYOUT;
     }
     if name_used(book, names, types, body) {
-        return 7;
+        return NAME_USED;
     }
     if MAX_TYPES <= types {
-        return 9;
+        return TOO_MANY_RECORDS;
     }
     0
 }
@@ -161,13 +182,13 @@ fn name_fault(book: &[u8], names: &[u16], types: usize, body: &[u8]) -> u32 {
 /// The rules for an order pair: its layout, and two declared type numbers.
 fn pair_fault(body: &[u8], types: usize) -> u32 {
     if body.len() != 2 {
-        return 4;
+        return BAD_LAYOUT;
     }
-    if types <= body[0] as usize {
-        return 5;
+    if types <= wide_byte(body[0]) {
+        return UNDECLARED_TYPE;
     }
-    if types <= body[1] as usize {
-        return 5;
+    if types <= wide_byte(body[1]) {
+        return UNDECLARED_TYPE;
     }
     0
 }
@@ -175,17 +196,17 @@ fn pair_fault(body: &[u8], types: usize) -> u32 {
 /// The rules for an entry: its layout, declared type numbers, exponents from -8 to 8, one too many.
 fn entry_fault(body: &[u8], types: usize, entries: usize) -> u32 {
     if !is_entry(body) {
-        return 4;
+        return BAD_LAYOUT;
     }
     let part = type_part(body);
     if !all_declared(part, types) {
-        return 5;
+        return UNDECLARED_TYPE;
     }
     if !all_exponents(part) {
-        return 6;
+        return EXPONENT_OUTSIDE;
     }
     if MAX_ENTRIES <= entries {
-        return 9;
+        return TOO_MANY_RECORDS;
     }
     0
 }
@@ -193,13 +214,13 @@ fn entry_fault(body: &[u8], types: usize, entries: usize) -> u32 {
 /// The rules for a target: its layout, a declared type number, no target before.
 fn target_fault(body: &[u8], types: usize, seen: bool) -> u32 {
     if body.len() != 1 {
-        return 4;
+        return BAD_LAYOUT;
     }
-    if types <= body[0] as usize {
-        return 5;
+    if types <= wide_byte(body[0]) {
+        return UNDECLARED_TYPE;
     }
     if seen {
-        return 8;
+        return SECOND_TARGET;
     }
     0
 }
@@ -213,12 +234,12 @@ fn record_fault(
     entries: usize,
     seen: bool,
 ) -> u32 {
-    if book.len() - at < 4 {
-        return 2;
+    if book.len() - at < HEAD {
+        return CUT_SHORT;
     }
-    let left = book.len() - at - 4;
+    let left = book.len() - at - HEAD;
     if left < two_bytes(book, at) {
-        return 2;
+        return CUT_SHORT;
     }
     let body = body_at(book, at);
     match two_bytes(book, at + 2) {
@@ -226,7 +247,7 @@ fn record_fault(
         2 => pair_fault(body, types),
         3 => entry_fault(body, types, entries),
         4 => target_fault(body, types, seen),
-        _ => 3,
+        _ => KIND_NOT_LISTED,
     }
 }
 
@@ -260,20 +281,27 @@ fn take_record(
     direct: &mut [u64],
     p: Progress,
 ) -> Result<Progress, u32> {
-    let fault = fault_at(book, p.at, names, p.types, p.entries, p.target < NO_TARGET);
+    let fault = fault_at(
+        book,
+        p.at,
+        names,
+        p.types,
+        p.entries,
+        p.target < UNSET_TARGET,
+    );
     if fault != 0 {
         return Err(fault);
     }
     let body = body_at(book, p.at);
     let mut next = p;
-    next.at = p.at + 4 + body.len();
+    next.at = p.at + HEAD + body.len();
     match two_bytes(book, p.at + 2) {
         1 => {
             names[p.types] = p.at as u16;
             next.types += 1;
         }
         2 => {
-            let lower = body[0] as usize;
+            let lower = wide_byte(body[0]);
             direct[lower] = bits::with(direct[lower], body[1]);
         }
         3 => {
@@ -287,9 +315,9 @@ fn take_record(
 
 /// Reads all records of a book. Of an accepted book the arrays hold where its basic types and entries stand, and its pairs.
 pub fn scan_book(book: &[u8], names: &mut [u16], entries: &mut [u16], direct: &mut [u64]) -> Scan {
-    if MAX_BYTES < book.len() {
+    if MAX_BOOK < book.len() {
         return Scan::Refused {
-            number: 1,
+            number: BOOK_TOO_LONG,
             value: 0,
         };
     }
@@ -297,7 +325,7 @@ pub fn scan_book(book: &[u8], names: &mut [u16], entries: &mut [u16], direct: &m
         at: 0,
         types: 0,
         entries: 0,
-        target: NO_TARGET,
+        target: UNSET_TARGET,
     };
     while p.at < book.len() {
         match take_record(book, names, entries, direct, p) {
@@ -310,9 +338,9 @@ pub fn scan_book(book: &[u8], names: &mut [u16], entries: &mut [u16], direct: &m
             }
         }
     }
-    if p.target == NO_TARGET {
+    if p.target == UNSET_TARGET {
         return Scan::Refused {
-            number: 10,
+            number: NO_TARGET,
             value: book.len(),
         };
     }

@@ -1,5 +1,6 @@
 //! Which stretches of a line vanish. A line is a graph whose nodes are numbered from left to right; for each node the chart holds, as
 //! a row of bits, the nodes to which some path spells a string that vanishes.
+use super::figures::limits::ROW_BITS;
 use super::pregroup;
 use super::rows::{self, Row};
 
@@ -15,8 +16,7 @@ fn boundary_row(enters: &[u16], rows: &[u64], u: usize, from: usize, to: usize) 
 /// The row with that of the node behind y, where y is simple and u may contract with it.
 fn join_row(
     order: &[u64],
-    bases: &[u8],
-    exponents: &[u8],
+    simples: &[u16],
     nexts: &[u16],
     rows: &[u64],
     row: Row,
@@ -27,26 +27,19 @@ fn join_row(
     if next == 0 {
         return row;
     }
-    if pregroup::may_contract(order, bases[u], exponents[u], bases[y], exponents[y]) {
+    if pregroup::may_contract(order, simples[u], simples[y]) {
         return rows::unite(row, rows, next as usize);
     }
     row
 }
 
 /// The row of the simple node u: itself, and what it can be linked past.
-fn simple_row(
-    order: &[u64],
-    bases: &[u8],
-    exponents: &[u8],
-    nexts: &[u16],
-    rows: &[u64],
-    u: usize,
-) -> Row {
+fn simple_row(order: &[u64], simples: &[u16], nexts: &[u16], rows: &[u64], u: usize) -> Row {
     let behind = nexts[u] as usize;
     let mut row = rows::put(rows::empty(), u);
     let mut y = rows::next_member(rows, behind, 0);
-    while y < rows::ROW_BITS {
-        row = join_row(order, bases, exponents, nexts, rows, row, u, y);
+    while y < ROW_BITS {
+        row = join_row(order, simples, nexts, rows, row, u, y);
         y = rows::next_member(rows, behind, y + 1);
     }
     row
@@ -56,8 +49,7 @@ fn simple_row(
 pub fn fill(
     order: &[u64],
     count: usize,
-    bases: &[u8],
-    exponents: &[u8],
+    simples: &[u16],
     nexts: &[u16],
     froms: &[u16],
     tos: &[u16],
@@ -68,7 +60,7 @@ pub fn fill(
         let row = if nexts[u] == 0 {
             boundary_row(enters, rows, u, froms[u] as usize, tos[u] as usize)
         } else {
-            simple_row(order, bases, exponents, nexts, rows, u)
+            simple_row(order, simples, nexts, rows, u)
         };
         rows::store(rows, u, row);
     }

@@ -1,13 +1,12 @@
 //! A line: any bytes at all. Its words are found where they stand, and it is refused for a byte, a word, a word without an entry or
 //! too many simple types, in this order.
-use super::book::{body_at, type_part, word_part, MAX_ENTRIES, MAX_WORD};
+use super::book::{body_at, type_part, wide_number, word_part};
 use super::compare;
-
-pub const MAX_WORDS: usize = 24;
-const MAX_SIMPLES: usize = 512;
+use super::figures::limits::{MAX_ENTRIES, MAX_LINE_SIMPLES, MAX_WORD, MAX_WORDS};
+use super::figures::refusals::{BAD_LINE_BYTE, BAD_WORD, TOO_MANY_SIMPLES, UNKNOWN_WORD};
 
 /// What splitting a line gives: how many words it has, or the number that it is refused with and the value returned with it.
-pub enum Words {
+pub enum CheckedLine {
     Found(usize),
     Refused { number: u32, value: usize },
 }
@@ -43,11 +42,11 @@ fn end_of_word(line: &[u8], at: usize) -> usize {
 }
 
 /// Finds the words of a line and keeps where each starts and ends. There are places for 24 words.
-fn split(line: &[u8], starts: &mut [usize], ends: &mut [usize]) -> Words {
+fn split(line: &[u8], starts: &mut [usize], ends: &mut [usize]) -> CheckedLine {
     let bad = bad_byte(line);
     if bad < line.len() {
-        return Words::Refused {
-            number: 11,
+        return CheckedLine::Refused {
+            number: BAD_LINE_BYTE,
             value: bad,
         };
     }
@@ -56,8 +55,8 @@ fn split(line: &[u8], starts: &mut [usize], ends: &mut [usize]) -> Words {
     while at < line.len() {
         let end = end_of_word(line, at);
         if MAX_WORD < end - at || MAX_WORDS <= count {
-            return Words::Refused {
-                number: 12,
+            return CheckedLine::Refused {
+                number: BAD_WORD,
                 value: at,
             };
         }
@@ -66,7 +65,7 @@ fn split(line: &[u8], starts: &mut [usize], ends: &mut [usize]) -> Words {
         count += 1;
         at = skip_spaces(line, end);
     }
-    Words::Found(count)
+    CheckedLine::Found(count)
 }
 
 /// Whether the entry whose record stands at an offset is a word's.
@@ -85,7 +84,7 @@ pub fn find_entries(
 ) -> usize {
     let mut n = 0;
     for (i, &at) in offsets[..count].iter().enumerate() {
-        if belongs(book, at as usize, word) {
+        if belongs(book, wide_number(at), word) {
             found[n] = i as u16;
             n += 1;
         }
@@ -97,7 +96,7 @@ pub fn find_entries(
 pub fn tally_found(book: &[u8], offsets: &[u16], found: &[u16], n: usize) -> usize {
     let mut sum = 0;
     for &number in &found[..n] {
-        let at = offsets[number as usize] as usize;
+        let at = wide_number(offsets[wide_number(number)]);
         sum += type_part(body_at(book, at)).len() / 2;
     }
     sum
@@ -112,26 +111,26 @@ fn look_up(
     starts: &[usize],
     ends: &[usize],
     words: usize,
-) -> Words {
+) -> CheckedLine {
     let mut found = [0u16; MAX_ENTRIES];
     let mut sum = 0;
     for (&start, &end) in starts[..words].iter().zip(&ends[..words]) {
         let n = find_entries(book, offsets, count, &line[start..end], &mut found);
         if n == 0 {
-            return Words::Refused {
-                number: 13,
+            return CheckedLine::Refused {
+                number: UNKNOWN_WORD,
                 value: start,
             };
         }
         sum += tally_found(book, offsets, &found, n);
     }
-    if MAX_SIMPLES < sum {
-        return Words::Refused {
-            number: 14,
+    if MAX_LINE_SIMPLES < sum {
+        return CheckedLine::Refused {
+            number: TOO_MANY_SIMPLES,
             value: 0,
         };
     }
-    Words::Found(words)
+    CheckedLine::Found(words)
 }
 
 /// Checks a line against a book whose entries are kept: its words, or the refusal 11 to 14 that it gets.
@@ -142,9 +141,9 @@ pub fn check_line(
     line: &[u8],
     starts: &mut [usize],
     ends: &mut [usize],
-) -> Words {
+) -> CheckedLine {
     match split(line, starts, ends) {
-        Words::Found(words) => look_up(book, offsets, count, line, starts, ends, words),
+        CheckedLine::Found(words) => look_up(book, offsets, count, line, starts, ends, words),
         refused => refused,
     }
 }

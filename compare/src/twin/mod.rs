@@ -7,13 +7,15 @@ mod book;
 mod chart;
 mod choice;
 mod compare;
-mod lattice;
+mod figures;
+mod graph;
 mod line;
+mod links;
 mod order;
 mod pregroup;
 mod reader;
 mod rows;
-mod spans;
+mod table;
 
 use crate::readers::{Counts, Refusal};
 use book::BookCheck;

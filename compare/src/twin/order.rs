@@ -1,8 +1,6 @@
 //! The order of a book: the reflexive and transitive closure of its pairs, as 64 rows of 64 bits. Bit q of row p says p ≤ q.
 use super::bits;
-
-/// How many basic types a book may have at most.
-pub const MAX_TYPES: usize = 64;
+use super::figures::limits::MAX_TYPES;
 
 /// A closed order. A row past the last type holds nothing.
 pub struct Order {

@@ -1,10 +1,7 @@
 //! Rows of nodes or places: sets of numbers below 576 in nine words of 64 bits. A row under construction is a `Row`; finished ones
 //! stand one behind another in a flat slice, row u from word 9 u on.
 use super::bits;
-
-/// How many words a row has, and how many members it has room for.
-pub const ROW_WORDS: usize = 9;
-pub const ROW_BITS: usize = 576;
+use super::figures::limits::{ROW_BITS, ROW_WORDS};
 
 /// One row.
 #[derive(Clone, Copy)]
@@ -27,7 +24,7 @@ pub fn empty() -> Row {
     }
 }
 
-/// Puts v into a row where it stands.
+/// Puts v into a row where it stands: a row that is handed on for each member is copied each time.
 #[inline]
 pub fn put_in(words: &mut [u64; ROW_WORDS], v: usize) {
     words[v / 64] = bits::with(words[v / 64], (v % 64) as u8);

@@ -1,11 +1,9 @@
 //! Lays a checked line out as a graph, in lent lists of nodes and slots: each word a boundary, then the simple types of its entries,
 //! and behind the last word the target.
-use super::book::{body_at, type_part, MAX_ENTRIES};
+use super::book::{body_at, type_part, wide_number};
+use super::figures::limits::MAX_ENTRIES;
 use super::line::{find_entries, tally_found};
-use super::pregroup::EXPONENT_BIAS;
-
-/// How many nodes a line's graph has room for: 24 boundaries and 512 simple types, then the last boundary, the target and the end.
-pub const MAX_NODES: usize = 540;
+use super::pregroup::{hold, EXPONENT_BIAS};
 
 /// How far the lists are filled: the next node, the next slot, and whether the word at hand has a slot with an empty type.
 #[derive(Clone, Copy)]
@@ -27,21 +25,24 @@ fn raise(exponent: u8) -> u8 {
     }
 }
 
+/// A simple type of the book as it is held: a type number and an exponent, a byte each.
+fn hold_simple(base: u8, exponent: u8) -> u16 {
+    hold(base, raise(exponent))
+}
+
 /// Lays the simple types of an entry from `node` on, from the last to the first, each leading to the one behind it and the last to the
 /// boundary. The node where the type begins is returned: for an empty one the boundary.
 fn lay_type(
     part: &[u8],
     node: usize,
     boundary: usize,
-    bases: &mut [u8],
-    exponents: &mut [u8],
+    simples: &mut [u16],
     nexts: &mut [u16],
 ) -> usize {
     let mut first = boundary;
     for (i, pair) in part.chunks_exact(2).enumerate().rev() {
         let at = node + i;
-        bases[at] = pair[0];
-        exponents[at] = raise(pair[1]);
+        simples[at] = hold_simple(pair[0], pair[1]);
         nexts[at] = first as u16;
         first = at;
     }
@@ -54,8 +55,7 @@ fn lay_slot(
     number: usize,
     boundary: usize,
     p: Place,
-    bases: &mut [u8],
-    exponents: &mut [u8],
+    simples: &mut [u16],
     nexts: &mut [u16],
     enters: &mut [u16],
     numbers: &mut [u16],
@@ -64,7 +64,7 @@ fn lay_slot(
     if empty && p.seen {
         return p;
     }
-    let first = lay_type(part, p.node, boundary, bases, exponents, nexts);
+    let first = lay_type(part, p.node, boundary, simples, nexts);
     enters[p.slot] = first as u16;
     numbers[p.slot] = number as u16;
     Place {
@@ -82,18 +82,17 @@ fn lay_entries(
     n: usize,
     boundary: usize,
     p: Place,
-    bases: &mut [u8],
-    exponents: &mut [u8],
+    simples: &mut [u16],
     nexts: &mut [u16],
     enters: &mut [u16],
     numbers: &mut [u16],
 ) -> Place {
     let mut place = p;
     for &number in &found[..n] {
-        let number = number as usize;
-        let part = type_part(body_at(book, offsets[number] as usize));
+        let number = wide_number(number);
+        let part = type_part(body_at(book, wide_number(offsets[number])));
         place = lay_slot(
-            part, number, boundary, place, bases, exponents, nexts, enters, numbers,
+            part, number, boundary, place, simples, nexts, enters, numbers,
         );
     }
     place
@@ -107,8 +106,7 @@ fn lay_word(
     count: usize,
     word: &[u8],
     p: Place,
-    bases: &mut [u8],
-    exponents: &mut [u8],
+    simples: &mut [u16],
     nexts: &mut [u16],
     froms: &mut [u16],
     tos: &mut [u16],
@@ -124,7 +122,7 @@ fn lay_word(
         seen: false,
     };
     let last = lay_entries(
-        book, offsets, &found, n, boundary, first, bases, exponents, nexts, enters, numbers,
+        book, offsets, &found, n, boundary, first, simples, nexts, enters, numbers,
     );
     froms[p.node] = p.slot as u16;
     tos[p.node] = last.slot as u16;
@@ -145,8 +143,7 @@ fn lay_words(
     ends: &[usize],
     words: usize,
     p: Place,
-    bases: &mut [u8],
-    exponents: &mut [u8],
+    simples: &mut [u16],
     nexts: &mut [u16],
     froms: &mut [u16],
     tos: &mut [u16],
@@ -161,8 +158,7 @@ fn lay_words(
             count,
             &line[start..end],
             place,
-            bases,
-            exponents,
+            simples,
             nexts,
             froms,
             tos,
@@ -178,8 +174,7 @@ fn lay_words(
 fn lay_goal(
     target: u8,
     p: Place,
-    bases: &mut [u8],
-    exponents: &mut [u8],
+    simples: &mut [u16],
     nexts: &mut [u16],
     froms: &mut [u16],
     tos: &mut [u16],
@@ -190,8 +185,7 @@ fn lay_goal(
     froms[p.node] = p.slot as u16;
     tos[p.node] = (p.slot + 1) as u16;
     enters[p.slot] = goal as u16;
-    bases[goal] = target;
-    exponents[goal] = raise(1);
+    simples[goal] = hold_simple(target, 1);
     nexts[goal] = end as u16;
     p.node + 3
 }
@@ -207,8 +201,7 @@ pub fn lay_out(
     ends: &[usize],
     words: usize,
     target: u8,
-    bases: &mut [u8],
-    exponents: &mut [u8],
+    simples: &mut [u16],
     nexts: &mut [u16],
     froms: &mut [u16],
     tos: &mut [u16],
@@ -221,8 +214,8 @@ pub fn lay_out(
         seen: false,
     };
     let last = lay_words(
-        book, offsets, count, line, starts, ends, words, first, bases, exponents, nexts, froms,
-        tos, enters, numbers,
+        book, offsets, count, line, starts, ends, words, first, simples, nexts, froms, tos, enters,
+        numbers,
     );
-    lay_goal(target, last, bases, exponents, nexts, froms, tos, enters)
+    lay_goal(target, last, simples, nexts, froms, tos, enters)
 }

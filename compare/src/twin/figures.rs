@@ -1,0 +1,89 @@
+//! The paper's figures, each in one place: the limits of books and lines with the sizes that follow from them, and the numbers of the
+//! refusals.
+
+/// The limits of books and lines, and the sizes of lists that follow from them.
+pub mod limits {
+    /// How many bytes a book has at most, and how many basic types and entries.
+    pub const MAX_BOOK: usize = 65535;
+    pub const MAX_TYPES: usize = 64;
+    pub const MAX_ENTRIES: usize = 1024;
+
+    /// How many bytes a name and a word have at most, and how many simple types an entry.
+    pub const MAX_NAME: usize = 15;
+    pub const MAX_WORD: usize = 31;
+    pub const MAX_ENTRY_SIMPLES: usize = 12;
+
+    /// The greatest exponent of a book; its negative is the least.
+    pub const MAX_EXPONENT: u8 = 8;
+
+    /// How many words a line has at most, and how many simple types all entries of its words have together.
+    pub const MAX_WORDS: usize = 24;
+    pub const MAX_LINE_SIMPLES: usize = 512;
+
+    /// How many simple types a choice has at most, and how many with the target behind it.
+    pub const MAX_STRING: usize = MAX_WORDS * MAX_ENTRY_SIMPLES;
+    pub const MAX_PLACES: usize = MAX_STRING + 1;
+
+    /// How many nodes a line's graph has at most: a boundary for each word and one behind the last, the simple types, the target and
+    /// the end.
+    pub const MAX_NODES: usize = MAX_WORDS + MAX_LINE_SIMPLES + 3;
+
+    /// How many words of 64 bits a set of nodes takes, and how many members it has room for.
+    pub const ROW_WORDS: usize = MAX_NODES.div_ceil(64);
+    pub const ROW_BITS: usize = 64 * ROW_WORDS;
+
+    /// How many words the rows of all nodes take, and those of all places of a string and of the one behind the last.
+    pub const CHART_WORDS: usize = MAX_NODES * ROW_WORDS;
+    pub const TABLE_WORDS: usize = (MAX_PLACES + 1) * ROW_WORDS;
+}
+
+/// The numbers of the refusals, each with its cause.
+pub mod refusals {
+    /// Book over 65,535 bytes.
+    pub const BOOK_TOO_LONG: u32 = 1;
+
+    /// Head or body cut short.
+    pub const CUT_SHORT: u32 = 2;
+
+    /// Kind not listed.
+    pub const KIND_NOT_LISTED: u32 = 3;
+
+    /// Body not of its kind's layout.
+    pub const BAD_LAYOUT: u32 = 4;
+
+    /// Type number not declared by an earlier record.
+    pub const UNDECLARED_TYPE: u32 = 5;
+
+    /// Exponent outside -8 to 8.
+    pub const EXPONENT_OUTSIDE: u32 = 6;
+
+    /// Type name used before.
+    pub const NAME_USED: u32 = 7;
+
+    /// Second target.
+    pub const SECOND_TARGET: u32 = 8;
+
+    /// 65th basic type or 1,025th entry.
+    pub const TOO_MANY_RECORDS: u32 = 9;
+
+    /// Book ends without a target.
+    pub const NO_TARGET: u32 = 10;
+
+    /// Line byte outside 32 to 126.
+    pub const BAD_LINE_BYTE: u32 = 11;
+
+    /// Word over 31 bytes, or a 25th word.
+    pub const BAD_WORD: u32 = 12;
+
+    /// Word without an entry.
+    pub const UNKNOWN_WORD: u32 = 13;
+
+    /// Over 512 simple types.
+    pub const TOO_MANY_SIMPLES: u32 = 14;
+
+    /// No reading.
+    pub const NO_READING: u32 = 15;
+
+    /// Answer buffer too short.
+    pub const BUFFER_TOO_SHORT: u32 = 16;
+}
