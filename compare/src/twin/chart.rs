@@ -13,33 +13,34 @@ fn boundary_row(enters: &[u16], rows: &[u64], u: usize, from: usize, to: usize) 
     row
 }
 
-/// The row with that of the node behind y, where y is simple and u may contract with it.
+/// The row with that of the node behind y, where y is simple and x may contract with it.
 fn join_row(
     order: &[u64],
     simples: &[u16],
     nexts: &[u16],
     rows: &[u64],
     row: Row,
-    u: usize,
+    x: u16,
     y: usize,
 ) -> Row {
     let next = nexts[y];
     if next == 0 {
         return row;
     }
-    if pregroup::may_contract(order, simples[u], simples[y]) {
+    if pregroup::may_contract(order, x, simples[y]) {
         return rows::unite(row, rows, next as usize);
     }
     row
 }
 
-/// The row of the simple node u: itself, and what it can be linked past.
+/// The row of the simple node u: itself, and what it can be linked past. The first member of the row behind u is the node behind u.
 fn simple_row(order: &[u64], simples: &[u16], nexts: &[u16], rows: &[u64], u: usize) -> Row {
     let behind = nexts[u] as usize;
+    let x = simples[u];
     let mut row = rows::put(rows::empty(), u);
-    let mut y = rows::next_member(rows, behind, 0);
+    let mut y = behind;
     while y < ROW_BITS {
-        row = join_row(order, simples, nexts, rows, row, u, y);
+        row = join_row(order, simples, nexts, rows, row, x, y);
         y = rows::next_member(rows, behind, y + 1);
     }
     row

@@ -29,14 +29,15 @@ fn nearest(
     e: usize,
     i: usize,
 ) -> usize {
+    let mut found = ROW_BITS;
     let mut j = rows::next_member(ends, e, i + 2);
-    while j < ROW_BITS {
+    while j < found {
         if may_close(order, string, table, i, j - 1) {
-            return j - 1;
+            found = j - 1;
         }
         j = rows::next_member(ends, e, j + 1);
     }
-    ROW_BITS
+    found
 }
 
 /// Writes i as its own partner.

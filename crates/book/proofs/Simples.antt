@@ -11,23 +11,23 @@ use Rattle.pregroup.specs.Types.{Simple, _⁽_⁾}
 use Rattle.book.specs.Format.{Bytes, every, exponentOf, simplesOf}
 
 -- The simple type of the two bytes from an offset on.
-abbrev pub simpleAt : Bytes → ℕ → Simple
-simpleAt part i = getD {A = ℕ} part i 0 ⁽ exponentOf (getD {A = ℕ} part (i + 1) 0) ⁾
+abbrev pub simpleFrom : Bytes → ℕ → Simple
+simpleFrom part i = getD {A = ℕ} part i 0 ⁽ exponentOf (getD {A = ℕ} part (i + 1) 0) ⁾
 
-pub simples-step : (part : Bytes) (i : ℕ) → i + 1 < length part → simplesOf (drop i part) ≡ simpleAt part i ∷ simplesOf (drop (i + 2) part)
+pub simples-step : (part : Bytes) (i : ℕ) → i + 1 < length part → simplesOf (drop i part) ≡ simpleFrom part i ∷ simplesOf (drop (i + 2) part)
 unfolding simplesOf
 simples-step part i h = rw (drop-cons part i 0 (omega arith), drop-cons part (suc i) 0 (omega arith), add-two i, add-one i)
 
 module _ {A : Type 0} (f : Simple → A) (test : A → Bool) (part : Bytes) where
-  simples-at : (i : ℕ) → i + 1 < length part → every test (map f (simplesOf (drop i part))) ≡ test (f (simpleAt part i)) && every test (map f (simplesOf (drop (i + 2) part)))
+  simples-at : (i : ℕ) → i + 1 < length part → every test (map f (simplesOf (drop i part))) ≡ test (f (simpleFrom part i)) && every test (map f (simplesOf (drop (i + 2) part)))
   unfolding every
   simples-at i h = rw (simples-step part i h)
 
-  pub simples-stop : (i : ℕ) → i + 1 < length part → test (f (simpleAt part i)) ≡ false → every test (map f (simplesOf (drop i part))) ≡ false
+  pub simples-stop : (i : ℕ) → i + 1 < length part → test (f (simpleFrom part i)) ≡ false → every test (map f (simplesOf (drop i part))) ≡ false
   simples-stop i h e = simples-at i h ∙ ap (λ (b : Bool). b && every test (map f (simplesOf (drop (i + 2) part)))) e
 
   pub simples-pass :
-      (i : ℕ) → i + 1 < length part → test (f (simpleAt part i)) ≡ true
+      (i : ℕ) → i + 1 < length part → test (f (simpleFrom part i)) ≡ true
       → every test (map f (simplesOf (drop i part))) ≡ every test (map f (simplesOf (drop (i + 2) part)))
   simples-pass i h e = simples-at i h ∙ ap (λ (b : Bool). b && every test (map f (simplesOf (drop (i + 2) part)))) e
 

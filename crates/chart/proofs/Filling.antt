@@ -67,8 +67,11 @@ module _ (Le : Relation) (g : Graph) (rows : List ℕ) (up : Upward g) (room : (
         record {
           node = node-there u small;
           room = room (getD (g .nexts) u 0) (next .1);
-          reached = λ y m. let h = van-within up (next .1) (row-van (getD (g .nexts) u 0) (next .0) (next .1) y .0 m) in
-              (node-there y h, row-behind y h (less-or-not 0 (getD (g .nexts) y 0)));
+          first = row-van (getD (g .nexts) u 0) (next .0) (next .1) (getD (g .nexts) u 0) .1 same;
+          reached = λ y m.
+              let t = row-van (getD (g .nexts) u 0) (next .0) (next .1) y .0 m in
+              let h = van-within up (next .1) t in
+              (van-after up (next .1) t, node-there y h, row-behind y h (less-or-not 0 (getD (g .nexts) y 0)));
         }
 
     -- A boundary's row.

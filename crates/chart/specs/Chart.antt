@@ -45,8 +45,9 @@ pub record NodeThere (simples nexts : List ℕ) (u : ℕ) : Type 0 where
   pub label : u < length simples
   pub next : u < length nexts
 
--- What a simple node's row asks: it and what it reaches are there, with the rows behind them.
+-- What a simple node's row asks: it and what it reaches are there, with the rows behind them; the node behind it is the first that is reached.
 pub record LinksThere (simples nexts rows : List ℕ) (u : ℕ) : Type 0 where
   pub node : NodeThere simples nexts u
   pub room : HasRow rows (getD nexts u 0)
-  pub reached : (y : ℕ) → InRow rows (getD nexts u 0) y → NodeThere simples nexts y × HasRow rows (getD nexts y 0)
+  pub first : InRow rows (getD nexts u 0) (getD nexts u 0)
+  pub reached : (y : ℕ) → InRow rows (getD nexts u 0) y → (getD nexts u 0 ≤ y) × NodeThere simples nexts y × HasRow rows (getD nexts y 0)

@@ -52,7 +52,7 @@ fn join_row(
     row
 }
 
-// The row of the simple node u: itself, and what it can be linked past.
+// The row of the simple node u: itself, and what it can be linked past. The first member of the row behind u is the node behind u.
 fn simple_row(order: &[u64], simples: &[u16], nexts: &[u16], rows: &[u64], u: usize) -> Row
     requires { ⌜ u < rowBits ⌝ }
     requires { ⌜ LinksThere (now simples) (now nexts) (now rows) u ⌝ }
@@ -62,7 +62,7 @@ fn simple_row(order: &[u64], simples: &[u16], nexts: &[u16], rows: &[u64], u: us
     let behind = nexts[u] as usize;
     let x = simples[u];
     let mut row = rows::put(rows::empty(), u);
-    let mut y = rows::next_member(rows, behind, 0);
+    let mut y = behind;
     while y < ROW_BITS {
         row = join_row(order, simples, nexts, rows, row, x, y);
         y = rows::next_member(rows, behind, y + 1);

@@ -11,7 +11,7 @@ use borrow.Author.Tests.{lt-ltb, le-ltb, ltb-true}
 use Rattle.pregroup.specs.Types.{Simple}
 use Rattle.pregroup.specs.Held.{bias}
 use Rattle.book.specs.Format.{Bytes, every, exponents, exponentOf, exponentListed, simplesOf}
-use Rattle.book.proofs.Simples.{simpleAt, simples-stop, simples-pass}
+use Rattle.book.proofs.Simples.{simpleFrom, simples-stop, simples-pass}
 use Rattle.graph.specs.Cells.{ExponentsListed}
 
 plain : (e : ℕ) → pos (e + 8) -ℤ pos bias ≡ pos e
@@ -44,7 +44,7 @@ raise-high e h k =
 
 module _ (part : Bytes) (pairs : length part % 2 ≡ 0) (listed : ExponentsListed part) where
   abbrev test-at : ℕ → Bool
-  test-at i = exponentListed (simpleAt part i .exponent)
+  test-at i = exponentListed (simpleFrom part i .exponent)
 
   abbrev rest : ℕ → Bool
   rest i = every exponentListed (exponents (simplesOf (drop i part)))

@@ -10,7 +10,7 @@ use lib.Seq.{getD-set-same, getD-set-other}
 use Rattle.pregroup.specs.Types.{PregroupType}
 use Rattle.pregroup.specs.Held.{held}
 use Rattle.book.specs.Format.{Bytes, simplesOf, exponentOf, exponentListed}
-use Rattle.book.proofs.Simples.{simpleAt, simples-step}
+use Rattle.book.proofs.Simples.{simpleFrom, simples-step}
 use Rattle.graph.specs.Graph.{Graph, Labelled, labelOf, Boundary, Spells, ended, more}
 use Rattle.figures.specs.Limits.{maxNodes}
 use Rattle.graph.specs.Cells.{Cells, cells, cellsGraph, Same, Continues, Retained, Edges, TypeFits, Typed}
@@ -121,7 +121,7 @@ module _ (part : Bytes) (node b : ℕ) (c₀ : Cells) (t : TypeFits part node b 
         let e : 2 * ((i - 2) / 2) + 1 ≡ i - 2 + 1 = omega (arith, two, s .even) in
         rw e at (listed-at part (t .pairs) (t .listed) ((i - 2) / 2) (omega (arith, e, type-inside .0)))
 
-    module _ (simple : ℕ) (right : held simple ≡ simpleAt part (i - 2)) where
+    module _ (simple : ℕ) (right : held simple ≡ simpleFrom part (i - 2)) where
       abbrev c′ : Cells
       c′ = cells (set (c .simples) at simple) (set (c .nexts) at first) (c .enters) (c .numbers)
 
@@ -154,7 +154,7 @@ module _ (part : Bytes) (node b : ℕ) (c₀ : Cells) (t : TypeFits part node b 
       boundary : Boundary (cellsGraph c′) b
       boundary = no-edge (set (c .nexts) at first) (node + length part / 2) b up′ b (t .fits)
 
-      labelled : Labelled (cellsGraph c′) at (simpleAt part (i - 2)) first
+      labelled : Labelled (cellsGraph c′) at (simpleFrom part (i - 2)) first
       labelled =
           record {
             simple = omega (arith, nexts-here, type-inside .2);
@@ -163,10 +163,10 @@ module _ (part : Bytes) (node b : ℕ) (c₀ : Cells) (t : TypeFits part node b 
             next = sym nexts-here;
           }
 
-      step : simplesOf (drop (i - 2) part) ≡ simpleAt part (i - 2) ∷ simplesOf (drop i part)
+      step : simplesOf (drop (i - 2) part) ≡ simpleFrom part (i - 2) ∷ simplesOf (drop i part)
       step =
           let e : i - 2 + 2 ≡ i = omega (arith, two) in
-          simples-step part (i - 2) (type-inside .0) ∙ ap (λ (k : ℕ). simpleAt part (i - 2) ∷ simplesOf (drop k part)) e
+          simples-step part (i - 2) (type-inside .0) ∙ ap (λ (k : ℕ). simpleFrom part (i - 2) ∷ simplesOf (drop k part)) e
 
       pub typing-next : Typing part node b c₀ c′ at (i - 2)
       typing-next =

@@ -76,8 +76,10 @@ fn look_up(
     ends: &[usize],
     words: usize,
 ) -> CheckedLine
-    requires { ⌜ Entries (now book) (now offsets) count × SplitInto (now line) (now starts) (now ends) words × (maxWords ≤ length (now starts)) × (maxWords ≤ length (now ends)) ⌝ }
-    ensures { λ r. ⌜ ((B : Book) → B .entries ≡ entriesKept (now (book .entry)) (now (offsets .entry)) count → LookedUp B (now (line .entry)) words r) ⌝ }
+    requires { ⌜ Entries (now book) (now offsets) count × SplitInto (now line) (now starts) (now ends) words ×
+        (maxWords ≤ length (now starts)) × (maxWords ≤ length (now ends)) ⌝ }
+    ensures { λ r. ⌜ ((B : Book) → B .entries ≡ entriesKept (now (book .entry)) (now (offsets .entry)) count → LookedUp B
+        (now (line .entry)) words r) ⌝ }
 {
     let mut found = [0; MAX_ENTRIES];
     let mut sum = 0;
@@ -114,7 +116,8 @@ pub fn check_line(
     ends: &mut [usize],
 ) -> CheckedLine
     requires { ⌜ Entries (now book) (now offsets) count × (maxWords ≤ length (now starts)) × (maxWords ≤ length (now ends)) ⌝ }
-    ensures { λ r. ⌜ ((B : Book) → B .entries ≡ entriesKept (now (book .entry)) (now (offsets .entry)) count → LineSays B (now (line .entry)) (now (starts .exit)) (now (ends .exit)) r) ⌝ }
+    ensures { λ r. ⌜ ((B : Book) → B .entries ≡ entriesKept (now (book .entry)) (now (offsets .entry)) count → LineSays B
+        (now (line .entry)) (now (starts .exit)) (now (ends .exit)) r) ⌝ }
 {
     let found = split(line, starts, ends);
     match found {

@@ -2,13 +2,15 @@
 mod input;
 mod listing;
 
+use figures::limits::MAX_STRING;
+use figures::limits::MAX_WORDS;
 use input::LINE_ROOM;
 use input::MAX_LINE;
 use libc::STDOUT_FILENO;
 use reader::LineAnswer;
 
-// How many values are lent for an answer.
-const VALUES: usize = 512;
+// How many values are lent: the longest answer has two counts, an entry for each word and a partner for each simple type.
+const VALUES: usize = 2 + MAX_WORDS + MAX_STRING;
 
 // Reads a line against a book, and writes the listing of its reading or the row of its refusal.
 fn answer_line(book: &[u8], line: &[u8]) {

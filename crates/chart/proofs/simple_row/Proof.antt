@@ -41,57 +41,55 @@ empty-requires c κs = omega arith
 put-requires : tie.Need-put-requires Inv-loop μ-loop
 put-requires c κs = omega arith
 
-next-member-requires : tie.Need-next-member-requires Inv-loop μ-loop
-next-member-requires c κs = omega arith
-
 -- The parts that are gathered.
 abbrev link-part : tie.Start Inv-loop μ-loop → ℕ → ℕ → Type 0
 link-part s = LinkPart (InRows (s .args .order .now)) (s .args .simples .now) (s .args .nexts .now) (s .args .rows .now) (s .args .u)
 
 loop-holds : tie.Need-loop-holds Inv-loop μ-loop
 loop-holds c =
-    let s = c .before .before .before .before .before .before .before .before .before in
-    let first = c .next-member .ensures in (
-      first .within,
+    let s = c .before .before .before .before .before .before .before .before in
+    let there = s .pre .1 in (
+      omega (arith, there .first .small),
       (refl, refl),
-      first .member,
-      gather-starts (Only (s .args .u)) (link-part s) _ (c .next-member .result) (alone-says _ _ refl (c .before .before .empty .ensures) (c .before .put .ensures))
-          (λ m v h p. first .least m (omega arith) h (p .reached)),
+      λ _. there .first,
+      gather-starts (Only (s .args .u)) (link-part s) _ (getD (s .args .nexts .now) (s .args .u) 0) (alone-says _ _ refl (c .before .empty .ensures) (c .put .ensures))
+          (λ m v h p. omega (arith, there .reached m (p .reached) .0)),
     )
 
 join-row-requires : tie.Need-join-row-requires Inv-loop μ-loop
 join-row-requires c κs =
     let l = c .before .loop in
-    let pre = c .before .before .before .before .before .before .before .before .before .before .before .pre .1 in
-    pre .reached (l .y) (l .inv .2 (c .loop-test .taken))
+    let pre = c .before .before .before .before .before .before .before .before .before .before .pre .1 in
+    let there = pre .reached (l .y) (l .inv .2 (c .loop-test .taken)) in
+    (there .1, there .2)
 
 add-next-member : tie.Need-add-next-member Inv-loop μ-loop
 add-next-member c = omega arith
 
-next-member-requires-2 : tie.Need-next-member-requires-2 Inv-loop μ-loop
-next-member-requires-2 c κs = omega arith
+next-member-requires : tie.Need-next-member-requires Inv-loop μ-loop
+next-member-requires c κs = omega arith
 
 loop-less : tie.Need-loop-less Inv-loop μ-loop
 loop-less c = omega arith
 
 loop-again : tie.Need-loop-again Inv-loop μ-loop
 loop-again c =
-    let s = c .before .before .before .before .before .before .before .before .before .before .before .before .before in
+    let s = c .before .before .before .before .before .before .before .before .before .before .before .before in
     let l = c .before .before .before .loop in
-    let next = c .next-member2 .ensures in
+    let next = c .next-member .ensures in
     let one = gather-one (Only (s .args .u)) (link-part s) (l .row .words) (c .before .join-row .result .words) (l .y) (l .inv .3)
     (part-says {B = Joined (InRows (s .args .order .now)) (s .args .simples .now) (s .args .nexts .now) (s .args .rows .now) (getD (s .args .simples .now) (s .args .u) 0) (l .y)} (c .before .join-row .result .words) (c .before .join-row .ensures)
     (λ v. (λ j. record { reached = l .inv .2 (c .before .before .loop-test .taken); joined = j }, λ p. p .joined))) in (
       next .within,
       (refl, refl),
       next .member,
-      gather-skip (Only (s .args .u)) (link-part s) (c .before .join-row .result .words) (l .y + 1) (c .next-member2 .result) one (next .from-on)
+      gather-skip (Only (s .args .u)) (link-part s) (c .before .join-row .result .words) (l .y + 1) (c .next-member .result) one (next .from-on)
           (λ m v on h p. next .least m on h (p .reached)),
     )
 
 returns : tie.Need-returns Inv-loop μ-loop
 returns c =
-    let s = c .before .before .before .before .before .before .before .before .before .before .before in
+    let s = c .before .before .before .before .before .before .before .before .before .before in
     let l = c .before .loop in
     gather-ends (Only (s .args .u)) (link-part s) (l .row .words) (l .y) (λ m v p. omega (arith, p .reached .small)) (l .inv .3)
 
@@ -108,11 +106,10 @@ simple-row-spec =
     shared-slice-read-x
     empty-requires
     put-requires
-    next-member-requires
     loop-holds
     join-row-requires
     add-next-member
-    next-member-requires-2
+    next-member-requires
     loop-less
     loop-again
     returns)
