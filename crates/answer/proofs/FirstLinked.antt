@@ -1,22 +1,19 @@
--- What is written is the first linking: the m partners from `at` on link the string greedily, and so are what `firstLinking` gives.
+-- What is written is the first linking: the m partners from `at` on link the string greedily.
 use Prim.Native.Nat.{ℕ, _+_, _-_, _≤_}
 use native.Mathlib.Omega.{arith}
 use mathlib.Core.Path.{_≡_, sym, ap, ap₂, _∙_}
 use mathlib.Core.Logic.{inl, inr}
-use mathlib.Core.Option.{some}
 use mathlib.Core.List.{List, _++_}
 use lib.ListN.{length, take, drop, length-drop, take-append-drop}
 use lib.Seq.{length-take-le, getD-take, getD-drop, drop-drop, ext-getD}
 use Rattle.pregroup.specs.Types.{Basic, PregroupType}
 use Rattle.pregroup.specs.Order.{Relation}
 use Rattle.pregroup.specs.Vanish.{Reduces}
-use Rattle.pregroup.specs.Tests.{Test, Decides}
-use Rattle.linking.specs.Linking.{partner, firstLinking}
+use Rattle.linking.specs.Linking.{partner}
 use Rattle.linking.proofs.Positions.{linking-iff-parted}
 use Rattle.linking.proofs.Reduction.{linking-iff-reduces}
 use Rattle.linking.specs.Greedy.{ReducesFrom, GreedyFrom, stays, links}
 use Rattle.linking.proofs.Greedy.{greedy-agree, parted-of-greedy, reduces-of-parted}
-use Rattle.linking.proofs.FirstLinking.{first-linking-greedy}
 use Rattle.bits.specs.Rows.{HasRow, RowSays}
 use Rattle.bits.specs.Gathered.{Gathered}
 use Rattle.table.specs.Table.{stringOf, Right, MemberPart}
@@ -90,9 +87,3 @@ first-linked {Le} {s} string before after at m size space linked =
       greedy = greedy-from-agree (linked .greedy) (λ p h l. sym (getD-take m (drop at after) (p - 1) 0 (omega arith)));
       written = rw whole (kept-parts before after at m size space kept);
     }
-
--- What is written is what `firstLinking` gives, over any test that decides the order.
-pub first-linking-written :
-    {le : Test} {Le : Relation} {s : Basic} {X : PregroupType} {before after : List ℕ} {at : ℕ} → Decides le Le
-    → (first : FirstLinked Le s X before after at) → firstLinking le s X ≡ some (first .partners)
-first-linking-written {s = s} {X = X} decides first = first-linking-greedy decides s X (first .whole) (first .greedy)

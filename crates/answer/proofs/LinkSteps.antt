@@ -28,6 +28,20 @@ pub record LinkStep (table ends : List ℕ) (e i j r : ℕ) : Type 0 where
 pub string-front : {string : List ℕ} (k j : ℕ) → k ≤ j → StringThere string j → StringThere string k
 string-front k j h there = record { few = omega (arith, there .few); there = omega (arith, there .there) }
 
+-- The step that a nearest partner makes, where it is chosen within the string.
+link-step :
+    {Le : Relation} {string table ends : List ℕ} {e i j r : ℕ} {Rest : ℕ → Type 0} → StringThere string j
+    → Chosen Le (stringOf string j) Rest j i r → NearestLink Le string table ends e i r → LinkStep table ends e i j r
+link-step there chosen near =
+    let found = near .found (omega (arith, chosen .inside, there .few)) in
+    record {
+      ahead = chosen .ahead;
+      inside = chosen .inside;
+      small = omega (arith, chosen .inside, there .few);
+      between = found .1 .closing .between;
+      behind = found .1 .rest;
+    }
+
 module _ {Le : Relation} {string table answer : List ℕ} {at j : ℕ} (there : LinkingThere Le string table answer at j) where
   -- What is asked for the whole is there for a stretch within it.
   pub there-within : (answer′ : List ℕ) (k : ℕ) → k ≤ j → length answer′ ≡ length answer → LinkingThere Le string table answer′ at k
@@ -56,16 +70,7 @@ module _ {Le : Relation} {string table answer : List ℕ} {at j : ℕ} (there : 
 
   pub within-step :
       (i r : ℕ) → i < j → InRow table j i → NearestLink Le string table table j i r → LinkStep table table j i j r
-  within-step i r h row near =
-      let chosen = within-chosen i r h row near j (omega arith) in
-      let found = near .found (omega (arith, chosen .inside, there .string-there .few)) in
-      record {
-        ahead = chosen .ahead;
-        inside = chosen .inside;
-        small = omega (arith, chosen .inside, there .string-there .few);
-        between = found .1 .closing .between;
-        behind = found .1 .rest;
-      }
+  within-step i r h row near = link-step (there .string-there) (within-chosen i r h row near j (omega arith)) near
 
 -- In a string that reduces to the target from i on.
 module _ {Le : Relation} {s : Basic} {string table answer ends : List ℕ} {at m i : ℕ}
@@ -98,13 +103,4 @@ module _ {Le : Relation} {s : Basic} {string table answer ends : List ℕ} {at m
       (λ t. moves (from-stays .1 t)) near
 
   pub from-step : (r : ℕ) → (Stays Le s string table m i → ⊥) → NearestLink Le string table ends 0 i r → LinkStep table ends 0 i m r
-  from-step r moves near =
-      let chosen = from-chosen r moves near in
-      let found = near .found (omega (arith, chosen .inside, there .string-there .few)) in
-      record {
-        ahead = chosen .ahead;
-        inside = chosen .inside;
-        small = omega (arith, chosen .inside, there .string-there .few);
-        between = found .1 .closing .between;
-        behind = found .1 .rest;
-      }
+  from-step r moves near = link-step (there .string-there) (from-chosen r moves near) near

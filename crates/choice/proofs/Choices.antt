@@ -10,7 +10,7 @@ use Rattle.pregroup.specs.Types.{Simple, PregroupType}
 use Rattle.pregroup.specs.Order.{Relation}
 use Rattle.pregroup.specs.Vanish.{Vanish}
 use Rattle.graph.specs.Graph.{Graph, Labelled, EntersBy, by, Path, here, take, enter, Boundary, Spells, ended, more}
-use Rattle.choice.specs.Completion.{Finishes, finishes, SlotChoice, done, choose, Completes, completes, Completable, by-choice, CompletableBy, by-slot, NotAfter, same, smaller, later, FirstChoice, Scanned, ends, takes}
+use Rattle.choice.specs.Completion.{Finishes, finishes, SlotChoice, done, choose, Completes, completes, CompletableBy, by-slot, NotAfter, same, smaller, later, FirstChoice, Scanned, ends, takes}
 use Rattle.chart.proofs.Recurrence.{path-append}
 use Rattle.choice.proofs.Completion.{path-of-entry}
 use Rattle.bits.proofs.Cases.{less-or-not, same-or-not}
@@ -63,17 +63,6 @@ module _ {Le : Relation} {g : Graph} where
   pub slot-completes :
       {P : PregroupType} {u s w end : ℕ} → Boundary g end → EntersBy g u s w → Finishes Le g P w end ↔ CompletableBy Le g P u s end
   slot-completes last e = (completable-slot last e, finishes-slot e)
-
-  completable-here : {P X : PregroupType} {u end : ℕ} → Boundary g u → Vanish Le (P ++ X) → Onward g u X end → Completable Le g P u end
-  completable-here b v (onward (ended h) c) = by-choice (completes c v)
-  completable-here b v (onward (more l t) c) = absurd (omega (arith, l .simple))
-
-  -- P is finished from a boundary exactly when some choice completes it.
-  completable-of-finishes : {P : PregroupType} {u end : ℕ} → Boundary g u → Boundary g end → Finishes Le g P u end → Completable Le g P u end
-  completable-of-finishes b last (finishes p v) = completable-here b v (path-onward last p)
-
-  finishes-of-completable : {P : PregroupType} {u end : ℕ} → Completable Le g P u end → Finishes Le g P u end
-  finishes-of-completable (by-choice (completes c v)) = finishes (path-of-choice c) v
 
 -- Two entries from one node are the same.
 pub data SameEntry (T : PregroupType) (b : ℕ) : PregroupType → ℕ → Type 0 where

@@ -35,11 +35,7 @@ pub data SlotChoice (g : Graph) : ℕ → List ℕ → PregroupType → ℕ → 
 pub data Completes (Le : Relation) (g : Graph) (P : PregroupType) (u : ℕ) (slots : List ℕ) (end : ℕ) : Type 0 where
   completes : {X : PregroupType} → SlotChoice g u slots X end → Vanish Le (P ++ X) → Completes Le g P u slots end
 
--- Some choice from u on completes P ..
-pub data Completable (Le : Relation) (g : Graph) (P : PregroupType) (u end : ℕ) : Type 0 where
-  by-choice : {slots : List ℕ} → Completes Le g P u slots end → Completable Le g P u end
-
--- .. that takes the slot s first.
+-- Some choice from u on that takes the slot s first completes P.
 pub data CompletableBy (Le : Relation) (g : Graph) (P : PregroupType) (u s end : ℕ) : Type 0 where
   by-slot : {slots : List ℕ} → Completes Le g P u (s ∷ slots) end → CompletableBy Le g P u s end
 
