@@ -1,4 +1,4 @@
-/* The proved reader of order lines, for C: link target/staticlib/libreader_c.a.
+/* The proved reader of order lines, for C: link target/staticlib/libvurzhelik.a.
  *
  * A list is passed as a pointer to its values and their number. No pointer is null, not even that of an empty list, and what is written to
  * (value, types, entries, pairs, answer) overlaps nothing else that is passed. Any bytes may stand in a book and a line, of any length.

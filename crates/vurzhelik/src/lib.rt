@@ -8,7 +8,7 @@ ghost use mathlib.Core.List.{[], _∷_};
 ghost use Rattle.book.specs.Check.{bookCheck, checkReply};
 ghost use Rattle.reader.specs.Outcome.{outcome, Gives};
 ghost use Rattle.reader.specs.Demands.{Promised};
-ghost use Rattle.reader_c.specs.Calls.{answerOf, Checks};
+ghost use Rattle.vurzhelik.specs.Calls.{answerOf, Checks};
 
 // Checks a book alone: any bytes, of any length. 0: `types`, `entries` and `pairs` hold the book's three numbers, and `value` holds 0.
 // Else it is refused: the number of the refusal is returned, `value` holds the value returned with it, and the three are as they were.

@@ -11,7 +11,7 @@ use Rattle.reader.specs.declared.LineAnswer.the-variants.{Refused as RefusedLin
 use Rattle.reader.specs.Outcome.{outcome}
 use Rattle.reader.proofs.Refusals.{NamedParse, parse-named}
 use Rattle.reader.proofs.Promises.{refusals-named}
-use Rattle.reader_c.specs.Calls.{Checks, answerOf}
+use Rattle.vurzhelik.specs.Calls.{Checks, answerOf}
 
 abbrev NamedCheck : BookCheck → Type 0
 NamedCheck (Accepted types entries pairs) = Unit {0}

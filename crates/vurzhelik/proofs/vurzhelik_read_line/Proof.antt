@@ -1,9 +1,9 @@
--- `reader_c::vurzhelik_read_line` meets its contract: what reading the line answers is handed on as numbers.
+-- `vurzhelik::vurzhelik_read_line` meets its contract: what reading the line answers is handed on as numbers.
 use borrow.Author.Needs.{needs}
 use mathlib.Core.Path.{sym}
-use Rattle.reader_c.proofs.Numbers.{refused-answers}
-use Rattle.reader_c.proofs.vurzhelik_read_line.Statement.{statement}
-use Rattle.reader_c.proofs.vurzhelik_read_line.Tie as tie
+use Rattle.vurzhelik.proofs.Numbers.{refused-answers}
+use Rattle.vurzhelik.proofs.vurzhelik_read_line.Statement.{statement}
+use Rattle.vurzhelik.proofs.vurzhelik_read_line.Tie as tie
 
 read-line-requires : tie.Need-read-line-requires
 read-line-requires c κs = search needs

@@ -1,9 +1,9 @@
--- `reader_c::vurzhelik_check_book` meets its contract: what the book check answers is handed on as numbers.
+-- `vurzhelik::vurzhelik_check_book` meets its contract: what the book check answers is handed on as numbers.
 use borrow.Author.Needs.{needs}
 use mathlib.Core.Path.{sym, _∙_}
-use Rattle.reader_c.proofs.Numbers.{refused-checks, accepted-checks}
-use Rattle.reader_c.proofs.vurzhelik_check_book.Statement.{statement}
-use Rattle.reader_c.proofs.vurzhelik_check_book.Tie as tie
+use Rattle.vurzhelik.proofs.Numbers.{refused-checks, accepted-checks}
+use Rattle.vurzhelik.proofs.vurzhelik_check_book.Statement.{statement}
+use Rattle.vurzhelik.proofs.vurzhelik_check_book.Tie as tie
 
 check-book-requires : tie.Need-check-book-requires
 check-book-requires c κs = search needs
