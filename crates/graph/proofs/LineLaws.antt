@@ -26,10 +26,6 @@ use Rattle.graph.specs.declared.Place.{Place}
 use Rattle.graph.proofs.TypeLaws.{same-set, no-edge}
 use Rattle.graph.proofs.WordLaws.{lined-then, lined-here, from-here, to-here, enters-more, tos-more}
 
--- The laws of a split line hold for any book.
-abbrev any-book : Book
-any-book = record { names = []; pairs = []; entries = []; target = 0 }
-
 -- The loop over the words.
 module _ (bytes : Bytes) (offsets : List ℕ) (count : ℕ) (line : Bytes) (starts ends : List ℕ) (words : ℕ) (p : Place) (l : Lists) where
   -- The words from the k-th on.
@@ -64,7 +60,7 @@ module _ (bytes : Bytes) (offsets : List ℕ) (count : ℕ) (line : Bytes) (star
     pub lining-end : (place : Place) (l′ : Lists) (k : ℕ) → Lining place l′ k → words ≤ k → Lined p l place l′ (words-from 0) []
     lining-end place l′ k s h =
         subst (λ (ws : List Word). Lined p l place l′ (words-from 0) (entriesOfWords bytes offsets count ws))
-        (none-left any-book line starts ends words (n .split) k h) (s .lined)
+        (none-left line starts ends words (n .split) k h) (s .lined)
 
     module _ (place : Place) (l′ : Lists) (k : ℕ) (s : Lining place l′ k) (h : k < words) where
       abbrev here : Bytes
@@ -74,10 +70,10 @@ module _ (bytes : Bytes) (offsets : List ℕ) (count : ℕ) (line : Bytes) (star
       es = entriesOfWord bytes offsets count here
 
       words-here : words-from k ≡ es ∷ words-from (k + 1)
-      words-here = ap (entriesOfWords bytes offsets count) (words-at any-book line starts ends words (n .split) k h)
+      words-here = ap (entriesOfWords bytes offsets count) (words-at line starts ends words (n .split) k h)
 
       all-words : length (words-from 0) ≡ words
-      all-words = length-map (wordsOf line) (λ (w : Word). entriesOfWord bytes offsets count (w .bytes)) ∙ words-length any-book line starts ends words (n .split)
+      all-words = length-map (wordsOf line) (λ (w : Word). entriesOfWord bytes offsets count (w .bytes)) ∙ words-length line starts ends words (n .split)
 
       pub lining-fits : WordFits bytes offsets count here place l′
       lining-fits =
@@ -260,7 +256,7 @@ module _ (bytes : Bytes) (offsets : List ℕ) (count : ℕ) (line : Bytes) (star
     bounded =
         let c = n .checked kept-book refl in
         let long : length all ≡ words =
-        length-map (wordsOf line) (λ (w : Word). entriesOfWord bytes offsets count (w .bytes)) ∙ words-length kept-book line starts ends words (c .0) in
+        length-map (wordsOf line) (λ (w : Word). entriesOfWord bytes offsets count (w .bytes)) ∙ words-length line starts ends words (c .0) in
         omega (arith, c .2, c .0 .few, t .count, long)
 
     -- The target needs no entry numbers.

@@ -52,7 +52,8 @@ pub simples-cons : (es : List NumberedEntry) (words : Words) → simplesOfWords 
 unfolding simplesOfWords
 simples-cons es words = refl
 
-module _ (B : Book) (line : Bytes) (starts ends : List ℕ) (words : ℕ) (s : SplitInto line starts ends words) where
+-- The words that are split off, one by one.
+module _ (line : Bytes) (starts ends : List ℕ) (words : ℕ) (s : SplitInto line starts ends words) where
   -- The k-th word.
   abbrev pub word : ℕ → Word
   word k = wordAt line (getD {A = ℕ} starts k 0) (getD {A = ℕ} ends k 0)
@@ -67,66 +68,67 @@ module _ (B : Book) (line : Bytes) (starts ends : List ℕ) (words : ℕ) (s : S
   pub words-at : (k : ℕ) → k < words → drop k (wordsOf line) ≡ word k ∷ drop (k + 1) (wordsOf line)
   words-at k h = rw (drop-cons (wordsOf line) k (wordAt line 0 0) (omega (arith, words-length)), word-at k h, add-one k)
 
-  abbrev leftWords : ℕ → Words
-  leftWords k = map (entriesOf B) (drop k (wordsOf line))
-
-  -- How the look-up stands before the k-th word.
-  pub record Looking (sum k : ℕ) : Type 0 where
-    pub inside : k ≤ words
-    pub found : entryFault B (wordsOf line) ≡ entryFault B (drop k (wordsOf line))
-    pub simples : simplesOfWords (entriesOfLine B line) ≡ sum + simplesOfWords (map (entriesOf B) (drop k (wordsOf line)))
-    pub small : sum ≤ maxEntries * maxEntrySimples * k
-
-  pub looking-start : Looking 0 0
-  looking-start = record { inside = omega arith; found = refl; simples = omega arith; small = omega arith }
-
-  module _ (bytes : Bytes) (offsets : List ℕ) (count : ℕ) (kept : B .entries ≡ entriesKept bytes offsets count) (sum k : ℕ) (l : Looking sum k) (h : k < words) (found : List ℕ) (n : ℕ) (f : FoundEntries bytes offsets count (word k .bytes) found n) where
-    entries : entriesAt bytes offsets found n ≡ entriesOf B (word k)
-    entries = f .all ∙ ap (λ (es : List _). entriesFrom 0 es (word k .bytes)) (sym kept)
-
-    number : n ≡ length (entriesOf B (word k))
-    number = sym (found-length bytes offsets found n (f .numbers .room)) ∙ ap length entries
-
-    unfolded : entryFault B (drop k (wordsOf line)) ≡ cond (eqb (length (entriesOf B (word k))) 0) (some (word k .at)) (entryFault B (drop (k + 1) (wordsOf line)))
-    unfolding entryFault
-    unfolded = rw (words-at k h)
-
-    pub looking-none : n ≡ 0 → Missing B line unknownWord (word k .at)
-    looking-none e = no-entry (l .found ∙ unfolded ∙ ap (λ (b : Bool). cond b (some (word k .at)) (entryFault B (drop (k + 1) (wordsOf line)))) (eq-eqb _ 0 (sym number ∙ e)))
-
-    pub looking-next : (n ≡ 0 → ⊥) → (simples : ℕ) → Tallied bytes offsets found n simples → Looking (sum + simples) (k + 1)
-    looking-next any simples t =
-        record {
-          inside = omega arith;
-          found = l .found ∙ unfolded ∙ ap (λ (b : Bool). cond b (some (word k .at)) (entryFault B (drop (k + 1) (wordsOf line)))) (ne-eqb _ 0 (λ z. any (number ∙ z)));
-          simples = l .simples ∙ ap (λ (m : ℕ). sum + m) more ∙ sym (add-assoc sum simples (simplesOfWords (leftWords (k + 1))));
-          small = omega (arith, l .small, t .small);
-        }
-      where
-        added : simplesOfWords (leftWords k) ≡ simplesIn (entriesOf B (word k)) + simplesOfWords (leftWords (k + 1))
-        added = ap (λ (ws : List Word). simplesOfWords (map (entriesOf B) ws)) (words-at k h) ∙ simples-cons (entriesOf B (word k)) (leftWords (k + 1))
-
-        more : simplesOfWords (leftWords k) ≡ simples + simplesOfWords (leftWords (k + 1))
-        more = added ∙ ap (λ (m : ℕ). m + simplesOfWords (leftWords (k + 1))) (sym (t .total ∙ ap simplesIn entries))
-
   pub none-left : (k : ℕ) → words ≤ k → drop k (wordsOf line) ≡ []
   none-left k h = drop-of-length-le (wordsOf line) {i = k} (omega (arith, words-length))
 
-  all-found : (sum k : ℕ) → Looking sum k → words ≤ k → entryFault B (wordsOf line) ≡ none
-  unfolding entryFault
-  all-found sum k l h = l .found ∙ ap (entryFault B) (none-left k h)
+  module _ (B : Book) where
+    abbrev leftWords : ℕ → Words
+    leftWords k = map (entriesOf B) (drop k (wordsOf line))
 
-  all-counted : (sum k : ℕ) → Looking sum k → words ≤ k → simplesOfWords (entriesOfLine B line) ≡ sum
-  unfolding simplesOfWords
-  all-counted sum k l h =
-      let e : simplesOfWords (leftWords k) ≡ 0 = ap (λ (ws : List Word). simplesOfWords (map (entriesOf B) ws)) (none-left k h) in
-      omega (arith, l .simples)
+    -- How the look-up stands before the k-th word.
+    pub record Looking (sum k : ℕ) : Type 0 where
+      pub inside : k ≤ words
+      pub found : entryFault B (wordsOf line) ≡ entryFault B (drop k (wordsOf line))
+      pub simples : simplesOfWords (entriesOfLine B line) ≡ sum + simplesOfWords (map (entriesOf B) (drop k (wordsOf line)))
+      pub small : sum ≤ maxEntries * maxEntrySimples * k
 
-  pub looking-full : (sum k : ℕ) → Looking sum k → words ≤ k → maxLineSimples < sum → Missing B line tooManySimples 0
-  looking-full sum k l h m = too-many (all-found sum k l h) (omega (arith, all-counted sum k l h))
+    pub looking-start : Looking 0 0
+    looking-start = record { inside = omega arith; found = refl; simples = omega arith; small = omega arith }
 
-  pub looking-end : (sum k : ℕ) → Looking sum k → words ≤ k → sum ≤ maxLineSimples → (entryFault B (wordsOf line) ≡ none) × (simplesOfWords (entriesOfLine B line) ≤ maxLineSimples)
-  looking-end sum k l h m = (all-found sum k l h, omega (arith, all-counted sum k l h))
+    module _ (bytes : Bytes) (offsets : List ℕ) (count : ℕ) (kept : B .entries ≡ entriesKept bytes offsets count) (sum k : ℕ) (l : Looking sum k) (h : k < words) (found : List ℕ) (n : ℕ) (f : FoundEntries bytes offsets count (word k .bytes) found n) where
+      entries : entriesAt bytes offsets found n ≡ entriesOf B (word k)
+      entries = f .all ∙ ap (λ (es : List _). entriesFrom 0 es (word k .bytes)) (sym kept)
+
+      number : n ≡ length (entriesOf B (word k))
+      number = sym (found-length bytes offsets found n (f .numbers .room)) ∙ ap length entries
+
+      unfolded : entryFault B (drop k (wordsOf line)) ≡ cond (eqb (length (entriesOf B (word k))) 0) (some (word k .at)) (entryFault B (drop (k + 1) (wordsOf line)))
+      unfolding entryFault
+      unfolded = rw (words-at k h)
+
+      pub looking-none : n ≡ 0 → Missing B line unknownWord (word k .at)
+      looking-none e = no-entry (l .found ∙ unfolded ∙ ap (λ (b : Bool). cond b (some (word k .at)) (entryFault B (drop (k + 1) (wordsOf line)))) (eq-eqb _ 0 (sym number ∙ e)))
+
+      pub looking-next : (n ≡ 0 → ⊥) → (simples : ℕ) → Tallied bytes offsets found n simples → Looking (sum + simples) (k + 1)
+      looking-next any simples t =
+          record {
+            inside = omega arith;
+            found = l .found ∙ unfolded ∙ ap (λ (b : Bool). cond b (some (word k .at)) (entryFault B (drop (k + 1) (wordsOf line)))) (ne-eqb _ 0 (λ z. any (number ∙ z)));
+            simples = l .simples ∙ ap (λ (m : ℕ). sum + m) more ∙ sym (add-assoc sum simples (simplesOfWords (leftWords (k + 1))));
+            small = omega (arith, l .small, t .small);
+          }
+        where
+          added : simplesOfWords (leftWords k) ≡ simplesIn (entriesOf B (word k)) + simplesOfWords (leftWords (k + 1))
+          added = ap (λ (ws : List Word). simplesOfWords (map (entriesOf B) ws)) (words-at k h) ∙ simples-cons (entriesOf B (word k)) (leftWords (k + 1))
+
+          more : simplesOfWords (leftWords k) ≡ simples + simplesOfWords (leftWords (k + 1))
+          more = added ∙ ap (λ (m : ℕ). m + simplesOfWords (leftWords (k + 1))) (sym (t .total ∙ ap simplesIn entries))
+
+    all-found : (sum k : ℕ) → Looking sum k → words ≤ k → entryFault B (wordsOf line) ≡ none
+    unfolding entryFault
+    all-found sum k l h = l .found ∙ ap (entryFault B) (none-left k h)
+
+    all-counted : (sum k : ℕ) → Looking sum k → words ≤ k → simplesOfWords (entriesOfLine B line) ≡ sum
+    unfolding simplesOfWords
+    all-counted sum k l h =
+        let e : simplesOfWords (leftWords k) ≡ 0 = ap (λ (ws : List Word). simplesOfWords (map (entriesOf B) ws)) (none-left k h) in
+        omega (arith, l .simples)
+
+    pub looking-full : (sum k : ℕ) → Looking sum k → words ≤ k → maxLineSimples < sum → Missing B line tooManySimples 0
+    looking-full sum k l h m = too-many (all-found sum k l h) (omega (arith, all-counted sum k l h))
+
+    pub looking-end : (sum k : ℕ) → Looking sum k → words ≤ k → sum ≤ maxLineSimples → (entryFault B (wordsOf line) ≡ none) × (simplesOfWords (entriesOfLine B line) ≤ maxLineSimples)
+    looking-end sum k l h m = (all-found sum k l h, omega (arith, all-counted sum k l h))
 
 -- The check of a line, from what its parts found.
 module _ (B : Book) (line : Bytes) where

@@ -13,13 +13,13 @@ use Rattle.line.proofs.lookup.look_up.Tie as tie
 
 abbrev Inv-loop : tie.InvT-loop
 Inv-loop book offsets count line starts ends words found₀ sum₀ k₀ found sum k =
-    (k ≤ words) × (sum ≤ maxEntries * maxEntrySimples * k) × (length found ≡ maxEntries) × ((B : Book) → B .entries ≡ entriesKept book offsets count → (s : SplitInto line starts ends words) → Looking B line starts ends words s sum k)
+    (k ≤ words) × (sum ≤ maxEntries * maxEntrySimples * k) × (length found ≡ maxEntries) × ((B : Book) → B .entries ≡ entriesKept book offsets count → (s : SplitInto line starts ends words) → Looking line starts ends words s B sum k)
 
 abbrev μ-loop : tie.MeasureT-loop
 μ-loop book offsets count line starts ends words found₀ sum₀ k₀ found sum k = words - k
 
 loop-holds : tie.Need-loop-holds Inv-loop μ-loop
-loop-holds c = let a = c .before .before .before .before .before .args in (omega arith, omega arith, refl, λ B kept s. looking-start B (a .line .now) (a .starts .now) (a .ends .now) (a .words) s)
+loop-holds c = let a = c .before .before .before .before .before .args in (omega arith, omega arith, refl, λ B kept s. looking-start (a .line .now) (a .starts .now) (a .ends .now) (a .words) s B)
 
 mul-start : tie.Need-mul-start Inv-loop μ-loop
 mul-start c = omega arith
@@ -59,7 +59,7 @@ returns c =
     let a = c .before .before .before .before .before .before .before .before .before .before .before .before .before .before .args in
     let l = c .before .before .before .before .before .before .before .before .loop in
     let s = c .before .before .before .before .before .before .before .before .before .before .before .before .before .before .pre .1 in
-    λ B kept. looking-none B (a .line .now) (a .starts .now) (a .ends .now) (a .words) s (a .book .now) (a .offsets .now) (a .count) kept (l .sum) (l .k) (l .inv .3 B kept s) (c .before .before .before .before .before .before .before .loop-test .taken) _ _ (c .before .before .find-entries .ensures) (c .if1 .taken)
+    λ B kept. looking-none (a .line .now) (a .starts .now) (a .ends .now) (a .words) s B (a .book .now) (a .offsets .now) (a .count) kept (l .sum) (l .k) (l .inv .3 B kept s) (c .before .before .before .before .before .before .before .loop-test .taken) _ _ (c .before .before .find-entries .ensures) (c .if1 .taken)
 
 slice-aggregate-tally-found : tie.Need-slice-aggregate-tally-found Inv-loop μ-loop
 slice-aggregate-tally-found c = omega (arith, c .before .before .before .before .before .before .before .before .before .loop .inv .2, c .before .before .before .find-entries .kept .1 .1 .1 .1 .0)
@@ -83,7 +83,7 @@ loop-again c =
       omega (arith, c .before .before .before .before .before .before .before .before .before .loop-test .taken),
       omega (arith, l .inv .1, c .tally-found .ensures .small),
       c .before .before .before .before .find-entries .kept .1 .1 .1 .1 .0 ∙ l .inv .2,
-      λ B kept s. looking-next B (a .line .now) (a .starts .now) (a .ends .now) (a .words) s (a .book .now) (a .offsets .now) (a .count) kept (l .sum) (l .k) (l .inv .3 B kept s) (c .before .before .before .before .before .before .before .before .before .loop-test .taken) _ _ (c .before .before .before .before .find-entries .ensures) (c .before .before .if1 .left) _ (c .tally-found .ensures),
+      λ B kept s. looking-next (a .line .now) (a .starts .now) (a .ends .now) (a .words) s B (a .book .now) (a .offsets .now) (a .count) kept (l .sum) (l .k) (l .inv .3 B kept s) (c .before .before .before .before .before .before .before .before .before .loop-test .taken) _ _ (c .before .before .before .before .find-entries .ensures) (c .before .before .if1 .left) _ (c .tally-found .ensures),
     )
 
 returns-2 : tie.Need-returns-2 Inv-loop μ-loop
@@ -91,14 +91,14 @@ returns-2 c =
     let a = c .before .before .before .before .before .before .before .before .args in
     let l = c .before .before .loop in
     let s = c .before .before .before .before .before .before .before .before .pre .1 in
-    λ B kept. looking-full B (a .line .now) (a .starts .now) (a .ends .now) (a .words) s (l .sum) (l .k) (l .inv .3 B kept s) (omega arith) (c .if2 .taken)
+    λ B kept. looking-full (a .line .now) (a .starts .now) (a .ends .now) (a .words) s B (l .sum) (l .k) (l .inv .3 B kept s) (omega arith) (c .if2 .taken)
 
 returns-3 : tie.Need-returns-3 Inv-loop μ-loop
 returns-3 c =
     let a = c .before .before .before .before .before .before .before .before .args in
     let l = c .before .before .loop in
     let s = c .before .before .before .before .before .before .before .before .pre .1 in
-    λ B kept. let e = looking-end B (a .line .now) (a .starts .now) (a .ends .now) (a .words) s (l .sum) (l .k) (l .inv .3 B kept s) (omega arith) (omega arith) in (refl, e .0, e .1)
+    λ B kept. let e = looking-end (a .line .now) (a .starts .now) (a .ends .now) (a .words) s B (l .sum) (l .k) (l .inv .3 B kept s) (omega arith) (omega arith) in (refl, e .0, e .1)
 
 pub look-up-spec : {M : Type 1} → statement M
 look-up-spec =
