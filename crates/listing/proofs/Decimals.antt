@@ -1,0 +1,67 @@
+-- The decimal of a number: its last digit alone, or that of its tenth and then its last digit. Numbers below a power of ten have no more digits
+-- than its exponent.
+use Prim.Native.Nat.{ℕ, zero, suc, _+_, _-_, _*_, _/_, _%_, _^_, _≤_, _<_}
+use native.Mathlib.Omega.{arith}
+use mathlib.Core.Path.{_≡_, refl, sym, ap, _∙_}
+use mathlib.Core.Logic.{_⊎_, inl, inr}
+use mathlib.Core.List.{List, [], _∷_, _++_}
+use lib.Dec.{ltb}
+use lib.ListN.{length, length-append}
+use borrow.Author.Tests.{lt-ltb, le-ltb}
+use Rattle.bits.proofs.Cases.{less-or-not}
+use Rattle.book.specs.Format.{Bytes, exponentOf}
+use Rattle.listing.specs.Text.{lastDigits, decimal, signed}
+use Rattle.listing.specs.Placed.{Placed}
+use Rattle.listing.proofs.Placing.{placed-append}
+
+last-digits-small : (more n : ℕ) → n < 10 → lastDigits (suc more) n ≡ (48 + n % 10) ∷ []
+unfolding lastDigits
+last-digits-small more n h = rw (lt-ltb n 10 h)
+
+last-digits-more : (more n : ℕ) → 10 ≤ n → lastDigits (suc more) n ≡ lastDigits more (n / 10) ++ ((48 + n % 10) ∷ [])
+unfolding lastDigits
+last-digits-more more n h = rw (le-ltb n 10 h)
+
+-- More digits than there are make no difference.
+last-digits-enough : (j k n : ℕ) → n < j → n < k → lastDigits j n ≡ lastDigits k n
+last-digits-enough zero k n hj hk = absurd (omega arith)
+last-digits-enough (suc j) zero n hj hk = absurd (omega arith)
+last-digits-enough (suc j) (suc k) n hj hk = by (λ h. last-digits-enough j k (n / 10) (omega arith) (omega arith)) (less-or-not n 10)
+  where
+    by : (10 ≤ n → lastDigits j (n / 10) ≡ lastDigits k (n / 10)) → (n < 10) ⊎ (10 ≤ n) → lastDigits (suc j) n ≡ lastDigits (suc k) n
+    by same (inl h) = last-digits-small j n h ∙ sym (last-digits-small k n h)
+    by same (inr h) =
+        last-digits-more j n h
+        ∙ ap (λ (front : Bytes). front ++ ((48 + n % 10) ∷ [])) (same h)
+        ∙ sym (last-digits-more k n h)
+
+pub decimal-small : (n : ℕ) → n < 10 → decimal n ≡ (48 + n % 10) ∷ []
+decimal-small n h = last-digits-small n n h
+
+pub decimal-more : (n : ℕ) → 10 ≤ n → decimal n ≡ decimal (n / 10) ++ ((48 + n % 10) ∷ [])
+decimal-more n h =
+    last-digits-more n n h
+    ∙ ap (λ (front : Bytes). front ++ ((48 + n % 10) ∷ [])) (last-digits-enough n (suc (n / 10)) (n / 10) (omega arith) (omega arith))
+
+pub decimal-length : (most n : ℕ) → n < 10 ^ most → length (decimal n) ≤ suc most
+decimal-length zero n h = let small : n < 10 = omega arith in rw (decimal-small n small) (omega arith)
+decimal-length (suc most) n h = by (λ big. decimal-length most (n / 10) (omega arith)) (less-or-not n 10)
+  where
+    by : (10 ≤ n → length (decimal (n / 10)) ≤ suc most) → (n < 10) ⊎ (10 ≤ n) → length (decimal n) ≤ suc (suc most)
+    by front (inl small) = rw (decimal-small n small) (omega arith)
+    by front (inr big) =
+        rw (decimal-more n big) (omega (arith, length-append (decimal (n / 10)) ((48 + n % 10) ∷ []), front big))
+
+-- The decimal of a number's tenth and then its last digit are put.
+pub decimal-placed : {text middle after : Bytes} {at last behind : ℕ} (n digit : ℕ) → 10 ≤ n → digit ≡ 48 + n % 10
+    → Placed text at (decimal (n / 10)) middle last → Placed middle last (digit ∷ []) after behind → Placed text at (decimal n) after behind
+decimal-placed n digit h e front end = rw (decimal-more n h, ← e) (placed-append (decimal (n / 10)) (digit ∷ []) front end)
+
+-- The exponent that a byte holds, by its two halves.
+pub exponent-plain : (byte : ℕ) → byte < 128 → signed (exponentOf byte) ≡ decimal byte
+unfolding exponentOf
+exponent-plain byte h = rw (lt-ltb byte 128 h)
+
+pub exponent-minus : (byte : ℕ) → 128 ≤ byte → byte < 256 → signed (exponentOf byte) ≡ 45 ∷ decimal (256 - byte)
+unfolding exponentOf
+exponent-minus byte h small = let e : suc (255 - byte) ≡ 256 - byte = omega arith in rw (le-ltb byte 128 h, e)

@@ -1,0 +1,50 @@
+-- The listing at work, by evaluation: the paper's first case byte for byte, numbers and exponents, and a refusal.
+use Prim.Native.Nat.{ℕ}
+use mathlib.Core.Path.{_≡_, refl}
+use mathlib.Core.List.{List, [], _∷_, _++_}
+use lib.IntN.{pos, negsuc}
+use Rattle.book.specs.Format.{every, twoBytes, nameByte, isName, exponentOf, simplesOf, isEntry, exponentListed, sameBytes, bodyRules, recordRules, firstBroken, add, ended, recordsFrom, parse}
+use Rattle.book.proofs.PaperBooks.{firstBook}
+use Rattle.line.specs.LineWords.{wordsFrom}
+use Rattle.line.specs.LineFaults.{byteFault, wordFault}
+use Rattle.reader.specs.declared.LineAnswer.the-variants.{Read, Refused}
+use Rattle.listing.specs.Text.{lastDigits, decimal, signed}
+use Rattle.listing.specs.Listing.{wordRows, typeRows, joined, listing}
+
+digits-of-0 : decimal 0 ≡ 48 ∷ []
+unfolding lastDigits
+digits-of-0 = refl
+
+digits-of-10 : decimal 10 ≡ 49 ∷ 48 ∷ []
+unfolding lastDigits
+digits-of-10 = refl
+
+digits-of-65535 : decimal 65535 ≡ 54 ∷ 53 ∷ 53 ∷ 51 ∷ 53 ∷ []
+unfolding lastDigits
+digits-of-65535 = refl
+
+minus-8 : signed (negsuc 7) ≡ 45 ∷ 56 ∷ []
+unfolding lastDigits
+minus-8 = refl
+
+-- "fetch bed4 ward7": the rows that document 01 shows.
+first-case : (line values : List ℕ)
+    → line ≡ 102 ∷ 101 ∷ 116 ∷ 99 ∷ 104 ∷ 32 ∷ 98 ∷ 101 ∷ 100 ∷ 52 ∷ 32 ∷ 119 ∷ 97 ∷ 114 ∷ 100 ∷ 55 ∷ []
+    → values ≡ 3 ∷ 1 ∷ 2 ∷ 3 ∷ 5 ∷ 1 ∷ 5 ∷ 4 ∷ 3 ∷ 2 ∷ 7 ∷ []
+    → listing firstBook line (Read 10) values ≡
+    (121 ∷ 101 ∷ 115 ∷ 32 ∷ 51 ∷ 32 ∷ 53 ∷ 10 ∷ [])
+    ++ (49 ∷ 32 ∷ 102 ∷ 101 ∷ 116 ∷ 99 ∷ 104 ∷ 32 ∷ 49 ∷ 10 ∷ [])
+    ++ (50 ∷ 32 ∷ 98 ∷ 101 ∷ 100 ∷ 52 ∷ 32 ∷ 50 ∷ 10 ∷ [])
+    ++ (51 ∷ 32 ∷ 119 ∷ 97 ∷ 114 ∷ 100 ∷ 55 ∷ 32 ∷ 51 ∷ 10 ∷ [])
+    ++ (49 ∷ 32 ∷ 111 ∷ 32 ∷ 48 ∷ 32 ∷ 49 ∷ 10 ∷ [])
+    ++ (50 ∷ 32 ∷ 119 ∷ 32 ∷ 45 ∷ 49 ∷ 32 ∷ 53 ∷ 10 ∷ [])
+    ++ (51 ∷ 32 ∷ 112 ∷ 32 ∷ 45 ∷ 49 ∷ 32 ∷ 52 ∷ 10 ∷ [])
+    ++ (52 ∷ 32 ∷ 112 ∷ 32 ∷ 48 ∷ 32 ∷ 51 ∷ 10 ∷ [])
+    ++ (53 ∷ 32 ∷ 117 ∷ 32 ∷ 48 ∷ 32 ∷ 50 ∷ 10 ∷ [])
+unfolding lastDigits wordRows typeRows joined every twoBytes nameByte isName exponentOf simplesOf isEntry exponentListed sameBytes bodyRules recordRules firstBroken add ended recordsFrom parse wordsFrom byteFault wordFault
+first-case line values l v = rw (l, v)
+
+-- "no 16 7".
+refusal : listing firstBook [] (Refused 16 7) [] ≡ 110 ∷ 111 ∷ 32 ∷ 49 ∷ 54 ∷ 32 ∷ 55 ∷ 10 ∷ []
+unfolding lastDigits
+refusal = refl

@@ -1,0 +1,62 @@
+-- Rendering: a piece that was counted is written if there is room for it; and the listing by its cases: book, line and values.
+use Prim.Native.Nat.{ℕ, suc, _+_, _≤_, _<_}
+use native.Mathlib.Numerals.{add-one}
+use native.Mathlib.Omega.{arith}
+use mathlib.Core.Path.{_≡_, refl, sym, ap, _∙_}
+use mathlib.Core.List.{List, [], _∷_, _++_, map}
+use mathlib.Core.Option.{none, some}
+use lib.ListN.{length, getD, take, drop, length-take}
+use lib.Seq.{sets, sets-eq, take-all}
+use Rattle.book.specs.Format.{Bytes, Entry, Book, accepted, refused, parse, entryOf}
+use Rattle.book.specs.Kept.{Store, Opened, bodiesAt}
+use Rattle.line.specs.LineWords.{Word, wordsOf}
+use Rattle.line.specs.LineFaults.{byteFault, wordFault}
+use Rattle.line.specs.LookUp.{entriesKept}
+use Rattle.line.specs.Split.{SplitInto, Stopped, at-byte, at-word}
+use Rattle.listing.specs.Listing.{refusalRow, readingRows, counted, answerRows, lineRows, parsedRows, listed, Renders}
+use Rattle.listing.specs.declared.Rendered.the-variants.{Written, TooShort}
+use Rattle.listing.specs.Placed.{Placed}
+use Rattle.listing.specs.Parts.{BookKept}
+use Rattle.listing.proofs.Bounds.{accepted-short}
+
+-- The piece was counted, with no room at all, and is then put where there is room.
+pub renders-written : (piece : Bytes) {text nowhere nothing after : Bytes} {needed behind : ℕ} → Placed nowhere 0 piece nothing needed → needed ≤ length text
+    → Placed text 0 piece after behind → Renders piece text (Written needed) after
+renders-written piece {text} {needed = needed} count room p =
+    let size : needed ≡ length piece = omega (arith, count .next) in
+    let start : 0 + length piece ≡ length piece = omega arith in
+    (size, omega arith, p .put ∙ sets-eq piece text 0 (omega arith) ∙ ap (λ (n : ℕ). piece ++ drop n text) start)
+
+pub renders-short : (piece text : Bytes) {nowhere nothing : Bytes} {needed : ℕ} → Placed nowhere 0 piece nothing needed → length text < needed
+    → Renders piece text (TooShort needed) text
+renders-short piece text {needed = needed} count short = let size : needed ≡ length piece = omega (arith, count .next) in (size, omega arith, refl)
+
+module _ (names : List Bytes) (entries : List Entry) where
+  -- The parts of the values are those that are counted.
+  pub answer-parts : (words : List Word) (values chosen partners : List ℕ) → chosen ≡ counted values 0 → partners ≡ counted values (length chosen + 1)
+      → readingRows names entries words chosen partners ≡ answerRows names entries words values
+  answer-parts words values chosen partners c p = rw (p, add-one (length chosen), c)
+
+  pub line-stopped : {line : Bytes} {number value : ℕ} (values : List ℕ) → Stopped line number value → refusalRow number value ≡ lineRows names entries line values
+  line-stopped values (at-byte e) = rw e
+  line-stopped values (at-word e f) = rw (e, f)
+
+  pub line-split : (line : Bytes) (starts ends : List ℕ) (words : ℕ) (values : List ℕ) → SplitInto line starts ends words
+      → answerRows names entries (wordsOf line) values ≡ lineRows names entries line values
+  line-split line starts ends words values s = rw (s .bytes-fine, s .words-fine)
+
+pub book-refused : (book line : Bytes) (values : List ℕ) (number value : ℕ) → parse book ≡ refused number value → refusalRow number value ≡ listed book line values
+book-refused book line values number value e = rw e
+
+-- What is kept of an accepted book serves its listings.
+module _ (book : Bytes) (s : Store) (types count target : ℕ) (B : Book) (o : Opened book s types count target B) where
+  pub opened-kept : BookKept book (s .names) types (s .entries) count
+  opened-kept =
+      record {
+        short = accepted-short book B (o .parsed);
+        names-whole = o .names-whole;
+        entries-kept = record { few = o .few-entries; whole = o .entries-whole; layouts = λ i h. o .formed i h .layout };
+      }
+
+  pub book-opened : (line : Bytes) (values : List ℕ) → lineRows (bodiesAt book (s .names) types) (entriesKept book (s .entries) count) line values ≡ listed book line values
+  book-opened line values = rw (o .parsed, o .names, o .entries)

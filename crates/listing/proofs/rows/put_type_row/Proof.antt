@@ -1,0 +1,67 @@
+-- `listing::rows::put_type_row` meets its contract, field by field.
+use borrow.Author.Needs.{needs}
+use mathlib.Core.List.{[], _∷_}
+use Rattle.book.specs.Format.{exponentOf}
+use Rattle.listing.specs.Text.{decimal, signed}
+use Rattle.listing.proofs.Fields.{field-countable, fields-countable, row-placed}
+use Rattle.listing.proofs.rows.put_type_row.Statement.{statement}
+use Rattle.listing.proofs.rows.put_type_row.Tie as tie
+
+put-number-requires : tie.Need-put-number-requires
+put-number-requires c κs =
+    let a = c .before .before .before .args in
+    let z = signed (exponentOf (a .exponent)) in
+    let p = decimal (a .partner) in
+    field-countable (decimal (a .position)) (a .name .now) (z ∷ p ∷ []) (c .before .before .before .pre)
+
+put-text-requires : tie.Need-put-text-requires
+put-text-requires c κs =
+    let a = c .before .before .before .before .before .before .before .args in
+    let z = signed (exponentOf (a .exponent)) in
+    let p = decimal (a .partner) in
+    field-countable (a .name .now) z (p ∷ [])
+    (fields-countable (decimal (a .position)) (a .name .now) (z ∷ p ∷ []) (c .before .before .before .before .before .before .before .pre) (c .before .before .before .put-number .ensures))
+
+put-exponent-requires : tie.Need-put-exponent-requires
+put-exponent-requires c κs =
+    let a = c .before .before .before .before .before .before .before .before .before .before .before .args in
+    let z = signed (exponentOf (a .exponent)) in
+    let p = decimal (a .partner) in
+    field-countable z p []
+    (fields-countable (a .name .now) z (p ∷ [])
+    (fields-countable (decimal (a .position)) (a .name .now) (z ∷ p ∷ []) (c .before .before .before .before .before .before .before .before .before .before .before .pre) (c .before .before .before .before .before .before .before .put-number .ensures))
+    (c .before .before .before .put-text .ensures))
+
+put-number-requires-2 : tie.Need-put-number-requires-2
+put-number-requires-2 c κs =
+    let a = c .before .before .before .before .before .before .before .before .before .before .before .before .before .before .before .args in
+    let z = signed (exponentOf (a .exponent)) in
+    let p = decimal (a .partner) in
+    fields-countable z p []
+    (fields-countable (a .name .now) z (p ∷ [])
+    (fields-countable (decimal (a .position)) (a .name .now) (z ∷ p ∷ []) (c .before .before .before .before .before .before .before .before .before .before .before .before .before .before .before .pre) (c .before .before .before .before .before .before .before .before .before .before .before .put-number .ensures))
+    (c .before .before .before .before .before .before .before .put-text .ensures))
+    (c .before .before .before .put-exponent .ensures)
+
+same-length : tie.Need-same-length
+same-length c = search needs
+
+returns : tie.Need-returns
+returns c =
+    let a = c .before .before .before .before .before .before .before .before .before .before .before .before .before .before .before .before .before .before .args in
+    let z = signed (exponentOf (a .exponent)) in
+    let p = decimal (a .partner) in
+    row-placed (decimal (a .position)) (a .name .now) (z ∷ p ∷ []) (c .before .before .before .before .before .before .before .before .before .before .before .before .before .before .put-number .ensures)
+    (row-placed (a .name .now) z (p ∷ []) (c .before .before .before .before .before .before .before .before .before .before .put-text .ensures)
+    (row-placed z p [] (c .before .before .before .before .before .before .put-exponent .ensures) (c .before .before .put-number2 .ensures)))
+
+pub put-type-row-spec : {M : Type 1} → statement M
+put-type-row-spec =
+    tie.close
+    (tie.spec
+    put-number-requires
+    put-text-requires
+    put-exponent-requires
+    put-number-requires-2
+    same-length
+    returns)

@@ -1,0 +1,100 @@
+-- Document 01, "A book to try": what `reading` prints of an answer or a refusal. Each kind of row is one definition, its fields in their order.
+use Prim.Native.Nat.{ℕ, suc, _+_, _≤_, _<_}
+use mathlib.Core.Path.{_≡_}
+use mathlib.Core.List.{List, [], _∷_, _++_}
+use mathlib.Core.Option.{Option, none, some}
+use lib.IntN.{ℤ}
+use lib.ListN.{length, getD, take, drop}
+use Rattle.figures.specs.Refusals.{badLineByte, badWord}
+use Rattle.pregroup.specs.Types.{PregroupType}
+use Rattle.book.specs.Format.{Bytes, Entry, Book, Parsed, accepted, refused, parse}
+use Rattle.line.specs.LineWords.{Word, wordsOf}
+use Rattle.line.specs.LineFaults.{byteFault, wordFault}
+use Rattle.reader.specs.declared.LineAnswer.{LineAnswer}
+use Rattle.reader.specs.declared.LineAnswer.the-variants.{Read, Refused}
+use Rattle.listing.specs.declared.Rendered.{Rendered}
+use Rattle.listing.specs.declared.Rendered.the-variants.{Written, TooShort}
+use Rattle.listing.specs.Text.{decimal, signed, row}
+
+abbrev pub yes : Bytes
+yes = 121 ∷ 101 ∷ 115 ∷ []
+
+abbrev pub no : Bytes
+no = 110 ∷ 111 ∷ []
+
+-- The first row of an answer: word count, simple type count.
+abbrev pub firstRow : ℕ → ℕ → Bytes
+firstRow words simples = row (yes ∷ decimal words ∷ decimal simples ∷ [])
+
+-- A word's row: its number, the word as it is typed, its entry.
+abbrev pub wordRow : ℕ → Bytes → ℕ → Bytes
+wordRow number word entry = row (decimal number ∷ word ∷ decimal entry ∷ [])
+
+-- A simple type's row: its position, its basic type's name, its exponent, its partner.
+abbrev pub typeRow : ℕ → Bytes → ℤ → ℕ → Bytes
+typeRow position name exponent partner = row (decimal position ∷ name ∷ signed exponent ∷ decimal partner ∷ [])
+
+-- The row of a refusal: its number, its value.
+abbrev pub refusalRow : ℕ → ℕ → Bytes
+refusalRow number value = row (no ∷ decimal number ∷ decimal value ∷ [])
+
+-- The rows of the words from number k + 1 on, and of the simple types from position k + 1 on. What has no entry or no partner shows 0.
+unfoldable pub wordRows : List ℕ → ℕ → List Word → Bytes
+wordRows entries k [] = []
+wordRows entries k (w ∷ words) = wordRow (suc k) (w .bytes) (getD {A = ℕ} entries k 0) ++ wordRows entries (suc k) words
+
+unfoldable pub typeRows : List Bytes → List ℕ → ℕ → PregroupType → Bytes
+typeRows names partners k [] = []
+typeRows names partners k (x ∷ X) =
+    typeRow (suc k) (getD {A = Bytes} names (x .base) []) (x .exponent) (getD {A = ℕ} partners k 0) ++ typeRows names partners (suc k) X
+
+-- The type of an entry. A number that the book does not have stands for the empty type.
+abbrev pub typeOf : List Entry → ℕ → PregroupType
+typeOf entries number = getD {A = Entry} entries number (record { word = []; type = [] }) .type
+
+-- The types of these entries, joined.
+unfoldable pub joined : List Entry → List ℕ → PregroupType
+joined entries [] = []
+joined entries (number ∷ chosen) = typeOf entries number ++ joined entries chosen
+
+-- The rows of a reading, by its entry numbers and its partners, with the names and the entries of its book.
+abbrev pub readingRows : List Bytes → List Entry → List Word → List ℕ → List ℕ → Bytes
+readingRows names entries words chosen partners =
+    firstRow (length chosen) (length partners) ++ (wordRows chosen 0 words ++ typeRows names partners 0 (joined entries chosen))
+
+-- The values that stand behind their count.
+abbrev pub counted : List ℕ → ℕ → List ℕ
+counted values at = take (getD {A = ℕ} values at 0) (drop (suc at) values)
+
+-- The rows of an answer's values: n, the n entry numbers, m, the m partners.
+abbrev pub answerRows : List Bytes → List Entry → List Word → List ℕ → Bytes
+answerRows names entries words values = readingRows names entries words (counted values 0) (counted values (suc (length (counted values 0))))
+
+-- A line that breaks 11 or 12 has no words to list: its refusal is listed.
+abbrev pub orRefused : ℕ → Option ℕ → Bytes → Bytes
+orRefused number none rows = rows
+orRefused number (some value) rows = refusalRow number value
+
+-- The rows of an answer's values for a line.
+abbrev pub lineRows : List Bytes → List Entry → Bytes → List ℕ → Bytes
+lineRows names entries line values =
+    orRefused badLineByte (byteFault 0 line) (orRefused badWord (wordFault 0 (wordsOf line)) (answerRows names entries (wordsOf line) values))
+
+-- The rows for what a book's bytes are. A book that is refused has no entries to list: its refusal is listed.
+abbrev pub parsedRows : Parsed → Bytes → List ℕ → Bytes
+parsedRows (refused number value) line values = refusalRow number value
+parsedRows (accepted B) line values = lineRows (B .names) (B .entries) line values
+
+abbrev pub listed : Bytes → Bytes → List ℕ → Bytes
+listed book line values = parsedRows (parse book) line values
+
+-- The listing of what reading a line against a book answers, with the buffer that it wrote to.
+abbrev pub listing : Bytes → Bytes → LineAnswer → List ℕ → Bytes
+listing book line (Read n) buffer = listed book line (take n buffer)
+listing book line (Refused number value) buffer = refusalRow number value
+
+-- A listing for which there is room is written whole, and the bytes behind it stay. For a longer one the bytes needed are returned, and
+-- nothing is written.
+abbrev pub Renders : Bytes → Bytes → Rendered → Bytes → Type 0
+Renders text before (Written bytes) after = (bytes ≡ length text) × (length text ≤ length before) × (after ≡ text ++ drop (length text) before)
+Renders text before (TooShort needed) after = (needed ≡ length text) × (length before < length text) × (after ≡ before)

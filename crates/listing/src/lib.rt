@@ -1,0 +1,174 @@
+// The listing of an answer or of a refusal, as text in a lent buffer: for any book, line and values. What it is, is defined in specs/Listing.
+mod parts;
+mod rows;
+mod text;
+
+use book::Scan;
+use book::records::scan_book;
+use figures::limits::MAX_ENTRIES;
+use figures::limits::MAX_TYPES;
+use figures::limits::MAX_WORDS;
+use line::CheckedLine;
+use line::split::split;
+use parts::counted;
+use reader::LineAnswer;
+use rows::put_head_row;
+use rows::put_reading;
+ghost use Prim.Native.Nat.{_≤_};
+ghost use Rattle.book.specs.Kept.{bodiesAt};
+ghost use Rattle.line.specs.LineWords.{wordsOf};
+ghost use Rattle.line.specs.LookUp.{entriesKept};
+ghost use Rattle.listing.specs.Listing.{refusalRow, answerRows, lineRows, listed, listing, Renders};
+ghost use Rattle.listing.specs.Parts.{BookKept, LineKept};
+
+// What rendering a listing gives. `Written`: the buffer holds the listing, of so many bytes, and those behind it are as they were.
+// `TooShort`: the listing takes so many bytes, and the buffer is as it was.
+pub enum Rendered {
+    Written { bytes: usize },
+    TooShort { needed: usize },
+}
+
+// Renders the row of a refusal.
+fn render_refusal(number: u32, value: usize, text: &mut [u8]) -> Rendered
+    ensures { λ r. ⌜ Renders (refusalRow number value) (now (text .entry)) r (now (text .exit)) ⌝ }
+{
+    let number = number as usize;
+    let mut nothing = [0u8; 0];
+    let needed = put_head_row(b"no", number, value, &mut nothing, 0);
+    if text.len() < needed {
+        return Rendered::TooShort { needed };
+    }
+    put_head_row(b"no", number, value, text, 0);
+    Rendered::Written { bytes: needed }
+}
+
+// Renders the rows of an answer's values, for a book and a line that are kept.
+fn render_values(
+    book: &[u8],
+    names: &[u16],
+    types: usize,
+    offsets: &[u16],
+    count: usize,
+    line: &[u8],
+    starts: &[usize],
+    ends: &[usize],
+    words: usize,
+    values: &[u16],
+    text: &mut [u8],
+) -> Rendered
+    requires { ⌜ BookKept (now book) (now names) types (now offsets) count × LineKept (now line) (now starts) (now ends) words ⌝ }
+    ensures { λ r. ⌜ Renders (answerRows (bodiesAt (now (book .entry)) (now (names .entry)) types) (entriesKept (now (book .entry)) (now (offsets .entry)) count)
+        (wordsOf (now (line .entry))) (now (values .entry))) (now (text .entry)) r (now (text .exit)) ⌝ }
+{
+    let chosen = counted(values, 0);
+    let partners = counted(values, chosen.len() + 1);
+    let mut nothing = [0u8; 0];
+    let needed = put_reading(
+        book,
+        names,
+        types,
+        offsets,
+        count,
+        line,
+        starts,
+        ends,
+        words,
+        chosen,
+        partners,
+        &mut nothing,
+    );
+    if text.len() < needed {
+        return Rendered::TooShort { needed };
+    }
+    put_reading(
+        book,
+        names,
+        types,
+        offsets,
+        count,
+        line,
+        starts,
+        ends,
+        words,
+        chosen,
+        partners,
+        text,
+    );
+    Rendered::Written { bytes: needed }
+}
+
+// Renders an answer's values for a line and a book that is kept.
+fn render_line(
+    book: &[u8],
+    names: &[u16],
+    types: usize,
+    offsets: &[u16],
+    count: usize,
+    line: &[u8],
+    values: &[u16],
+    text: &mut [u8],
+) -> Rendered
+    requires { ⌜ BookKept (now book) (now names) types (now offsets) count ⌝ }
+    ensures { λ r. ⌜ Renders (lineRows (bodiesAt (now (book .entry)) (now (names .entry)) types) (entriesKept (now (book .entry)) (now (offsets .entry)) count)
+        (now (line .entry)) (now (values .entry))) (now (text .entry)) r (now (text .exit)) ⌝ }
+{
+    let mut starts = [0usize; MAX_WORDS];
+    let mut ends = [0usize; MAX_WORDS];
+    let found = split(line, &mut starts, &mut ends);
+    match found {
+        CheckedLine::Refused { number, value } => render_refusal(number, value, text),
+        CheckedLine::Found(words) => render_values(
+            book,
+            names,
+            types,
+            offsets,
+            count,
+            line,
+            &starts,
+            &ends,
+            words,
+            values,
+            text,
+        ),
+    }
+}
+
+// Renders an answer's values for a book and a line.
+fn render_answer(book: &[u8], line: &[u8], values: &[u16], text: &mut [u8]) -> Rendered
+    ensures { λ r. ⌜ Renders (listed (now (book .entry)) (now (line .entry)) (now (values .entry))) (now (text .entry)) r (now (text .exit)) ⌝ }
+{
+    let mut names = [0u16; MAX_TYPES];
+    let mut entries = [0u16; MAX_ENTRIES];
+    let mut direct = [0u64; MAX_TYPES];
+    let scan = scan_book(book, &mut names, &mut entries, &mut direct);
+    match scan {
+        Scan::Refused { number, value } => render_refusal(number, value, text),
+        Scan::Accepted {
+            types,
+            entries: count,
+            target: _,
+        } => render_line(book, &names, types, &entries, count, line, values, text),
+    }
+}
+
+// Renders what reading a line against a book answered, with the buffer that the answer was written to. For an answer of `read_line` that is
+// its reading's rows, or the row of its refusal; what any other values come to is defined too.
+pub fn render(
+    book: &[u8],
+    line: &[u8],
+    answer: LineAnswer,
+    buffer: &[u16],
+    text: &mut [u8],
+) -> Rendered
+    ensures { λ r. ⌜ Renders (listing (now (book .entry)) (now (line .entry)) answer (now (buffer .entry))) (now (text .entry)) r (now (text .exit)) ⌝ }
+{
+    match answer {
+        LineAnswer::Refused { number, value } => render_refusal(number, value, text),
+        LineAnswer::Read { values } => {
+            if buffer.len() < values {
+                return render_answer(book, line, buffer, text);
+            }
+            render_answer(book, line, &buffer[0..values], text)
+        }
+    }
+}

@@ -1,0 +1,191 @@
+// The rows of a listing, put into a lent buffer one behind another. specs/Listing says which fields a row has.
+use crate::parts::name_of;
+use crate::parts::type_of;
+use crate::parts::value_at;
+use crate::text::put_exponent;
+use crate::text::put_number;
+use crate::text::put_text;
+use book::widths::wide_byte;
+use book::widths::wide_number;
+ghost use mathlib.Core.Path.{_≡_};
+ghost use mathlib.Core.List.{[], _∷_};
+ghost use Prim.Native.Nat.{_%_, _≤_};
+ghost use lib.ListN.{length};
+ghost use Rattle.book.specs.Format.{exponentOf, simplesOf};
+ghost use Rattle.book.specs.Kept.{Whole, bodiesAt};
+ghost use Rattle.line.specs.LineWords.{wordsOf};
+ghost use Rattle.line.specs.LookUp.{entriesKept};
+ghost use Rattle.listing.specs.Text.{decimal, row};
+ghost use Rattle.listing.specs.Listing.{wordRow, typeRow, wordRows, typeRows, joined, readingRows};
+ghost use Rattle.listing.specs.Parts.{BookKept, LineKept};
+ghost use Rattle.listing.specs.Placed.{Countable, Placed};
+
+const SPACE: u8 = 32;
+
+const ROW_END: u8 = 10;
+
+// A row of a word and two numbers: the first row of an answer, and the row of a refusal.
+pub(crate) fn put_head_row(
+    word: &[u8],
+    first: usize,
+    second: usize,
+    text: &mut [u8],
+    at: usize,
+) -> usize
+    requires { ⌜ Countable at (row (now word ∷ decimal first ∷ decimal second ∷ [])) ⌝ }
+    ensures { λ r. ⌜ Placed (now (text .entry)) at (row (now (word .entry) ∷ decimal first ∷ decimal second ∷ [])) (now (text .exit)) r ⌝ }
+{
+    let at = put_text(word, SPACE, text, at);
+    let at = put_number(first, SPACE, text, at);
+    put_number(second, ROW_END, text, at)
+}
+
+// A word's row.
+fn put_word_row(number: usize, word: &[u8], entry: usize, text: &mut [u8], at: usize) -> usize
+    requires { ⌜ Countable at (wordRow number (now word) entry) ⌝ }
+    ensures { λ r. ⌜ Placed (now (text .entry)) at (wordRow number (now (word .entry)) entry) (now (text .exit)) r ⌝ }
+{
+    let at = put_number(number, SPACE, text, at);
+    let at = put_text(word, SPACE, text, at);
+    put_number(entry, ROW_END, text, at)
+}
+
+// A simple type's row.
+fn put_type_row(
+    position: usize,
+    name: &[u8],
+    exponent: u8,
+    partner: usize,
+    text: &mut [u8],
+    at: usize,
+) -> usize
+    requires { ⌜ Countable at (typeRow position (now name) (exponentOf exponent) partner) ⌝ }
+    ensures { λ r. ⌜ Placed (now (text .entry)) at (typeRow position (now (name .entry)) (exponentOf exponent) partner) (now (text .exit)) r ⌝ }
+{
+    let at = put_number(position, SPACE, text, at);
+    let at = put_text(name, SPACE, text, at);
+    let at = put_exponent(exponent, SPACE, text, at);
+    put_number(partner, ROW_END, text, at)
+}
+
+// The rows of a line's words, which are split off.
+fn put_word_rows(
+    line: &[u8],
+    starts: &[usize],
+    ends: &[usize],
+    words: usize,
+    entries: &[u16],
+    text: &mut [u8],
+    at: usize,
+) -> usize
+    requires { ⌜ LineKept (now line) (now starts) (now ends) words ⌝ }
+    requires { ⌜ Countable at (wordRows (now entries) 0 (wordsOf (now line))) ⌝ }
+    ensures { λ r. ⌜ Placed (now (text .entry)) at (wordRows (now (entries .entry)) 0 (wordsOf (now (line .entry)))) (now (text .exit)) r ⌝ }
+{
+    let mut next = at;
+    let mut k = 0;
+    while k < words {
+        let start = starts[k];
+        let end = ends[k];
+        let entry = value_at(entries, k);
+        k += 1;
+        next = put_word_row(k, &line[start..end], entry, text, next);
+    }
+    next
+}
+
+// The rows of an entry's simple types, which stand behind k others.
+fn put_simple_rows(
+    book: &[u8],
+    names: &[u16],
+    types: usize,
+    simples: &[u8],
+    partners: &[u16],
+    k: usize,
+    text: &mut [u8],
+    at: usize,
+) -> usize
+    requires { ⌜ Whole (now book) (now names) types × (length (now simples) % 2 ≡ 0) × (k ≤ at) ⌝ }
+    requires { ⌜ Countable at (typeRows (bodiesAt (now book) (now names) types) (now partners) k (simplesOf (now simples))) ⌝ }
+    ensures { λ r. ⌜ Placed (now (text .entry)) at
+        (typeRows (bodiesAt (now (book .entry)) (now (names .entry)) types) (now (partners .entry)) k (simplesOf (now (simples .entry))))
+        (now (text .exit)) r ⌝ }
+{
+    let mut next = at;
+    let mut position = k;
+    let mut j = 0;
+    while j < simples.len() {
+        let name = name_of(book, names, types, wide_byte(simples[j]));
+        let partner = value_at(partners, position);
+        position += 1;
+        next = put_type_row(position, name, simples[j + 1], partner, text, next);
+        j += 2;
+    }
+    next
+}
+
+// The rows of all simple types of the chosen entries.
+fn put_type_rows(
+    book: &[u8],
+    names: &[u16],
+    types: usize,
+    offsets: &[u16],
+    count: usize,
+    chosen: &[u16],
+    partners: &[u16],
+    text: &mut [u8],
+    at: usize,
+) -> usize
+    requires { ⌜ BookKept (now book) (now names) types (now offsets) count ⌝ }
+    requires { ⌜ Countable at (typeRows (bodiesAt (now book) (now names) types) (now partners) 0 (joined (entriesKept (now book) (now offsets) count) (now chosen))) ⌝ }
+    ensures { λ r. ⌜ Placed (now (text .entry)) at
+        (typeRows (bodiesAt (now (book .entry)) (now (names .entry)) types) (now (partners .entry)) 0
+        (joined (entriesKept (now (book .entry)) (now (offsets .entry)) count) (now (chosen .entry)))) (now (text .exit)) r ⌝ }
+{
+    let mut next = at;
+    let mut k = 0;
+    let mut i = 0;
+    while i < chosen.len() {
+        let simples = type_of(book, offsets, count, wide_number(chosen[i]));
+        next = put_simple_rows(book, names, types, simples, partners, k, text, next);
+        k += simples.len() / 2;
+        i += 1;
+    }
+    next
+}
+
+// All rows of a reading, from the start of the buffer on.
+pub(crate) fn put_reading(
+    book: &[u8],
+    names: &[u16],
+    types: usize,
+    offsets: &[u16],
+    count: usize,
+    line: &[u8],
+    starts: &[usize],
+    ends: &[usize],
+    words: usize,
+    chosen: &[u16],
+    partners: &[u16],
+    text: &mut [u8],
+) -> usize
+    requires { ⌜ BookKept (now book) (now names) types (now offsets) count × LineKept (now line) (now starts) (now ends) words ⌝ }
+    requires { ⌜ Countable 0 (readingRows (bodiesAt (now book) (now names) types) (entriesKept (now book) (now offsets) count) (wordsOf (now line)) (now chosen) (now partners)) ⌝ }
+    ensures { λ r. ⌜ Placed (now (text .entry)) 0
+        (readingRows (bodiesAt (now (book .entry)) (now (names .entry)) types) (entriesKept (now (book .entry)) (now (offsets .entry)) count)
+        (wordsOf (now (line .entry))) (now (chosen .entry)) (now (partners .entry))) (now (text .exit)) r ⌝ }
+{
+    let at = put_head_row(b"yes", chosen.len(), partners.len(), text, 0);
+    let at = put_word_rows(line, starts, ends, words, chosen, text, at);
+    put_type_rows(
+        book,
+        names,
+        types,
+        offsets,
+        count,
+        chosen,
+        partners,
+        text,
+        at,
+    )
+}
