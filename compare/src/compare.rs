@@ -3,7 +3,8 @@
 
 use crate::cases::{self, Case};
 use crate::random::Random;
-use crate::readers::{Counts, Reader, Refusal, INDEPENDENT};
+use crate::readers::{Reader, INDEPENDENT};
+use crate::types::{Counts, Refusal};
 use std::collections::BTreeMap;
 use std::panic::catch_unwind;
 use std::sync::atomic::{AtomicBool, Ordering};

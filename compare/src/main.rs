@@ -14,11 +14,11 @@ mod compare;
 #[cfg(test)]
 mod document_cases;
 mod independent;
-mod library;
 mod random;
 mod readers;
 mod samples;
 mod twin;
+mod types;
 
 use readers::{LIBRARY, TWIN};
 use std::process::ExitCode;

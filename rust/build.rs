@@ -4,12 +4,12 @@ use std::path::Path;
 fn main() {
     let folder = Path::new(env!("CARGO_MANIFEST_DIR")).join("../target/staticlib");
     let archive = folder.join("libvurzhelik.a");
+    println!("cargo:rerun-if-changed={}", archive.display());
     assert!(
         archive.exists(),
-        "no {}: run `rt staticlib vurzhelik` first",
+        "no {}: run `rt staticlib vurzhelik` in the repository first",
         archive.display()
     );
-    println!("cargo:rerun-if-changed={}", archive.display());
     println!("cargo:rustc-link-search=native={}", folder.display());
     println!("cargo:rustc-link-lib=static=vurzhelik");
 }
