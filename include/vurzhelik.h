@@ -1,9 +1,13 @@
-/* The proved reader of order lines, for C: link target/staticlib/libvurzhelik.a.
+/* Vurzhelik, the proved reader of order lines, for C and C++. Link libvurzhelik.a, which `rt staticlib vurzhelik` writes to
+ * target/staticlib; it is for x86-64 Linux.
  *
- * A list is passed as a pointer to its values and their number. No pointer is null, not even that of an empty list, and what is written to
- * (value, types, entries, pairs, answer) overlaps nothing else that is passed. Any bytes may stand in a book and a line, of any length.
- * Nothing is kept between calls, so that several threads may call at once. Reading a line took up to 230 kilobytes of stack
- * where it was measured; have 512 free. */
+ * Lists. A list is passed as a pointer to its values and their number. Any bytes may stand in a book and a line, of any length.
+ * Pointers. None is null, not even that of an empty list: pass the address of any object there. What is written to (value, types, entries,
+ * pairs, answer) overlaps nothing else that is passed. Nothing tests this.
+ * Threads. Nothing is kept between calls and nothing is allocated: several threads may call at once.
+ * Stack. Reading a line takes up to 125 KiB of the caller's stack where it was measured, checking a book 4 KiB.
+ * WARNING: a thread with a small stack overflows. Give one that reads lines 256 KiB or more (pthread_attr_setstacksize). With glibc 128 KiB
+ * are too few; its default, the limit on the stack, commonly 8 MiB, is ample. musl's default of 128 KiB leaves a caller 3 KiB. */
 #ifndef VURZHELIK_H
 #define VURZHELIK_H
 
@@ -14,17 +18,50 @@
 extern "C" {
 #endif
 
+/* The version of this header. */
+#define VURZHELIK_VERSION_MAJOR 1
+#define VURZHELIK_VERSION_MINOR 0
+#define VURZHELIK_VERSION_PATCH 0
+#define VURZHELIK_VERSION (10000 * VURZHELIK_VERSION_MAJOR + 100 * VURZHELIK_VERSION_MINOR + VURZHELIK_VERSION_PATCH)
+
+/* How many values hold any answer: n and m, an entry for each of 24 words, a partner for each of 12 simple types a word. */
+#define VURZHELIK_MAX_VALUES 314
+
+/* What the functions return, and what *value holds then. */
+enum vurzhelik_result {
+    VURZHELIK_OK = 0,                /* success                                            see the function */
+    VURZHELIK_BOOK_TOO_LONG = 1,     /* book over 65,535 bytes                             0 */
+    VURZHELIK_CUT_SHORT = 2,         /* head or body of a record cut short                 the record's offset */
+    VURZHELIK_KIND_NOT_LISTED = 3,   /* kind not listed                                    the record's offset */
+    VURZHELIK_BAD_LAYOUT = 4,        /* body not of its kind's layout                      the record's offset */
+    VURZHELIK_UNDECLARED_TYPE = 5,   /* type number not declared by an earlier record      the record's offset */
+    VURZHELIK_EXPONENT_OUTSIDE = 6,  /* exponent outside -8 to 8                           the record's offset */
+    VURZHELIK_NAME_USED = 7,         /* type name used before                              the record's offset */
+    VURZHELIK_SECOND_TARGET = 8,     /* second target                                      the record's offset */
+    VURZHELIK_TOO_MANY_RECORDS = 9,  /* 65th basic type or 1,025th entry                   the record's offset */
+    VURZHELIK_NO_TARGET = 10,        /* book ends without a target                         the book's length */
+    VURZHELIK_BAD_LINE_BYTE = 11,    /* line byte outside 32 to 126                        the byte's offset */
+    VURZHELIK_BAD_WORD = 12,         /* word over 31 bytes, or a 25th word                 the word's offset */
+    VURZHELIK_UNKNOWN_WORD = 13,     /* word without an entry                              the word's offset */
+    VURZHELIK_TOO_MANY_SIMPLES = 14, /* over 512 simple types in all entries of all words  0 */
+    VURZHELIK_NO_READING = 15,       /* no reading                                         0 */
+    VURZHELIK_BUFFER_TOO_SHORT = 16  /* answer buffer too short                            the number of values needed */
+};
+
+/* The version of the library. It belongs to this header where it is VURZHELIK_VERSION. */
+uint32_t vurzhelik_version(void);
+
 /* Checks a book alone.
- * 0: the book is accepted; *types, *entries and *pairs hold its number of basic types, of entries and of pairs p <= q in the closed
- * order, and *value holds 0.
- * 1 to 10: the number of the refusal; *value holds the value returned with it, and the other three are as they were. */
+ * VURZHELIK_OK: the book is accepted; *types, *entries and *pairs hold its number of basic types, of entries and of pairs p <= q in the
+ * closed order, and *value holds 0.
+ * 1 to 10: the book is refused; *value is as listed above, and the other three are as they were. */
 uint32_t vurzhelik_check_book(const uint8_t *book, size_t book_length, uint64_t *value, uint64_t *types, uint64_t *entries,
                               uint64_t *pairs);
 
 /* Reads a line against a book.
- * 0: answer holds the first reading, n, the n entry numbers, m, the m partners, and *value holds how many values that is; those behind
- * them are as they were.
- * 1 to 16: the number of the refusal; *value holds the value returned with it, and answer is as it was. */
+ * VURZHELIK_OK: answer holds the first reading, n, the n entry numbers, m, the m partners, and *value holds how many values that is;
+ * those behind them are as they were.
+ * 1 to 16: book or line is refused; *value is as listed above, and answer is as it was. */
 uint32_t vurzhelik_read_line(const uint8_t *book, size_t book_length, const uint8_t *line, size_t line_length, uint16_t *answer,
                              size_t answer_length, uint64_t *value);
 

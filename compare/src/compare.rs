@@ -2,11 +2,13 @@
 //! they return and what they leave in the answer buffer, and counts the outcomes.
 
 use crate::cases::{self, Case};
+use crate::progress;
 use crate::random::Random;
-use crate::readers::{Counts, Reader, Refusal, INDEPENDENT};
+use crate::readers::{Reader, INDEPENDENT};
+use crate::types::{Counts, Refusal};
 use std::collections::BTreeMap;
 use std::panic::catch_unwind;
-use std::sync::atomic::{AtomicBool, Ordering};
+use std::sync::atomic::{AtomicBool, AtomicU64, Ordering};
 use std::time::{Duration, Instant};
 
 const THREADS: u64 = 2;
@@ -63,7 +65,7 @@ fn outcome(case: &Case, reader: &Reader) -> Outcome {
 pub fn run(cases: u64, seed: u64, readers: &[Reader]) -> bool {
     let start = Instant::now();
     let differ = AtomicBool::new(false);
-    let part = |first: u64| {
+    let part = |first: u64, done: &AtomicU64| {
         let mut tallies = Tallies::new();
         for number in (first..cases).step_by(THREADS as usize) {
             if differ.load(Ordering::Relaxed) {
@@ -80,10 +82,11 @@ pub fn run(cases: u64, seed: u64, readers: &[Reader]) -> bool {
                     print_difference(&case, &expected, reader, other.as_ref());
                 }
             }
+            done.fetch_add(1, Ordering::Relaxed);
         }
         tallies
     };
-    let tallies = in_threads(part);
+    let tallies = progress::shown(cases, |done| in_threads(|first| part(first, done)));
     print_tallies(&tallies, start.elapsed());
     let alike = !differ.into_inner();
     if alike {

@@ -4,7 +4,8 @@
 use crate::books::{
     entry, example_4_3, example_4_4, example_4_5, first_book, record, second_book, Records,
 };
-use crate::readers::{Counts, Reader, Refusal, INDEPENDENT, LIBRARY, TWIN};
+use crate::readers::{Reader, INDEPENDENT, LIBRARY, TWIN};
+use crate::types::{Counts, Refusal};
 
 /// Entry numbers and partners, or a refusal.
 type Outcome = Result<(Vec<u16>, Vec<u16>), Refusal>;

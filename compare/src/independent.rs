@@ -1,7 +1,7 @@
 //! The book check and the line reader of document 01, straight from its
 //! definitions: a second implementation, to be compared with the first.
 
-use crate::readers::{Counts, Refusal};
+use crate::types::{Counts, Refusal};
 
 const MOST_BOOK_BYTES: usize = 65_535;
 const MOST_BASIC_TYPES: usize = 64;
@@ -201,7 +201,7 @@ fn entry_layout(body: &[u8]) -> Option<(&[u8], Vec<SimpleType>)> {
     let word = body.get(1..1 + length)?;
     let rest = &body[1 + length..];
     let word_bytes = word.iter().all(|byte| (33..=126).contains(byte));
-    if !word_bytes || rest.len() % 2 != 0 || rest.len() / 2 > MOST_ENTRY_TYPES {
+    if !word_bytes || !rest.len().is_multiple_of(2) || rest.len() / 2 > MOST_ENTRY_TYPES {
         return None;
     }
     let simple = |bytes: &[u8]| SimpleType {

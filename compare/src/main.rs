@@ -1,6 +1,6 @@
 //! Compares the proved library with an independent reader on random cases, and times it beside a twin in Rust.
 //!
-//! - `compare cases [CASES] [SEED]`: the comparison; it ends with status 1 at the first difference.
+//! - `compare cases [CASES] [SEED]`: the comparison; it ends with status 1 at the first difference. Standard error shows how far it has come.
 //! - `compare bench`: the times.
 //! - `compare once library|twin SAMPLE`: one sample read once, for a tool that counts instructions.
 //! - `compare samples`: the names of the samples.
@@ -14,11 +14,12 @@ mod compare;
 #[cfg(test)]
 mod document_cases;
 mod independent;
-mod library;
+mod progress;
 mod random;
 mod readers;
 mod samples;
 mod twin;
+mod types;
 
 use readers::{LIBRARY, TWIN};
 use std::process::ExitCode;

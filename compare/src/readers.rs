@@ -1,29 +1,35 @@
 //! The readers that are compared: the proved library, an independent one, and the twin of the library's algorithm.
-use crate::{independent, library, twin};
+use crate::types::{Counts, Refusal};
+use crate::{independent, twin};
 
-/// The number of a refusal and the value returned with it.
-pub type Refusal = (u32, u64);
+/// Checks a book alone.
+type CheckBook = fn(&[u8]) -> Result<Counts, Refusal>;
 
-/// What the check of an accepted book returns.
-#[derive(Clone, Copy, Debug, PartialEq, Eq)]
-pub struct Counts {
-    pub types: u64,
-    pub entries: u64,
-    pub pairs: u64,
-}
+/// Reads a line against a book: the number of values written to the answer, or a refusal with the answer untouched.
+type ReadLine = fn(&[u8], &[u8], &mut [u16]) -> Result<u64, Refusal>;
 
-/// A reader by its two entries. Reading a line gives the number of values written to the answer, or a refusal with the answer untouched.
+/// A reader by its two entries.
 #[derive(Clone, Copy)]
 pub struct Reader {
     pub name: &'static str,
-    pub check_book: fn(&[u8]) -> Result<Counts, Refusal>,
-    pub read_line: fn(&[u8], &[u8], &mut [u16]) -> Result<u64, Refusal>,
+    pub check_book: CheckBook,
+    pub read_line: ReadLine,
 }
 
 pub const LIBRARY: Reader = Reader {
     name: "library",
-    check_book: library::check_book,
-    read_line: library::read_line,
+    check_book: |book| match vurzhelik::check_book(book) {
+        Ok(counts) => Ok(Counts {
+            types: counts.types,
+            entries: counts.entries,
+            pairs: counts.pairs,
+        }),
+        Err(refusal) => Err((refusal.number, refusal.value)),
+    },
+    read_line: |book, line, answer| match vurzhelik::read_line(book, line, answer) {
+        Ok(values) => Ok(values as u64),
+        Err(refusal) => Err((refusal.number, refusal.value)),
+    },
 };
 
 pub const INDEPENDENT: Reader = Reader {

@@ -17,7 +17,7 @@ mod reader;
 mod rows;
 mod table;
 
-use crate::readers::{Counts, Refusal};
+use crate::types::{Counts, Refusal};
 use book::BookCheck;
 
 /// Checks a book alone.

@@ -1,14 +1,31 @@
-// The reader for callers in C and other languages: each function is one entry's, with numbers in the place of its enum. A slice is
-// passed as a pointer and a length. What the numbers mean is defined in specs/Calls.
+// The reader for callers in C and other languages: one function for each entry, with numbers in the place of its enum, and one for the
+// version. A slice is passed as a pointer and a length. What the numbers mean is defined in specs/Calls.
 use book::BookCheck;
 use book::check_book;
 use reader::LineAnswer;
 use reader::read_line;
+ghost use mathlib.Core.Path.{_≡_};
 ghost use mathlib.Core.List.{[], _∷_};
 ghost use Rattle.book.specs.Check.{bookCheck, checkReply};
 ghost use Rattle.reader.specs.Outcome.{outcome, Gives};
 ghost use Rattle.reader.specs.Demands.{Promised};
 ghost use Rattle.vurzhelik.specs.Calls.{answerOf, Checks};
+ghost use Rattle.vurzhelik.specs.Version.{version};
+
+// The version of the interface. `specs/Version` has the same numbers for the contract, and `include/vurzhelik.h` for callers.
+const MAJOR: u32 = 1;
+
+const MINOR: u32 = 0;
+
+const PATCH: u32 = 0;
+
+// The version as one number, so that a caller can compare it with its header's.
+#[no_mangle]
+pub extern "C" fn vurzhelik_version() -> u32
+    ensures { λ r. ⌜ r ≡ version ⌝ }
+{
+    10000 * MAJOR + 100 * MINOR + PATCH
+}
 
 // Checks a book alone: any bytes, of any length. 0: `types`, `entries` and `pairs` hold the book's three numbers, and `value` holds 0.
 // Else it is refused: the number of the refusal is returned, `value` holds the value returned with it, and the three are as they were.

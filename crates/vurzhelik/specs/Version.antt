@@ -1,0 +1,14 @@
+-- The version of the interface for C, as one number.
+use Prim.Native.Nat.{ℕ, _+_, _*_}
+
+abbrev pub major : ℕ
+major = 1
+
+abbrev pub minor : ℕ
+minor = 0
+
+abbrev pub patch : ℕ
+patch = 0
+
+abbrev pub version : ℕ
+version = 10000 * major + 100 * minor + patch

@@ -1,0 +1,262 @@
+//! The proved reader of order lines, behind safe functions.
+//!
+//! A *book* gives words their types, and a *line* is read against it: the first reading comes out, or a refusal. Any bytes may stand in
+//! both, of any length. Nothing is kept between calls, so several threads may call at once.
+//!
+//! ```
+//! // One basic type, `o`, the word `go` of that type, and `o` as the target.
+//! let book = b"\x01\0\x01\0o\x05\0\x03\0\x02go\0\0\x01\0\x04\0\0";
+//! let mut answer = [0; vurzhelik::MAX_VALUES];
+//!
+//! let values = vurzhelik::read_line(book, b"go", &mut answer)?;
+//! // One word, of entry 0, and one simple type, which is its own partner.
+//! assert_eq!(answer[..values], [1, 0, 1, 1]);
+//!
+//! let refusal = vurzhelik::read_line(book, b"go home", &mut answer).unwrap_err();
+//! assert_eq!(refusal.number, vurzhelik::refusals::UNKNOWN_WORD);
+//! assert_eq!(refusal.value, 3);
+//! # Ok::<(), vurzhelik::Refusal>(())
+//! ```
+//!
+//! The crate links `target/staticlib/libvurzhelik.a` of the repository that it stands in; `rt staticlib vurzhelik` proves and writes it.
+//! `include/vurzhelik.h` says what its functions ask and give, and how much stack a call takes: the threads of `std` have enough.
+
+use std::fmt;
+
+pub mod refusals;
+
+mod c {
+    extern "C" {
+        pub fn vurzhelik_version() -> u32;
+
+        pub fn vurzhelik_check_book(
+            book: *const u8,
+            book_length: usize,
+            value: *mut u64,
+            types: *mut u64,
+            entries: *mut u64,
+            pairs: *mut u64,
+        ) -> u32;
+
+        pub fn vurzhelik_read_line(
+            book: *const u8,
+            book_length: usize,
+            line: *const u8,
+            line_length: usize,
+            answer: *mut u16,
+            answer_length: usize,
+            value: *mut u64,
+        ) -> u32;
+    }
+}
+
+/// How many values hold any answer: n and m, an entry for each of 24 words, a partner for each of 12 simple types a word.
+pub const MAX_VALUES: usize = 2 + 24 + 24 * 12;
+
+/// What the check of an accepted book returns.
+#[derive(Clone, Copy, Debug, PartialEq, Eq)]
+pub struct Counts {
+    /// The number of basic types.
+    pub types: u64,
+    /// The number of entries.
+    pub entries: u64,
+    /// The number of pairs p ≤ q in the closed order, p ≤ p included.
+    pub pairs: u64,
+}
+
+/// Why a book or a line is refused.
+#[derive(Clone, Copy, Debug, PartialEq, Eq)]
+pub struct Refusal {
+    /// The number of the cause, 1 to 16, as listed in [`refusals`].
+    pub number: u32,
+    /// The value returned with it: an offset, a length, a number of values, or 0.
+    pub value: u64,
+}
+
+impl fmt::Display for Refusal {
+    fn fmt(&self, f: &mut fmt::Formatter<'_>) -> fmt::Result {
+        write!(
+            f,
+            "{} (refusal {}, value {})",
+            refusals::cause(self.number),
+            self.number,
+            self.value
+        )
+    }
+}
+
+impl std::error::Error for Refusal {}
+
+/// The version of the library, 10000 times the major number, 100 times the minor one and the patch.
+pub fn version() -> u32 {
+    // Safety: the function has no parameters and asks nothing.
+    unsafe { c::vurzhelik_version() }
+}
+
+/// Checks a book alone.
+pub fn check_book(book: &[u8]) -> Result<Counts, Refusal> {
+    let mut value = 0;
+    let mut counts = Counts {
+        types: 0,
+        entries: 0,
+        pairs: 0,
+    };
+    // Safety: each pointer is that of a reference or a slice, so it is not null, a slice's is passed with its length, and no two of those
+    // written to overlap.
+    let number = unsafe {
+        c::vurzhelik_check_book(
+            book.as_ptr(),
+            book.len(),
+            &mut value,
+            &mut counts.types,
+            &mut counts.entries,
+            &mut counts.pairs,
+        )
+    };
+    match number {
+        0 => Ok(counts),
+        _ => Err(Refusal { number, value }),
+    }
+}
+
+/// Reads a line against a book. The answer then begins with the first reading: n, the n entry numbers, m, the m partners. What is returned
+/// is how many values that is; those behind them are as they were. A refusal leaves the whole answer as it was.
+pub fn read_line(book: &[u8], line: &[u8], answer: &mut [u16]) -> Result<usize, Refusal> {
+    let mut value = 0;
+    // Safety: as in `check_book`.
+    let number = unsafe {
+        c::vurzhelik_read_line(
+            book.as_ptr(),
+            book.len(),
+            line.as_ptr(),
+            line.len(),
+            answer.as_mut_ptr(),
+            answer.len(),
+            &mut value,
+        )
+    };
+    match number {
+        0 => Ok(value as usize),
+        _ => Err(Refusal { number, value }),
+    }
+}
+
+#[cfg(test)]
+mod tests {
+    use super::*;
+
+    /// Document 01, "A book to try": the first book.
+    const BOOK: &[u8] = include_bytes!("../../crates/reading/data/book.bin");
+
+    fn refused<T>(number: u32, value: u64) -> Result<T, Refusal> {
+        Err(Refusal { number, value })
+    }
+
+    #[test]
+    fn book_is_checked() {
+        let counts = Counts {
+            types: 4,
+            entries: 9,
+            pairs: 5,
+        };
+        assert_eq!(check_book(BOOK), Ok(counts));
+        assert_eq!(check_book(&[]), refused(refusals::NO_TARGET, 0));
+        assert_eq!(
+            check_book(&[0; 65_536]),
+            refused(refusals::BOOK_TOO_LONG, 0)
+        );
+    }
+
+    #[test]
+    fn line_is_read() {
+        let mut answer = [7; MAX_VALUES];
+        assert_eq!(read_line(BOOK, b"fetch bed4 ward7", &mut answer), Ok(10));
+        assert_eq!(answer[..10], [3, 1, 2, 3, 5, 1, 5, 4, 3, 2]);
+        assert!(answer[10..].iter().all(|value| *value == 7));
+    }
+
+    #[test]
+    fn refused_line_leaves_the_answer() {
+        let mut answer = [7; 6];
+        let short = refused(refusals::BUFFER_TOO_SHORT, 7);
+        assert_eq!(read_line(BOOK, b"fetch bed4", &mut answer), short);
+        let none = refused(refusals::NO_READING, 0);
+        assert_eq!(read_line(BOOK, b"admit site", &mut answer), none);
+        assert_eq!(answer, [7; 6]);
+    }
+
+    #[test]
+    fn all_lists_may_be_empty() {
+        let no_target = refused(refusals::NO_TARGET, 0);
+        assert_eq!(read_line(&[], &[], &mut []), no_target);
+        let none = refused(refusals::NO_READING, 0);
+        assert_eq!(read_line(BOOK, &[], &mut []), none);
+    }
+
+    #[test]
+    fn refused_book_leaves_the_counts() {
+        let (mut value, mut types, mut entries, mut pairs) = (7, 8, 9, 10);
+        let book: &[u8] = &[];
+        // Safety: as in `check_book`.
+        let number = unsafe {
+            c::vurzhelik_check_book(
+                book.as_ptr(),
+                0,
+                &mut value,
+                &mut types,
+                &mut entries,
+                &mut pairs,
+            )
+        };
+        assert_eq!((number, value, types, entries, pairs), (10, 0, 8, 9, 10));
+    }
+
+    #[test]
+    fn refusal_is_said_in_words() {
+        let refusal = check_book(&[]).unwrap_err();
+        let text = "book ends without a target (refusal 10, value 0)";
+        assert_eq!(refusal.to_string(), text);
+    }
+
+    /// The number that the header gives a name.
+    fn in_header(name: &str) -> u64 {
+        let header = include_str!("../../include/vurzhelik.h");
+        let number = |line: &str| {
+            let mut words = line.split_whitespace().filter(|word| *word != "=");
+            let named = words.any(|word| word == format!("VURZHELIK_{name}"));
+            let digits = words.next().filter(|_| named)?;
+            digits.trim_end_matches(',').parse().ok()
+        };
+        header.lines().find_map(number).expect(name)
+    }
+
+    #[test]
+    fn refusals_are_those_of_the_source() {
+        let source = include_str!("../../crates/figures/src/refusals.rt");
+        let constants: Vec<&str> = source
+            .lines()
+            .filter(|line| line.starts_with("pub const"))
+            .collect();
+        let listed =
+            refusals::LIST.map(|(number, name, _)| format!("pub const {name}: u32 = {number};"));
+        assert_eq!(constants, listed);
+    }
+
+    #[test]
+    fn header_has_the_same_numbers() {
+        assert_eq!(in_header("OK"), 0);
+        for (number, name, _) in refusals::LIST {
+            assert_eq!(in_header(name), u64::from(number), "{name}");
+        }
+        assert_eq!(in_header("MAX_VALUES"), MAX_VALUES as u64);
+    }
+
+    #[test]
+    fn library_header_and_crate_are_of_one_version() {
+        let parts = ["MAJOR", "MINOR", "PATCH"].map(|part| in_header(&format!("VERSION_{part}")));
+        let [major, minor, patch] = parts;
+        assert_eq!(u64::from(version()), 10_000 * major + 100 * minor + patch);
+        let package = env!("CARGO_PKG_VERSION");
+        assert_eq!(package, format!("{major}.{minor}.{patch}"));
+    }
+}
