@@ -6,6 +6,7 @@ mod text;
 use book::Scan;
 use book::records::scan_book;
 use figures::limits::MAX_ENTRIES;
+use figures::limits::MAX_STRING;
 use figures::limits::MAX_TYPES;
 use figures::limits::MAX_WORDS;
 use line::CheckedLine;
@@ -21,6 +22,9 @@ ghost use Rattle.line.specs.LookUp.{entriesKept};
 ghost use Rattle.listing.specs.Listing.{refusalRow, answerRows, lineRows, listed, listing, Renders};
 ghost use Rattle.listing.specs.Parts.{BookKept, LineKept};
 
+// How many bytes the listing of what `read_line` answers has at most: 11 for its first row, 40 for each word and 27 for each simple type.
+pub const MAX_LISTING: usize = 11 + 40 * MAX_WORDS + 27 * MAX_STRING;
+
 // What rendering a listing gives. `Written`: the buffer holds the listing, of so many bytes, and those behind it are as they were.
 // `TooShort`: the listing takes so many bytes, and the buffer is as it was.
 pub enum Rendered {
@@ -34,12 +38,12 @@ fn render_refusal(number: u32, value: usize, text: &mut [u8]) -> Rendered
 {
     let number = number as usize;
     let mut nothing = [0u8; 0];
-    let needed = put_head_row(b"no", number, value, &mut nothing, 0);
-    if text.len() < needed {
-        return Rendered::TooShort { needed };
+    let bytes = put_head_row(b"no", number, value, &mut nothing, 0);
+    if text.len() < bytes {
+        return Rendered::TooShort { needed: bytes };
     }
     put_head_row(b"no", number, value, text, 0);
-    Rendered::Written { bytes: needed }
+    Rendered::Written { bytes }
 }
 
 // Renders the rows of an answer's values, for a book and a line that are kept.

@@ -1,24 +1,27 @@
 // Reads one order line from standard input against the book in the file `book.bin`, and lists its reading or says why there is none.
 mod input;
-mod listing;
 
-use figures::limits::MAX_STRING;
-use figures::limits::MAX_WORDS;
 use input::LINE_ROOM;
 use input::MAX_LINE;
 use libc::STDOUT_FILENO;
-use reader::LineAnswer;
+use listing::MAX_LISTING;
+use listing::Rendered;
+use listing::render;
+use reader::read_line;
 
-// How many values are lent: the longest answer has two counts, an entry for each word and a partner for each simple type.
-const VALUES: usize = 2 + MAX_WORDS + MAX_STRING;
+// How many values are lent for an answer.
+const VALUES: usize = 512;
 
 // Reads a line against a book, and writes the listing of its reading or the row of its refusal.
 fn answer_line(book: &[u8], line: &[u8]) {
-    let mut answer = [0u16; VALUES];
-    match reader::read_line(book, line, &mut answer) {
-        LineAnswer::Read { values: _ } => listing::list(book, &answer),
-        LineAnswer::Refused { number, value } => listing::refuse(number, value),
-    }
+    let mut values = [0u16; VALUES];
+    let answer = read_line(book, line, &mut values);
+    let mut text = [0u8; MAX_LISTING];
+    let rendered = render(book, line, answer, &values, &mut text);
+    let Rendered::Written { bytes } = rendered else {
+        return;
+    };
+    io::write_all(STDOUT_FILENO, &text[0..bytes]);
 }
 
 fn main() {

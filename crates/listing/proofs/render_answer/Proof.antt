@@ -1,6 +1,7 @@
 -- `listing::render_answer` meets its contract: a book is scanned, or its refusal is rendered.
 use borrow.Author.Needs.{needs}
 use native.Mathlib.Omega.{arith}
+use Rattle.book.specs.Kept.{store}
 use Rattle.book.proofs.Checking.{no-pairs}
 use Rattle.listing.proofs.Rendering.{book-refused, opened-kept, book-opened}
 use Rattle.listing.proofs.render_answer.Statement.{statement}
@@ -36,7 +37,8 @@ slice-aggregate-render-line-2 c = search needs
 render-line-requires : tie.Need-render-line-requires
 render-line-requires c κs =
     let o = rw (c .before .before .before .before .scan2 .given .1) at (c .before .before .before .before .before .before .before .before .before .scan-book .ensures) in
-    opened-kept _ _ _ _ _ (o .0) (o .1)
+    let m = c .before .before .before .before .before .before .before .before .before .scan-book .last .1 in
+    opened-kept _ (store (m .0) (m .1 .0) (m .1 .1 .0)) _ _ _ (o .0) (o .1)
 
 same-length : tie.Need-same-length
 same-length c = search needs
@@ -53,7 +55,8 @@ returns-2 : tie.Need-returns-2
 returns-2 c =
     let a = c .before .before .before .before .before .before .before .before .before .before .before .before .before .before .before .before .before .before .before .before .args in
     let o = rw (c .before .before .before .before .before .before .before .scan2 .given .1) at (c .before .before .before .before .before .before .before .before .before .before .before .before .scan-book .ensures) in
-    rw (← book-opened _ _ _ _ _ (o .0) (o .1) (a .line .now) (a .values .now)) (c .before .before .render-line .ensures)
+    let m = c .before .before .before .before .before .before .before .before .before .before .before .before .scan-book .last .1 in
+    rw (← book-opened _ (store (m .0) (m .1 .0) (m .1 .1 .0)) _ _ _ (o .0) (o .1) (a .line .now) (a .values .now)) (c .before .before .render-line .ensures)
 
 pub render-answer-spec : {M : Type 1} → statement M
 render-answer-spec =
