@@ -68,6 +68,8 @@ words-known B (w ∷ words) h = go (entriesOf B w) (λ k. words-known B words k)
 
 -- What a line that passes comes to.
 pub record Passing (B : Book) (line : Bytes) (words : Words) : Type 0 where
+  pub bytes-fine : byteFault 0 line ≡ none
+  pub words-fine : wordFault 0 (wordsOf line) ≡ none
   pub words-are : words ≡ entriesOfLine B line
   pub known-words : AllKnown words
   pub ascending : AllAscending words
@@ -92,6 +94,8 @@ line-passing B line words h =
     let each = past unknownWord (entryFault B (wordsOf line)) full (cut .1) in
     let fits = last-test (ltb maxLineSimples (simplesOfWords ws)) ws words (each .1) in
     record {
+      bytes-fine = in-range .0;
+      words-fine = cut .0;
       words-are = fits .1;
       known-words = subst AllKnown (sym (fits .1)) (words-known B (wordsOf line) (each .0));
       ascending = subst AllAscending (sym (fits .1)) (words-ascend B (wordsOf line));

@@ -5,4 +5,5 @@ pub mod PartLaws
 pub mod RowLaws
 pub mod Bounds
 pub mod Rendering
+pub mod Answers
 pub mod Examples

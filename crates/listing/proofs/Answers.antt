@@ -1,0 +1,123 @@
+-- What `read_line` answers is listed whole: a row for each word, with its entry, and a row for each simple type of the reading's choice, with its
+-- partner. Nothing of what `listing` says of other values is needed for it.
+use Prim.Native.Nat.{ℕ, zero, suc, _+_, _-_, _≤_}
+use native.Mathlib.Numerals.{add-one}
+use native.Mathlib.Omega.{arith}
+use mathlib.Core.Path.{_≡_, refl, sym, ap, subst, _∙_}
+use mathlib.Core.Logic.{_⊎_, ⊎-elim}
+use mathlib.Core.Bool.{Bool, true, false, cond}
+use mathlib.Core.List.{List, [], _∷_, _++_, map, List·Memᴰ, List·Memᴰ·not-nil, List·Memᴰ·cases-cons}
+use lib.ListN.{length, getD, take, drop, length-map}
+use lib.Seq.{take-append-seam, drop-append-seam, drop-append-add, getD-append-seam, take-length}
+use Rattle.pregroup.specs.Types.{PregroupType}
+use Rattle.linking.specs.Reading.{NumberedEntry, Words, Choice, empty, IsFirst}
+use Rattle.linking.specs.Reading.{take as chosen-entry}
+use Rattle.book.specs.Format.{Bytes, Entry, Book}
+use Rattle.line.specs.LineWords.{Word, wordsOf}
+use Rattle.line.specs.LineFaults.{sameWord, entriesFrom, entriesOf, entriesOfLine}
+use Rattle.line.proofs.Passed.{line-passing}
+use Rattle.reader.specs.declared.LineAnswer.the-variants.{Read}
+use Rattle.reader.specs.Outcome.{valuesOf}
+use Rattle.reader.specs.Demands.{OrderOf, Readable, Promised}
+use Rattle.listing.specs.Listing.{typeOf, joined, readingRows, counted, answerRows, listing}
+
+-- An entry of a word, by its number: n entries stand before these.
+abbrev Typed : ℕ → List Entry → NumberedEntry → Type 0
+Typed n entries f = (n ≤ f .number) × (typeOf entries (f .number - n) ≡ f .type)
+
+typed-later : (n : ℕ) (e : Entry) (entries : List Entry) (f : NumberedEntry) → Typed (n + 1) entries f → Typed n (e ∷ entries) f
+typed-later n e entries f t =
+    let behind : f .number - n ≡ suc (f .number - (n + 1)) = omega (arith, t .0) in
+    (omega (arith, t .0), ap (typeOf (e ∷ entries)) behind ∙ t .1)
+
+entries-typed : (n : ℕ) (entries : List Entry) (word : Bytes) (f : NumberedEntry) → List·Memᴰ f (entriesFrom n entries word) → Typed n entries f
+unfolding entriesFrom
+entries-typed n [] word f m = absurd (List·Memᴰ·not-nil m)
+entries-typed n (e ∷ entries) word f m = go (sameWord (e .word) word) (λ k. typed-later n e entries f (entries-typed (n + 1) entries word f k)) m
+  where
+    first : NumberedEntry
+    first = record { number = n; type = e .type }
+
+    rest : List NumberedEntry
+    rest = entriesFrom (n + 1) entries word
+
+    here : f ≡ first → Typed n (e ∷ entries) f
+    here q =
+        let none-before : f .number - n ≡ 0 = omega (arith, ap (λ (x : NumberedEntry). x .number) q) in
+        (omega (arith, ap (λ (x : NumberedEntry). x .number) q), ap (typeOf (e ∷ entries)) none-before ∙ sym (ap (λ (x : NumberedEntry). x .type) q))
+
+    go : (b : Bool) → (List·Memᴰ f rest → Typed n (e ∷ entries) f) → List·Memᴰ f (cond b (first ∷ rest) rest) → Typed n (e ∷ entries) f
+    go true later k = ⊎-elim here later (List·Memᴰ·cases-cons k)
+    go false later k = later k
+
+module _ (B : Book) where
+  -- The types of a choice's entries, joined, are its type; and it has an entry for each word.
+  choice-joined : {words : Words} {ns : List ℕ} {X : PregroupType} → Choice words ns X → (typed : List Word) → words ≡ map (entriesOf B) typed
+      → (joined (B .entries) ns ≡ X) × (length ns ≡ length typed)
+  unfolding joined
+  choice-joined empty [] e = (refl, refl)
+  choice-joined empty (w ∷ typed) e = let z : _≡_ {A = ℕ} 0 1 = cc in absurd (omega arith)
+  choice-joined (chosen-entry m c) [] e = let z : _≡_ {A = ℕ} 0 1 = cc in absurd (omega arith)
+  choice-joined (chosen-entry {e = f} {es} {rest} {ns} {X} m c) (w ∷ typed) e =
+      let here : es ≡ entriesOf B w = cc in
+      let behind : rest ≡ map (entriesOf B) typed = cc in
+      let t = entries-typed 0 (B .entries) (w .bytes) f (rw here at m) in
+      let number : f .number - 0 ≡ f .number = omega arith in
+      let r = choice-joined c typed behind in
+      (rw (← number, t .1, r .0), omega (arith, r .1))
+
+-- The parts of an answer's values are its entry numbers and its partners.
+module _ (entries partners : List ℕ) where
+  entries-counted : counted (valuesOf (entries, partners)) 0 ≡ entries
+  entries-counted = take-append-seam entries (length partners ∷ partners)
+
+  partners-counted : counted (valuesOf (entries, partners)) (suc (length entries)) ≡ partners
+  partners-counted =
+      let values = entries ++ (length partners ∷ partners) in
+      let behind = ap (λ (n : ℕ). drop n values) (sym (add-one (length entries))) ∙ drop-append-add entries (length partners ∷ partners) 1 in
+      rw (getD-append-seam entries (length partners) partners 0) (ap (take (length partners)) behind ∙ take-length partners)
+
+  answer-rows : (names : List Bytes) (of-book : List Entry) (words : List Word)
+      → answerRows names of-book words (valuesOf (entries, partners)) ≡ readingRows names of-book words entries partners
+  answer-rows names of-book words = rw (entries-counted, partners-counted)
+
+-- The listing of a reading.
+pub record ListsReading (book line text : Bytes) : Type 0 where
+  pub contents : Book
+  pub words : Words
+  pub entries : List ℕ
+  pub partners : List ℕ
+  pub type : PregroupType
+  -- It is the first reading of the line, by this choice.
+  pub readable : Readable book line contents words
+  pub first : IsFirst (OrderOf contents) (contents .target) words entries partners
+  pub chosen : Choice words entries type
+  -- Each word has an entry, each simple type a partner, and the simple types are those of the entries.
+  pub entry-each : length entries ≡ length (wordsOf line)
+  pub partner-each : length partners ≡ length type
+  pub joins : joined (contents .entries) entries ≡ type
+  pub rows : text ≡ readingRows (contents .names) (contents .entries) (wordsOf line) entries partners
+
+-- What is promised of an answer makes its listing that of the first reading.
+pub answer-listed : (book line : Bytes) (buffer after : List ℕ) (n : ℕ) → Promised book line buffer (Read n) after → ListsReading book line (listing book line (Read n) after)
+answer-listed book line buffer after n p =
+    let a = p .answered refl in
+    let B = a .0 in
+    let w = a .3 in
+    let passes = line-passing B line (a .1) (a .2 .line-passed) in
+    let reading = w .first .reading in
+    let each = choice-joined B (reading .chosen) (wordsOf line) (passes .words-are) in
+    record {
+      contents = B;
+      words = a .1;
+      entries = w .entries;
+      partners = w .partners;
+      type = reading .type;
+      readable = a .2;
+      first = w .first;
+      chosen = reading .chosen;
+      entry-each = each .1;
+      partner-each = reading .linking .count;
+      joins = each .0;
+      rows = rw (a .2 .book-accepted, passes .bytes-fine, passes .words-fine, w .whole) (answer-rows (w .entries) (w .partners) (B .names) (B .entries) (wordsOf line));
+    }
