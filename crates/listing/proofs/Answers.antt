@@ -1,20 +1,20 @@
 -- What `read_line` answers is listed whole: a row for each word, with its entry, and a row for each simple type of the reading's choice, with its
 -- partner. Nothing of what `listing` says of other values is needed for it.
-use Prim.Native.Nat.{ℕ, zero, suc, _+_, _-_, _≤_}
+use Prim.Native.Nat.{ℕ, suc, _+_, _-_, _≤_}
 use native.Mathlib.Numerals.{add-one}
 use native.Mathlib.Omega.{arith}
-use mathlib.Core.Path.{_≡_, refl, sym, ap, subst, _∙_}
+use mathlib.Core.Path.{_≡_, refl, sym, ap, _∙_}
 use mathlib.Core.Logic.{_⊎_, ⊎-elim}
 use mathlib.Core.Bool.{Bool, true, false, cond}
 use mathlib.Core.List.{List, [], _∷_, _++_, map, List·Memᴰ, List·Memᴰ·not-nil, List·Memᴰ·cases-cons}
-use lib.ListN.{length, getD, take, drop, length-map}
-use lib.Seq.{take-append-seam, drop-append-seam, drop-append-add, getD-append-seam, take-length}
+use lib.ListN.{length, take, drop}
+use lib.Seq.{take-append-seam, drop-append-add, getD-append-seam, take-length}
 use Rattle.pregroup.specs.Types.{PregroupType}
 use Rattle.linking.specs.Reading.{NumberedEntry, Words, Choice, empty, IsFirst}
 use Rattle.linking.specs.Reading.{take as chosen-entry}
 use Rattle.book.specs.Format.{Bytes, Entry, Book}
 use Rattle.line.specs.LineWords.{Word, wordsOf}
-use Rattle.line.specs.LineFaults.{sameWord, entriesFrom, entriesOf, entriesOfLine}
+use Rattle.line.specs.LineFaults.{sameWord, entriesFrom, entriesOf}
 use Rattle.line.proofs.Passed.{line-passing}
 use Rattle.reader.specs.declared.LineAnswer.the-variants.{Read}
 use Rattle.reader.specs.Outcome.{valuesOf}

@@ -1,6 +1,6 @@
 -- A row is put field by field: the first with the space behind it, and then the row of the others.
 use Prim.Native.Nat.{ℕ}
-use mathlib.Core.Path.{_≡_, refl, sym}
+use mathlib.Core.Path.{_≡_, sym}
 use mathlib.Core.List.{List, [], _∷_, _++_, append-assoc}
 use Rattle.book.specs.Format.{Bytes}
 use Rattle.listing.specs.Text.{row}

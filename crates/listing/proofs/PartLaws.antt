@@ -3,16 +3,15 @@ use Prim.Native.Nat.{ℕ, zero, suc, _+_, _-_, _≤_, _<_}
 use native.Mathlib.Numerals.{add-one}
 use native.Mathlib.Omega.{arith}
 use mathlib.Core.Path.{_≡_, refl, sym, ap, _∙_}
-use mathlib.Core.Bool.{true}
-use mathlib.Core.List.{List, [], _∷_, map}
+use mathlib.Core.List.{List, [], _∷_}
 use lib.ListN.{length, getD, take, drop, length-map, length-drop, List·getD-map, List·getD-eq-default, drop-of-length-le}
 use lib.Seq.{take-all, take-nil}
-use Rattle.book.specs.Format.{Bytes, Entry, bodyAt, typePart, entryOf, isEntry, simplesOf}
+use Rattle.book.specs.Format.{Bytes, Entry, bodyAt, typePart, entryOf, simplesOf}
 use Rattle.book.specs.Kept.{Whole, bodiesAt}
 use Rattle.book.proofs.Names.{bodies-length, bodies-at}
 use Rattle.book.proofs.Layouts.{entry-shape}
 use Rattle.line.specs.LookUp.{Entries, entriesKept}
-use Rattle.listing.specs.Listing.{typeOf, counted}
+use Rattle.listing.specs.Listing.{counted}
 use Rattle.listing.specs.Parts.{HasType}
 
 -- What is there does not depend on what counts where nothing is there.

@@ -3,21 +3,16 @@
 use Prim.Native.Nat.{ℕ, suc, _+_, _≤_, _<_}
 use native.Mathlib.Omega.{arith}
 use mathlib.Core.Path.{_≡_, refl, sym, ap, _∙_}
-use mathlib.Core.List.{List, [], _∷_, _++_, append-assoc}
+use mathlib.Core.List.{[], _∷_, _++_}
 use native.Mathlib.Numerals.{add-one}
-use lib.ListN.{length, drop, getD, set, length-append, length-drop, length-set, drop-of-length-le}
-use lib.Seq.{sets, sets-eq, length-sets, set-out, drop-cons}
+use lib.ListN.{length, drop, getD, set, length-append, drop-of-length-le}
+use lib.Seq.{sets, length-sets, drop-cons}
 use Rattle.book.specs.Format.{Bytes}
-use Rattle.listing.specs.Placed.{placeBound, Countable, Placed}
+use Rattle.listing.specs.Placed.{Countable, Placed}
 
 pub sets-append : (xs ys l : Bytes) (i j : ℕ) → j ≡ i + length xs → sets l i (xs ++ ys) ≡ sets (sets l i xs) j ys
 sets-append [] ys l i j e = let same : j ≡ i = omega arith in rw same
 sets-append (a ∷ xs) ys l i j e = sets-append xs ys (set l i a) (suc i) j (omega arith)
-
--- A buffer without room only counts.
-pub sets-nowhere : (xs l : Bytes) (i : ℕ) → length l ≤ i → sets l i xs ≡ l
-sets-nowhere [] l i h = refl
-sets-nowhere (a ∷ xs) l i h = rw (set-out l i a h) (sets-nowhere xs l (suc i) (omega arith))
 
 pub placed-append : {text after later : Bytes} {at behind last : ℕ} (xs ys : Bytes) → Placed text at xs after behind → Placed after behind ys later last → Placed text at (xs ++ ys) later last
 placed-append {text} {after} {later} {at} {behind} {last} xs ys p q =
@@ -69,8 +64,3 @@ module _ {text : Bytes} {at : ℕ} {whole : Bytes} where
   -- The last of them is put.
   pub going-end : {now : Bytes} {place : ℕ} (bytes : Bytes) (i : ℕ) → length bytes ≤ i → Going text at whole now place (drop i bytes) → Placed text at whole now place
   going-end bytes i h g = going-done (rw (drop-of-length-le bytes h) at g)
-
-  -- A field and the byte that closes it, where a row goes on behind them.
-  pub going-field : {now : Bytes} {place : ℕ} (field : Bytes) (close : ℕ) (rest : Bytes)
-      → Going text at whole now place (field ++ (close ∷ rest)) → Going text at whole now place ((field ++ (close ∷ [])) ++ rest)
-  going-field field close rest g = rw append-assoc g

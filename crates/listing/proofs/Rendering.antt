@@ -1,19 +1,17 @@
 -- Rendering: a piece that was counted is written if there is room for it; and the listing by its cases: book, line and values.
-use Prim.Native.Nat.{ℕ, suc, _+_, _≤_, _<_}
+use Prim.Native.Nat.{ℕ, _+_, _≤_, _<_}
 use native.Mathlib.Numerals.{add-one}
 use native.Mathlib.Omega.{arith}
-use mathlib.Core.Path.{_≡_, refl, sym, ap, _∙_}
-use mathlib.Core.List.{List, [], _∷_, _++_, map}
-use mathlib.Core.Option.{none, some}
-use lib.ListN.{length, getD, take, drop, length-take}
-use lib.Seq.{sets, sets-eq, take-all}
-use Rattle.book.specs.Format.{Bytes, Entry, Book, accepted, refused, parse, entryOf}
+use mathlib.Core.Path.{_≡_, refl, ap, _∙_}
+use mathlib.Core.List.{List, _++_}
+use lib.ListN.{length, drop}
+use lib.Seq.{sets-eq}
+use Rattle.book.specs.Format.{Bytes, Entry, Book, refused, parse}
 use Rattle.book.specs.Kept.{Store, Opened, bodiesAt}
 use Rattle.line.specs.LineWords.{Word, wordsOf}
-use Rattle.line.specs.LineFaults.{byteFault, wordFault}
 use Rattle.line.specs.LookUp.{entriesKept}
 use Rattle.line.specs.Split.{SplitInto, Stopped, at-byte, at-word}
-use Rattle.listing.specs.Listing.{refusalRow, readingRows, counted, answerRows, lineRows, parsedRows, listed, Renders}
+use Rattle.listing.specs.Listing.{refusalRow, readingRows, counted, answerRows, lineRows, listed, Renders}
 use Rattle.listing.specs.declared.Rendered.the-variants.{Written, TooShort}
 use Rattle.listing.specs.Placed.{Placed}
 use Rattle.listing.specs.Parts.{BookKept}

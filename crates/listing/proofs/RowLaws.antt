@@ -1,8 +1,8 @@
 -- The rows of words, of an entry's simple types and of the entries, from one on and then the rest, as the loops put them.
-use Prim.Native.Nat.{ℕ, suc, _+_, _*_, _/_, _%_, _≤_, _<_}
+use Prim.Native.Nat.{ℕ, suc, _+_, _/_, _≤_, _<_}
 use native.Mathlib.Numerals.{add-one}
 use native.Mathlib.Omega.{arith}
-use mathlib.Core.Path.{_≡_, refl, sym, ap, _∙_}
+use mathlib.Core.Path.{_≡_, sym, ap, _∙_}
 use mathlib.Core.List.{List, [], _∷_, _++_, append-assoc}
 use lib.IntN.{ℤ}
 use lib.ListN.{length, getD, drop, length-append, drop-of-length-le}
@@ -10,7 +10,7 @@ use lib.Seq.{drop-cons}
 use Rattle.pregroup.specs.Types.{PregroupType}
 use Rattle.book.specs.Format.{Bytes, Entry, exponentOf, simplesOf}
 use Rattle.book.proofs.Simples.{simples-step}
-use Rattle.line.specs.LineWords.{Word, wordsOf}
+use Rattle.line.specs.LineWords.{wordsOf}
 use Rattle.line.specs.Split.{wordAt, SplitInto}
 use Rattle.line.proofs.LineLaws.{words-at, none-left}
 use Rattle.line.proofs.LookUpLaws.{simples-length}

@@ -1,6 +1,6 @@
 -- `listing::rows::put_simple_rows` meets its contract: what is left to put are the rows of the simple types from byte j on.
 use native.Mathlib.Omega.{arith}
-use Prim.Native.Nat.{_+_, _-_, _%_, _≤_}
+use Prim.Native.Nat.{_-_, _%_, _≤_}
 use mathlib.Core.Path.{_≡_, refl}
 use lib.ListN.{length, drop}
 use Rattle.book.specs.Format.{simplesOf}

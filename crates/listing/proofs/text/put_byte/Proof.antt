@@ -1,6 +1,5 @@
 -- `listing::text::put_byte` meets its contract: a byte behind the buffer's end is set nowhere.
 use borrow.Author.Needs.{needs}
-use native.Mathlib.Omega.{arith}
 use mathlib.Core.Path.{refl, sym}
 use lib.Seq.{set-out}
 use Rattle.listing.proofs.text.put_byte.Statement.{statement}
