@@ -1,11 +1,13 @@
--- The decimal of a number: its last digit alone, or that of its tenth and then its last digit. Numbers below a power of ten have no more digits
--- than its exponent.
-use Prim.Native.Nat.{ℕ, zero, suc, _+_, _-_, _/_, _%_, _^_, _≤_, _<_}
+-- The decimal of a number: its last digit alone, or that of its tenth and then its last digit. A decimal spells its number and has no 0 in front of
+-- it; how many digits it has at most.
+use Prim.Native.Nat.{ℕ, zero, suc, _+_, _-_, _*_, _/_, _%_, _^_, _≤_, _<_}
 use native.Mathlib.Omega.{arith}
-use mathlib.Core.Path.{_≡_, sym, ap, _∙_}
+use mathlib.Core.Path.{_≡_, refl, sym, ap, _∙_}
 use mathlib.Core.Logic.{_⊎_, inl, inr}
+use mathlib.Core.Bool.{cond}
 use mathlib.Core.List.{[], _∷_, _++_}
-use lib.ListN.{length, length-append}
+use lib.Dec.{ltb}
+use lib.ListN.{length, getD, length-append, List·getD-append}
 use borrow.Author.Tests.{lt-ltb, le-ltb}
 use Rattle.bits.proofs.Cases.{less-or-not}
 use Rattle.book.specs.Format.{Bytes, exponentOf}
@@ -64,3 +66,47 @@ exponent-plain byte h = rw (lt-ltb byte 128 h)
 pub exponent-minus : (byte : ℕ) → 128 ≤ byte → byte < 256 → signed (exponentOf byte) ≡ 45 ∷ decimal (256 - byte)
 unfolding exponentOf
 exponent-minus byte h small = let e : suc (255 - byte) ≡ 256 - byte = omega arith in rw (le-ltb byte 128 h, e)
+
+-- A decimal read digit by digit, as a number that goes on from n.
+unfoldable pub spelt : ℕ → Bytes → ℕ
+spelt n [] = n
+spelt n (digit ∷ digits) = spelt (10 * n + (digit - 48)) digits
+
+spelt-append : (n : ℕ) (xs ys : Bytes) → spelt n (xs ++ ys) ≡ spelt (spelt n xs) ys
+unfolding spelt
+spelt-append n [] ys = refl
+spelt-append n (x ∷ xs) ys = spelt-append (10 * n + (x - 48)) xs ys
+
+-- A decimal spells its number ..
+last-digits-spell : (most n : ℕ) → n < most → spelt 0 (lastDigits most n) ≡ n
+unfolding spelt
+last-digits-spell zero n h = absurd (omega arith)
+last-digits-spell (suc most) n h = by (λ big. last-digits-spell most (n / 10) (omega arith)) (less-or-not n 10)
+  where
+    by : (10 ≤ n → spelt 0 (lastDigits most (n / 10)) ≡ n / 10) → (n < 10) ⊎ (10 ≤ n) → spelt 0 (lastDigits (suc most) n) ≡ n
+    by front (inl small) = rw (last-digits-small most n small) (omega arith)
+    by front (inr big) =
+        rw (last-digits-more most n big, spelt-append 0 (lastDigits most (n / 10)) ((48 + n % 10) ∷ []), front big) (omega arith)
+
+pub decimal-spells : (n : ℕ) → spelt 0 (decimal n) ≡ n
+decimal-spells n = last-digits-spell (suc n) n (omega arith)
+
+-- .. and begins with 0 only where that is 0.
+last-digits-some : (most n : ℕ) → n < most → 1 ≤ length (lastDigits most n)
+unfolding lastDigits
+last-digits-some zero n h = absurd (omega arith)
+last-digits-some (suc most) n h = omega (arith, length-append (cond (ltb n 10) [] (lastDigits most (n / 10))) ((48 + n % 10) ∷ []))
+
+last-digits-first : (most n : ℕ) → n < most → getD {A = ℕ} (lastDigits most n) 0 0 ≡ 48 → n ≡ 0
+last-digits-first zero n h e = absurd (omega arith)
+last-digits-first (suc most) n h e = by (λ big k. last-digits-first most (n / 10) (omega arith) k) (less-or-not n 10)
+  where
+    by : (10 ≤ n → getD {A = ℕ} (lastDigits most (n / 10)) 0 0 ≡ 48 → n / 10 ≡ 0) → (n < 10) ⊎ (10 ≤ n) → n ≡ 0
+    by front (inl small) = let first = rw (last-digits-small most n small) at e in omega arith
+    by front (inr big) =
+        let some-digits : 0 < length (lastDigits most (n / 10)) = last-digits-some most (n / 10) (omega arith) in
+        let first = rw (last-digits-more most n big, List·getD-append (lastDigits most (n / 10)) ((48 + n % 10) ∷ []) 0 0 some-digits) at e in
+        omega (arith, front big first)
+
+pub decimal-first : (n : ℕ) → getD {A = ℕ} (decimal n) 0 0 ≡ 48 → n ≡ 0
+decimal-first n e = last-digits-first (suc n) n (omega arith) e

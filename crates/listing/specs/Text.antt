@@ -12,7 +12,8 @@ unfoldable pub lastDigits : ℕ → ℕ → Bytes
 lastDigits zero n = []
 lastDigits (suc more) n = cond (ltb n 10) [] (lastDigits more (n / 10)) ++ ((48 + n % 10) ∷ [])
 
--- A number as a decimal. It has no more digits than its value and one.
+-- A number as a decimal, which has no more digits than its value and one. That it spells the number, with no 0 in front, is `decimal-spells` and
+-- `decimal-first` in proofs/Decimals.
 abbrev pub decimal : ℕ → Bytes
 decimal n = lastDigits (suc n) n
 
