@@ -52,15 +52,15 @@ enum vurzhelik_result {
 uint32_t vurzhelik_version(void);
 
 /* Checks a book alone.
- * VURZHELIK_OK: the book is accepted; *types, *entries and *pairs hold its number of basic types, of entries and of pairs p <= q in the
- * closed order, and *value holds 0.
+ * VURZHELIK_OK: the book is accepted; *types and *entries hold how many basic types and entries it has, *pairs how many pairs p <= q its
+ * order holds, each type with itself included, and *value holds 0.
  * 1 to 10: the book is refused; *value is as listed above, and the other three are as they were. */
 uint32_t vurzhelik_check_book(const uint8_t *book, size_t book_length, uint64_t *value, uint64_t *types, uint64_t *entries,
                               uint64_t *pairs);
 
 /* Reads a line against a book.
- * VURZHELIK_OK: answer holds the first reading, n, the n entry numbers, m, the m partners, and *value holds how many values that is;
- * those behind them are as they were.
+ * VURZHELIK_OK: answer holds the first reading: the number of words, the entry number of each, the number of simple types, the partner of
+ * each. *value holds how many values that is; those behind them are as they were.
  * 1 to 16: book or line is refused; *value is as listed above, and answer is as it was. */
 uint32_t vurzhelik_read_line(const uint8_t *book, size_t book_length, const uint8_t *line, size_t line_length, uint16_t *answer,
                              size_t answer_length, uint64_t *value);
