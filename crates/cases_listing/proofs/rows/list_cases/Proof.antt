@@ -1,0 +1,71 @@
+-- `list_cases` is safe and ends: a case starts at most where the index stands, and the index at most at the end of the text. Assumes nothing.
+use Prim.Native.Nat.{_≤_, _-_}
+use lib.ListN.{length}
+use native.Mathlib.Omega.{arith}
+use Rattle.cases_listing.proofs.rows.list_cases.Statement.{statement}
+use Rattle.cases_listing.proofs.rows.list_cases.Tie as tie
+
+abbrev Inv-loop : tie.InvT-loop
+Inv-loop book cases from₀ i₀ from i = from ≤ i × i ≤ length cases
+
+abbrev μ-loop : tie.MeasureT-loop
+μ-loop book cases from₀ i₀ from i = length cases - i
+
+loop-holds : tie.Need-loop-holds Inv-loop μ-loop
+loop-holds c = omega arith
+
+shared-slice-read-if1 : tie.Need-shared-slice-read-if1 Inv-loop μ-loop
+shared-slice-read-if1 c = omega arith
+
+sub-list-case : tie.Need-sub-list-case Inv-loop μ-loop
+sub-list-case c = omega arith
+
+part-list-case-start : tie.Need-part-list-case-start Inv-loop μ-loop
+part-list-case-start c = omega arith
+
+part-list-case-end : tie.Need-part-list-case-end Inv-loop μ-loop
+part-list-case-end c = omega arith
+
+list-case-requires : tie.Need-list-case-requires Inv-loop μ-loop
+list-case-requires c κs = omega arith
+
+add-i : tie.Need-add-i Inv-loop μ-loop
+add-i c = omega arith
+
+loop-less : tie.Need-loop-less Inv-loop μ-loop
+loop-less c = omega arith
+
+loop-again : tie.Need-loop-again Inv-loop μ-loop
+loop-again c = omega arith
+
+add-i-2 : tie.Need-add-i-2 Inv-loop μ-loop
+add-i-2 c = omega arith
+
+loop-less-2 : tie.Need-loop-less-2 Inv-loop μ-loop
+loop-less-2 c = omega arith
+
+loop-again-2 : tie.Need-loop-again-2 Inv-loop μ-loop
+loop-again-2 c = omega arith
+
+returns : tie.Need-returns Inv-loop μ-loop
+returns c = omega arith
+
+pub list-cases-spec : {M : Type 1} → statement M
+list-cases-spec =
+    tie.close
+    (tie.spec
+    Inv-loop
+    μ-loop
+    loop-holds
+    shared-slice-read-if1
+    sub-list-case
+    part-list-case-start
+    part-list-case-end
+    list-case-requires
+    add-i
+    loop-less
+    loop-again
+    add-i-2
+    loop-less-2
+    loop-again-2
+    returns)

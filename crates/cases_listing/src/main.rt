@@ -1,0 +1,17 @@
+// Listings of lines read against books: for each case a row with its name and what rendering gave, and behind it the listing.
+mod given;
+mod limits;
+mod longest;
+mod paper;
+mod rooms;
+mod rows;
+mod words;
+
+fn main() {
+    let mut space = [0u8; cases::buffer::ROOM];
+    limits::rows(&mut space);
+    paper::rows(&mut space);
+    words::rows(&mut space);
+    longest::rows(&mut space);
+    given::rows(&mut space);
+}

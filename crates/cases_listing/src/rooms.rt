@@ -1,0 +1,59 @@
+// One listing in buffers of every length, with a row for each: a label and the length, what rendering gave, and the bytes of the buffer and
+// of what stands behind it.
+use crate::rows::VALUES;
+use crate::rows::counted;
+use crate::rows::outcome;
+
+// The longest buffer that is lent.
+const LAST: usize = 24;
+
+// How many bytes a row shows.
+const SHOWN: usize = 28;
+
+// What stands in each byte before a listing is rendered.
+const MARK: u8 = b'.';
+
+const ROW_END: u8 = 10;
+
+// Puts a slash in the place of each row's end.
+fn show_ends(text: &mut [u8; SHOWN]) {
+    let mut i = 0;
+    while i < SHOWN {
+        if text[i] == ROW_END {
+            text[i] = b'/';
+        }
+        i += 1;
+    }
+}
+
+// Writes the bytes that end a row.
+fn show(text: &[u8; SHOWN]) {
+    io::write_all(1, b" ");
+    io::write_all(1, text);
+    io::write_all(1, b"\n");
+}
+
+// Writes the row of a length.
+fn row(label: &[u8], book: &[u8], line: &[u8], room: usize) {
+    if room <= SHOWN {
+        let mut values = [0u16; VALUES];
+        let answer = reader::read_line(book, line, &mut values);
+        let mut text = [MARK; SHOWN];
+        let result = listing::render(book, line, answer, &values, &mut text[..room]);
+        counted(label, room);
+        outcome(result);
+        show_ends(&mut text);
+        show(&text);
+    }
+}
+
+// The rows of all lengths, for a line against the book that the first bytes of a slice are.
+pub fn rooms(bytes: &[u8], length: usize, label: &[u8], line: &[u8]) {
+    if length <= bytes.len() {
+        let mut room = 0;
+        while room <= LAST {
+            row(label, &bytes[0..length], line, room);
+            room += 1;
+        }
+    }
+}
