@@ -1,4 +1,5 @@
-// What the programs that try cases share: books written as text and put together in a buffer.
+// What the programs that try cases share: books written as text and put together in a buffer, and those of the papers.
+pub mod books;
 pub mod buffer;
 pub mod items;
 pub mod text;

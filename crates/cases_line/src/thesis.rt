@@ -4,24 +4,15 @@ use crate::rows::Show;
 use crate::rows::VALUES;
 use crate::rows::against;
 use crate::rows::answers;
+use cases::books::example_3;
 use cases::buffer::Space;
 use cases::items::put_items;
 
 pub fn rows(buf: &mut Space) {
-    example_3(buf);
+    let at = example_3(buf);
+    answers(buf, at, b"I-will-meet-him:I will meet him;");
     example_4(buf);
     example_5(buf);
-}
-
-// π1 is p1, π is p.
-fn example_3(buf: &mut Space) {
-    let at = put_items(
-        buf,
-        0,
-        b"1 p1,1 p,1 s1,1 s,1 j,1 i,1 q1,1 o,2 \x00\x01,2 \x05\x04,2 \x02\x03,4 \x03,3 \x01I\x00\x00,3 \x04will\x01\x01\x02\x00\x04\xff,\
-          3 \x04will\x06\x00\x04\xff\x01\xff,3 \x04meet\x05\x00\x07\xff,3 \x03him\x07\x00",
-    );
-    answers(buf, at, b"I-will-meet-him:I will meet him;");
 }
 
 // π is p, π3 is p3, n and j with a bar are nb and jb, o' is o1.

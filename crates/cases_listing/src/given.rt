@@ -1,7 +1,7 @@
 // Listings of what is not the reader's answer for a line: refusals, and values with the paper's first book.
-use crate::paper::first_book;
 use crate::rows::list;
 use crate::rows::listings;
+use cases::books::first_book;
 use cases::buffer::Space;
 use reader::LineAnswer;
 

@@ -1,6 +1,6 @@
 // Refused books, and lines that are refused for their bytes, their words or their simple types, with some that just pass.
-use crate::paper::first_book;
 use crate::rows::listings;
+use cases::books::first_book;
 use cases::buffer::ROOM;
 use cases::buffer::Space;
 use cases::items::put_items;
