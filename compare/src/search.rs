@@ -19,21 +19,27 @@ use crate::readers::LIBRARY;
 pub use candidate::Candidate;
 pub use text::read as read_text;
 
+const USAGE: &str =
+    "compare search [STEPS] [SEED] | read FILE | spread COUNT SEED | fit FILE COUNTS";
+
 /// What part of the cost a change may lose at the beginning of a climb; at its end it may lose nothing.
 const LOSS: f64 = 0.001;
 
 /// Does what the arguments behind `search` ask for; false where they cannot be read.
 pub fn command(arguments: &[&str]) -> bool {
-    match *arguments {
-        [] => search("20000", "1"),
+    let done = match *arguments {
+        [] => search("15000", "1"),
         ["read", file] => load(file).map(|all| all.iter().for_each(read_once)),
         ["spread", count, seed] => spread(count, seed),
         ["fit", file, counts] => print_fit(file, counts),
         [steps] => search(steps, "1"),
         [steps, seed] => search(steps, seed),
         _ => None,
+    };
+    if done.is_none() {
+        eprintln!("{USAGE}");
     }
-    .is_some()
+    done.is_some()
 }
 
 /// A candidate and its cost by the model.

@@ -74,8 +74,8 @@ impl Candidate {
             .max_by_key(|&word| often(word))
     }
 
-    /// The book: types, their cycle, the target, the entries, then empty entries up to the last that a book may have, and pairs of a
-    /// type with itself up to its last byte.
+    /// The book: types, their cycle, the target, the entries, then empty entries up to the last that a book may have, and as many pairs
+    /// of a type with itself as there is room for.
     pub fn book(&self) -> Vec<u8> {
         let mut book = Records::default();
         for number in 0..MAX_TYPES {

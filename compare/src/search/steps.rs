@@ -1,7 +1,7 @@
 //! The kinds of steps that the reader's loops take, as the model counts them, and what a step of each kind costs.
 
 /// A kind of step.
-#[derive(Clone, Copy, Debug)]
+#[derive(Clone, Copy)]
 pub enum Step {
     /// What each call takes for a full book, a word looked up, an entry found, a simple type laid.
     Call,
