@@ -149,9 +149,9 @@ fn row(name: &str, rounds: &Rounds) {
 }
 
 /// Times the check of named books and prints their table.
-fn books(title: &str, books: &[(&str, &[u8])]) {
+fn books(title: &str, books: &[(&str, Vec<u8>)]) {
     head(title);
-    for &(name, book) in books {
+    for (name, book) in books {
         assert_eq!(
             (LIBRARY.check_book)(book),
             (TWIN.check_book)(book),
@@ -206,19 +206,10 @@ fn growth(growth: &Growth) {
 
 /// Times books and lines of all kinds and prints their tables.
 pub fn tables() {
-    let typical = samples::typical();
-    let hard = samples::hard();
-    let full = samples::full();
-    let checked: [(&str, &[u8]); 4] = [
-        ("typical, 1000 entries", &typical[0].book),
-        ("64 types in a cycle", &hard[1].book),
-        ("1024 empty entries, 1 byte", &full[0].book),
-        ("1024 words alike, 31 bytes", &full[full.len() - 1].book),
-    ];
-    books("Books checked alone", &checked);
-    lines("Typical lines", &typical);
-    lines("Hard lines", &hard);
-    lines("Full books", &full);
+    books("Books checked alone", &samples::books());
+    lines("Typical lines", &samples::typical());
+    lines("Hard lines", &samples::hard());
+    lines("Full books", &samples::full());
     for kind in samples::growth() {
         growth(&kind);
     }

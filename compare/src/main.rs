@@ -3,7 +3,9 @@
 //! - `compare cases [CASES] [SEED]`: the comparison; it ends with status 1 at the first difference. Standard error shows how far it has come.
 //! - `compare bench`: the times.
 //! - `compare once library|twin SAMPLE`: one sample read once, for a tool that counts instructions.
-//! - `compare samples`: the names of the samples.
+//! - `compare check library|twin BOOK`: one of the benchmark's books checked once.
+//! - `compare samples`, `compare books`: their names.
+//! - `compare search [STEPS] [SEED]`: a search for the dearest line.
 
 mod bench;
 mod books;
@@ -18,13 +20,15 @@ mod progress;
 mod random;
 mod readers;
 mod samples;
+mod search;
 mod twin;
 mod types;
 
 use readers::{LIBRARY, TWIN};
 use std::process::ExitCode;
 
-const USAGE: &str = "compare cases [CASES] [SEED] | bench | once library|twin SAMPLE | samples";
+const USAGE: &str = "compare cases [CASES] [SEED] | bench | once library|twin SAMPLE | samples | check library|twin BOOK | books \
+    | search [STEPS] [SEED]";
 
 fn main() -> ExitCode {
     let arguments: Vec<String> = std::env::args().skip(1).collect();
@@ -45,6 +49,15 @@ fn main() -> ExitCode {
             }
             true
         }
+        ["check", "library", book] => check(&LIBRARY, book),
+        ["check", "twin", book] => check(&TWIN, book),
+        ["books"] => {
+            for (name, _) in samples::books() {
+                println!("{name}");
+            }
+            true
+        }
+        ["search", ref rest @ ..] => search::command(rest),
         _ => {
             eprintln!("{USAGE}");
             false
@@ -75,5 +88,15 @@ fn once(reader: &readers::Reader, name: &str) -> bool {
     };
     let outcome = (reader.read_line)(&sample.book, &sample.line, &mut [0; 512]);
     println!("{outcome:?}");
+    true
+}
+
+/// Checks a book of the benchmark once and prints what comes back.
+fn check(reader: &readers::Reader, name: &str) -> bool {
+    let Some((_, book)) = samples::books().into_iter().find(|(n, _)| *n == name) else {
+        eprintln!("no book of that name");
+        return false;
+    };
+    println!("{:?}", (reader.check_book)(&book));
     true
 }

@@ -1,5 +1,6 @@
-//! Books and lines to time: a typical book with its lines, lines at the bounds where much contracts with much, and books full of
-//! entries of one word. A sample's name ends with whether its line reads.
+//! Books and lines to time: a typical book with its lines, lines at the bounds where much contracts with much, books full of
+//! entries of one word, and the dearest line that a search has found. A sample's name ends with whether its line reads.
+mod dearest;
 mod full;
 mod hard;
 mod typical;
@@ -24,12 +25,26 @@ pub struct Growth {
     pub steps: Vec<(usize, Sample)>,
 }
 
-/// All samples but those of growth.
+/// All samples, those of growth last.
 pub fn all() -> Vec<Sample> {
     let mut samples = typical();
     samples.extend(hard());
     samples.extend(full());
+    let steps = growth().into_iter().flat_map(|growth| growth.steps);
+    samples.extend(steps.map(|(_, sample)| sample));
     samples
+}
+
+/// Books to check alone, by name.
+pub fn books() -> [(&'static str, Vec<u8>); 4] {
+    let book_of = |samples: Vec<Sample>, place: usize| samples[place].book.clone();
+    let last = full().len() - 1;
+    [
+        ("typical, 1000 entries", book_of(typical(), 0)),
+        ("64 types in a cycle", book_of(hard(), 1)),
+        ("1024 empty entries, 1 byte", book_of(full(), 0)),
+        ("1024 words alike, 31 bytes", book_of(full(), last)),
+    ]
 }
 
 #[cfg(test)]
@@ -53,13 +68,8 @@ mod tests {
 
     #[test]
     fn samples_are_as_named() {
-        for sample in typical().iter().chain(&hard()).chain(&full()) {
-            as_named(sample);
-        }
-        for growth in growth() {
-            for (_, sample) in &growth.steps {
-                as_named(sample);
-            }
+        for sample in all() {
+            as_named(&sample);
         }
     }
 

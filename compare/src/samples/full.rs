@@ -1,4 +1,5 @@
-//! Lines against full books: 1,024 entries of one word or of words alike, and a hard line in a book at its bounds.
+//! Lines against full books: 1,024 entries of one word or of words alike, hard lines in a book at its bounds, and the dearest line.
+use super::dearest::dearest;
 use super::hard::{self, Bases, Exponents};
 use super::Sample;
 use crate::books::Records;
@@ -84,6 +85,7 @@ pub fn full() -> Vec<Sample> {
     ] {
         samples.push(crowded(kind, &words));
     }
+    samples.push(dearest());
     let (book, line) = alike_book();
     samples.push(Sample {
         name: "1024 words alike, 31 bytes, 24 words, reads".to_string(),

@@ -341,8 +341,9 @@ pub fn growth() -> Vec<Growth> {
                 .iter()
                 .map(|&count| {
                     let words = kind(count);
-                    let simples = words.iter().flatten().map(Vec::len).sum();
-                    (simples, sample(name, &words, Bases::One))
+                    let simples: usize = words.iter().flatten().map(Vec::len).sum();
+                    let name = format!("{simples} simple types, {name}");
+                    (simples, sample(&name, &words, Bases::One))
                 })
                 .collect(),
         })

@@ -7,14 +7,14 @@ mod book;
 mod chart;
 mod choice;
 mod compare;
-mod figures;
+pub mod figures;
 mod graph;
 mod line;
 mod links;
 mod order;
 mod pregroup;
 mod reader;
-mod rows;
+pub mod rows;
 mod table;
 
 use crate::types::{Counts, Refusal};

@@ -1,0 +1,167 @@
+//! A search for the dearest line: it climbs from several starts by small changes, on the cost by a model whose weights are fitted to
+//! instruction counts. `search.sh` counts what it finds.
+//!
+//! - `compare search [STEPS] [SEED]`: prints the dearest candidate that is found, as text.
+//! - `compare search read FILE`: reads each candidate of a file once with the library, for a tool that counts instructions.
+//! - `compare search spread COUNT SEED`: prints candidates for a fit.
+//! - `compare search fit FILE COUNTS`: prints the weights that fit the candidates of a file and their instruction counts.
+mod candidate;
+mod changes;
+mod fit;
+mod model;
+mod starts;
+mod steps;
+mod text;
+mod weights;
+
+use crate::random::Random;
+use crate::readers::LIBRARY;
+pub use candidate::Candidate;
+pub use text::read as read_text;
+
+const USAGE: &str =
+    "compare search [STEPS] [SEED] | read FILE | spread COUNT SEED | fit FILE COUNTS";
+
+/// What part of the cost a change may lose at the beginning of a climb; at its end it may lose nothing.
+const LOSS: f64 = 0.001;
+
+/// Does what the arguments behind `search` ask for; false where they cannot be read.
+pub fn command(arguments: &[&str]) -> bool {
+    let done = match *arguments {
+        [] => search("15000", "1"),
+        ["read", file] => load(file).map(|all| all.iter().for_each(read_once)),
+        ["spread", count, seed] => spread(count, seed),
+        ["fit", file, counts] => print_fit(file, counts),
+        [steps] => search(steps, "1"),
+        [steps, seed] => search(steps, seed),
+        _ => None,
+    };
+    if done.is_none() {
+        eprintln!("{USAGE}");
+    }
+    done.is_some()
+}
+
+/// A candidate and its cost by the model.
+#[derive(Clone)]
+struct Costed {
+    candidate: Candidate,
+    cost: f64,
+}
+
+impl Costed {
+    fn new(candidate: Candidate) -> Costed {
+        let cost = model::cost(&candidate);
+        Costed { candidate, cost }
+    }
+}
+
+/// Climbs by so many steps and gives the dearest candidate on the way.
+fn climb(from: &Costed, steps: usize, random: &mut Random) -> Costed {
+    let mut here = from.clone();
+    let mut dearest = from.clone();
+    for step in 0..steps {
+        let next = changes::changed(&here.candidate, random);
+        if !next.is_within_limits() {
+            continue;
+        }
+        let next = Costed::new(next);
+        let loss = LOSS * here.cost * (steps - step) as f64 / steps as f64;
+        if next.cost + loss >= here.cost {
+            here = next;
+        }
+        if here.cost > dearest.cost {
+            dearest = here.clone();
+        }
+    }
+    dearest
+}
+
+/// Climbs from all starts, then from the dearer half of what is found by twice as many steps, until one is left, which is printed.
+fn search(steps: &str, seed: &str) -> Option<()> {
+    let mut steps: usize = steps.parse().ok()?;
+    let mut random = Random::new(seed.parse().ok()?);
+    let mut all: Vec<Costed> = starts::starts().into_iter().map(Costed::new).collect();
+    loop {
+        for costed in &mut all {
+            *costed = climb(costed, steps, &mut random);
+        }
+        all.sort_by(|one, other| other.cost.total_cmp(&one.cost));
+        eprintln!("{:.0} instructions by the model", all[0].cost);
+        if all.len() == 1 {
+            break;
+        }
+        all.truncate(all.len() / 2);
+        steps *= 2;
+    }
+    print!("{}", text::write(&all[0].candidate));
+    Some(())
+}
+
+/// The candidates of a file.
+fn load(file: &str) -> Option<Vec<Candidate>> {
+    text::read(&std::fs::read_to_string(file).ok()?)
+}
+
+fn read_once(candidate: &Candidate) {
+    let (book, line) = (candidate.book(), candidate.line_bytes());
+    let outcome = (LIBRARY.read_line)(&book, &line, &mut [0; 512]);
+    println!("{outcome:?}");
+}
+
+fn spread(count: &str, seed: &str) -> Option<()> {
+    for candidate in fit::spread(count.parse().ok()?, seed.parse().ok()?) {
+        print!("{}", text::write(&candidate));
+    }
+    Some(())
+}
+
+/// Prints the weights, and by how much the model errs with them at most.
+fn print_fit(file: &str, counts: &str) -> Option<()> {
+    let candidates = load(file)?;
+    let counts = std::fs::read_to_string(counts).ok()?;
+    let counts: Option<Vec<f64>> = counts.lines().map(|count| count.parse().ok()).collect();
+    let counts = counts?;
+    let weights = fit::fit(&candidates, &counts);
+    for weight in weights.0 {
+        println!("{weight:.2},");
+    }
+    let error = |(candidate, count): (&Candidate, &f64)| {
+        (model::count(candidate).cost(&weights) / count - 1.0).abs()
+    };
+    let errors = candidates.iter().zip(&counts).map(error);
+    println!("largest error: {:.4}", errors.fold(0.0, f64::max));
+    Some(())
+}
+
+#[cfg(test)]
+mod tests {
+    use super::*;
+    use crate::readers::TWIN;
+    use steps::Step;
+
+    /// The model's string is the answer's with the target behind it.
+    #[test]
+    fn model_reads_as_the_twin_does() {
+        for candidate in fit::spread(12, 1) {
+            let (book, line) = (candidate.book(), candidate.line_bytes());
+            let outcome = (TWIN.read_line)(&book, &line, &mut [0; 512]);
+            let places = model::count(&candidate).0[Step::Place as usize] as u64;
+            match outcome {
+                Ok(values) => assert_eq!(places + 1 + candidate.line.len() as u64, values),
+                Err(refusal) => assert_eq!((places, refusal), (0, (15, 0))),
+            }
+        }
+    }
+
+    #[test]
+    fn text_is_read_back() {
+        for start in starts::starts() {
+            let text = text::write(&start);
+            let read = text::read(&text).expect("the text is read");
+            assert_eq!(read.len(), 1);
+            assert_eq!(text::write(&read[0]), text);
+            assert_eq!(read[0].book(), start.book());
+        }
+    }
+}

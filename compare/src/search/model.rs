@@ -1,0 +1,289 @@
+//! What a candidate costs by a model: the steps of the reader's loops are counted by their kinds, and each kind has a weight, the
+//! instructions that a step takes. The loops are those of the twin, shortened: all types are equal, so that exponents alone decide.
+use super::candidate::{Candidate, Entry, MAX_ENTRIES};
+use super::steps::{Step, Steps};
+use super::weights::WEIGHTS;
+use crate::twin::figures::limits::{ROW_BITS, ROW_WORDS};
+use crate::twin::rows::{empty, member, next_member, put, put_in, store, unite, words_of, Row};
+
+/// How exponents from -8 to 8, and those beside them, are numbered.
+const EXPONENTS: usize = 19;
+
+fn number(exponent: i8) -> usize {
+    (exponent + 9) as usize
+}
+
+/// What a candidate costs, in instructions.
+pub fn cost(candidate: &Candidate) -> f64 {
+    count(candidate).cost(&WEIGHTS)
+}
+
+/// The steps that reading a candidate takes.
+pub fn count(candidate: &Candidate) -> Steps {
+    let mut reading = Reading::new(candidate);
+    reading.fill();
+    if member(&reading.chart, 0, reading.end()) {
+        reading.choose();
+        reading.link();
+    }
+    reading.steps
+}
+
+/// A line's graph with its chart, the chosen string with its table, and the steps so far.
+struct Reading {
+    steps: Steps,
+    exponents: Vec<i8>,
+    /// The node behind each, 0 for a boundary.
+    nexts: Vec<usize>,
+    /// The nodes that the slots of a boundary enter.
+    enters: Vec<Vec<usize>>,
+    /// The simple nodes of each exponent.
+    nodes: [Row; EXPONENTS],
+    chart: Vec<u64>,
+    string: Vec<i8>,
+    /// The places behind simple types of each exponent.
+    places: [Row; EXPONENTS],
+    table: Vec<u64>,
+    leaving: Vec<u64>,
+}
+
+/// Row u of rows.
+fn row_at(rows: &[u64], u: usize) -> Row {
+    unite(empty(), rows, u)
+}
+
+/// The members of both rows.
+fn common(row: &[u64], other: &Row) -> Row {
+    Row {
+        words: std::array::from_fn(|k| row[k] & other.words[k]),
+    }
+}
+
+fn size(row: &[u64]) -> usize {
+    row.iter().map(|word| word.count_ones() as usize).sum()
+}
+
+/// The members of a row, in their order.
+fn members(row: Row) -> impl Iterator<Item = usize> {
+    let next = move |from| Some(next_member(&row.words, 0, from)).filter(|&v| v < ROW_BITS);
+    std::iter::successors(next(0), move |&v| next(v + 1))
+}
+
+impl Reading {
+    fn new(candidate: &Candidate) -> Reading {
+        let mut reading = Reading {
+            steps: Steps::NONE,
+            exponents: Vec::new(),
+            nexts: Vec::new(),
+            enters: Vec::new(),
+            nodes: [empty(); EXPONENTS],
+            chart: Vec::new(),
+            string: Vec::new(),
+            places: [empty(); EXPONENTS],
+            table: Vec::new(),
+            leaving: Vec::new(),
+        };
+        reading.steps.add(Step::Call, 1);
+        reading.lay_out(candidate);
+        reading.chart = vec![0; ROW_WORDS * reading.nexts.len()];
+        reading
+    }
+
+    fn end(&self) -> usize {
+        self.nexts.len() - 1
+    }
+
+    fn boundary(&mut self) {
+        self.exponents.push(0);
+        self.nexts.push(0);
+        self.enters.push(Vec::new());
+    }
+
+    /// A simple node that leads to another.
+    fn simple(&mut self, exponent: i8, next: usize) {
+        put_in(&mut self.nodes[number(exponent)].words, self.nexts.len());
+        self.exponents.push(exponent);
+        self.nexts.push(next);
+        self.enters.push(Vec::new());
+    }
+
+    fn lay_out(&mut self, candidate: &Candidate) {
+        let filler = candidate.filler();
+        for &word in &candidate.line {
+            let entries = &candidate.words[word];
+            self.steps.add(Step::Word, 1);
+            self.steps.add(Step::Found, entries.len());
+            if filler == Some(word) {
+                self.steps
+                    .add(Step::Found, MAX_ENTRIES - candidate.entries());
+            }
+            self.lay_word(entries);
+        }
+        let goal = self.nexts.len() + 1;
+        self.boundary();
+        self.enters[goal - 1].push(goal);
+        self.simple(1, goal + 1);
+        self.boundary();
+    }
+
+    fn lay_word(&mut self, entries: &[Entry]) {
+        let start = self.nexts.len();
+        let behind = start + 1 + entries.iter().map(Vec::len).sum::<usize>();
+        self.boundary();
+        for entry in entries {
+            let first = self.nexts.len();
+            self.enters[start].push(if entry.is_empty() { behind } else { first });
+            self.steps.add(Step::Simple, entry.len());
+            for (k, &exponent) in entry.iter().enumerate() {
+                let last = k + 1 == entry.len();
+                self.simple(exponent, if last { behind } else { first + k + 1 });
+            }
+        }
+    }
+
+    fn fill(&mut self) {
+        for u in (0..self.nexts.len()).rev() {
+            let row = match self.nexts[u] {
+                0 => self.boundary_row(u),
+                behind => self.simple_row(u, behind),
+            };
+            store(&mut self.chart, u, row);
+        }
+    }
+
+    fn boundary_row(&mut self, u: usize) -> Row {
+        self.steps.add(Step::Enter, self.enters[u].len());
+        let own = put(empty(), u);
+        let enters = self.enters[u].iter();
+        enters.fold(own, |row, &node| unite(row, &self.chart, node))
+    }
+
+    fn simple_row(&mut self, u: usize, behind: usize) -> Row {
+        let walked = words_of(&self.chart, behind);
+        let fits = common(walked, &self.nodes[number(self.exponents[u] + 1)]);
+        self.steps.add(Step::ChartWord, ROW_WORDS - behind / 64);
+        self.steps.add(Step::ChartMember, size(walked));
+        self.steps.add(Step::ChartJoin, size(&fits.words));
+        let own = put(empty(), u);
+        members(fits).fold(own, |row, y| unite(row, &self.chart, self.nexts[y]))
+    }
+
+    fn choose(&mut self) {
+        let end = self.end();
+        let mut finishing = empty();
+        for u in (0..=end).filter(|&u| member(&self.chart, u, end)) {
+            put_in(&mut finishing.words, u);
+        }
+        self.table.extend(put(empty(), 0).words);
+        self.leaving.extend(finishing.words);
+        let mut u = 0;
+        while u != end {
+            if self.nexts[u] == 0 {
+                u = self.first_slot(u);
+            } else {
+                finishing = self.grow(&finishing, self.exponents[u]);
+                u = self.nexts[u];
+            }
+        }
+    }
+
+    /// The node that the first slot of a boundary enters from which the string is finished.
+    fn first_slot(&mut self, u: usize) -> usize {
+        let row = row_at(&self.table, self.string.len());
+        for slot in 0..self.enters[u].len() {
+            let node = self.enters[u][slot];
+            self.steps.add(Step::Try, 1);
+            for m in members(row) {
+                self.steps.add(Step::TryMember, 1);
+                if member(&self.leaving, m, node) {
+                    return node;
+                }
+            }
+        }
+        unreachable!("a line that reads has a slot that fits");
+    }
+
+    /// Adds a simple type to the string, and the rows for it; the nodes from which the string is then finished.
+    fn grow(&mut self, finishing: &Row, exponent: i8) -> Row {
+        self.steps.add(Step::Place, 1);
+        let targets = self.link_targets(finishing, exponent);
+        let reaching = self.reaching(&targets);
+        self.leaving.extend(reaching.words);
+        let row = self.next_row(exponent);
+        self.table.extend(row.words);
+        self.string.push(exponent);
+        put_in(&mut self.places[number(exponent)].words, self.string.len());
+        self.steps.add(Step::TableMember, size(&row.words));
+        members(row).fold(empty(), |row, m| unite(row, &self.leaving, m))
+    }
+
+    fn link_targets(&mut self, finishing: &Row, exponent: i8) -> Row {
+        let fits = self.nodes[number(exponent + 1)];
+        let mut targets = empty();
+        for u in members(fits).filter(|&u| member(&finishing.words, 0, self.nexts[u])) {
+            put_in(&mut targets.words, u);
+        }
+        self.steps.add(Step::LinkNode, self.nexts.len());
+        self.steps.add(Step::LinkFit, size(&fits.words));
+        self.steps.add(Step::Link, size(&targets.words));
+        targets
+    }
+
+    fn reaching(&mut self, targets: &Row) -> Row {
+        let mut row = empty();
+        for u in 0..self.nexts.len() {
+            let words = words_of(&self.chart, u);
+            match (0..ROW_WORDS).find(|&k| words[k] & targets.words[k] != 0) {
+                Some(k) => {
+                    self.steps.add(Step::MeetWord, k + 1);
+                    self.steps.add(Step::Meet, 1);
+                    put_in(&mut row.words, u);
+                }
+                None => self.steps.add(Step::MeetWord, ROW_WORDS),
+            }
+        }
+        row
+    }
+
+    /// The row of the table behind one more simple type.
+    fn next_row(&mut self, exponent: i8) -> Row {
+        let n = self.string.len();
+        let fits = common(words_of(&self.table, n), &self.places[number(exponent - 1)]);
+        self.steps.add(Step::TableJoin, size(&fits.words));
+        let own = put(empty(), n + 1);
+        members(fits).fold(own, |row, j| unite(row, &self.table, j - 1))
+    }
+
+    /// Links the chosen string but for the target's simple type behind it.
+    fn link(&mut self) {
+        let m = self.string.len() - 1;
+        let stays = common(words_of(&self.table, m), &self.places[number(0)]);
+        let ends = members(stays).fold(empty(), |row, j| unite(row, &self.table, j - 1));
+        let mut i = 0;
+        while !member(&stays.words, 0, i + 1) {
+            let k = self.nearest(ends, i);
+            self.link_within(i + 1, k);
+            i = k + 1;
+        }
+        self.link_within(i + 1, m);
+    }
+
+    fn link_within(&mut self, i: usize, j: usize) {
+        if i < j {
+            let k = self.nearest(row_at(&self.table, j), i);
+            self.link_within(i + 1, k);
+            self.link_within(k + 1, j);
+        }
+    }
+
+    /// The nearest place that i may be linked to such that the one behind it is in the row.
+    fn nearest(&mut self, ends: Row, i: usize) -> usize {
+        for j in members(ends).skip_while(|&j| j < i + 2) {
+            self.steps.add(Step::NearestMember, 1);
+            if self.string[j - 1] == self.string[i] + 1 && member(&self.table, j - 1, i + 1) {
+                return j - 1;
+            }
+        }
+        unreachable!("a string that reads has a partner for each simple type");
+    }
+}

@@ -1,0 +1,57 @@
+//! The kinds of steps that the reader's loops take, as the model counts them, and what a step of each kind costs.
+
+/// A kind of step.
+#[derive(Clone, Copy)]
+pub enum Step {
+    /// What each call takes for a full book, a word looked up, an entry found, a simple type laid.
+    Call,
+    Word,
+    Found,
+    Simple,
+    /// The chart: a row joined to that of a boundary; for a simple node, a word of the row walked, a member, one that is joined.
+    Enter,
+    ChartWord,
+    ChartMember,
+    ChartJoin,
+    /// The choice: a place; for each place, a node looked at, one whose exponent fits, one to link to.
+    Place,
+    LinkNode,
+    LinkFit,
+    Link,
+    /// A word in which a row and the nodes to link to are compared, a row that meets them.
+    MeetWord,
+    Meet,
+    /// The table: a member of its rows, one that is joined.
+    TableMember,
+    TableJoin,
+    /// A slot tried, a member walked for it.
+    Try,
+    TryMember,
+    /// The linking: a member walked.
+    NearestMember,
+}
+
+/// How many kinds there are.
+pub const KINDS: usize = Step::NearestMember as usize + 1;
+
+/// A number for each kind: how many steps there were, or what one costs.
+#[derive(Clone, Copy)]
+pub struct Steps(pub [f64; KINDS]);
+
+impl Steps {
+    pub const NONE: Steps = Steps([0.0; KINDS]);
+
+    /// Counts so many steps.
+    pub fn add(&mut self, step: Step, steps: usize) {
+        self.0[step as usize] += steps as f64;
+    }
+
+    /// What these steps cost.
+    pub fn cost(&self, weights: &Steps) -> f64 {
+        self.0
+            .iter()
+            .zip(weights.0)
+            .map(|(n, weight)| n * weight)
+            .sum()
+    }
+}

@@ -1,0 +1,55 @@
+//! Candidates as text: for each word a row `word 0 1 | -1 | -` with its entries parted by bars and a dash for an empty one, and a row
+//! `line 0 0 1` that ends the candidate.
+use super::candidate::{Candidate, Entry};
+use std::fmt::Display;
+
+/// The text of a candidate.
+pub fn write(candidate: &Candidate) -> String {
+    let mut text = String::new();
+    for entries in &candidate.words {
+        let entries: Vec<String> = entries.iter().map(write_entry).collect();
+        text += &format!("word {}\n", entries.join(" | "));
+    }
+    text + &format!("line {}\n", spaced(&candidate.line))
+}
+
+fn write_entry(entry: &Entry) -> String {
+    match entry.is_empty() {
+        true => "-".to_string(),
+        false => spaced(entry),
+    }
+}
+
+fn spaced(numbers: &[impl Display]) -> String {
+    let numbers: Vec<String> = numbers.iter().map(|number| number.to_string()).collect();
+    numbers.join(" ")
+}
+
+/// All candidates of a text; none where a row cannot be read.
+pub fn read(text: &str) -> Option<Vec<Candidate>> {
+    let mut all = Vec::new();
+    let mut candidate = Candidate::default();
+    for row in text.lines() {
+        match row.split_once(' ')? {
+            ("word", entries) => {
+                let entries: Option<Vec<Entry>> = entries.split('|').map(read_entry).collect();
+                candidate.words.push(entries?);
+            }
+            ("line", words) => {
+                let words: Option<Vec<usize>> =
+                    words.split(' ').map(|word| word.parse().ok()).collect();
+                candidate.line = words?;
+                all.push(std::mem::take(&mut candidate));
+            }
+            _ => return None,
+        }
+    }
+    Some(all)
+}
+
+fn read_entry(text: &str) -> Option<Entry> {
+    match text.trim() {
+        "-" => Some(Vec::new()),
+        exponents => exponents.split(' ').map(|one| one.parse().ok()).collect(),
+    }
+}
