@@ -1,11 +1,10 @@
 -- The decimal of a number: its last digit alone, or that of its tenth and then its last digit. Numbers below a power of ten have no more digits
 -- than its exponent.
-use Prim.Native.Nat.{ℕ, zero, suc, _+_, _-_, _*_, _/_, _%_, _^_, _≤_, _<_}
+use Prim.Native.Nat.{ℕ, zero, suc, _+_, _-_, _/_, _%_, _^_, _≤_, _<_}
 use native.Mathlib.Omega.{arith}
-use mathlib.Core.Path.{_≡_, refl, sym, ap, _∙_}
+use mathlib.Core.Path.{_≡_, sym, ap, _∙_}
 use mathlib.Core.Logic.{_⊎_, inl, inr}
-use mathlib.Core.List.{List, [], _∷_, _++_}
-use lib.Dec.{ltb}
+use mathlib.Core.List.{[], _∷_, _++_}
 use lib.ListN.{length, length-append}
 use borrow.Author.Tests.{lt-ltb, le-ltb}
 use Rattle.bits.proofs.Cases.{less-or-not}
@@ -43,11 +42,11 @@ decimal-more n h =
     last-digits-more n n h
     ∙ ap (λ (front : Bytes). front ++ ((48 + n % 10) ∷ [])) (last-digits-enough n (suc (n / 10)) (n / 10) (omega arith) (omega arith))
 
-pub decimal-length : (most n : ℕ) → n < 10 ^ most → length (decimal n) ≤ suc most
+pub decimal-length : (more n : ℕ) → n < 10 ^ suc more → length (decimal n) ≤ suc more
 decimal-length zero n h = let small : n < 10 = omega arith in rw (decimal-small n small) (omega arith)
-decimal-length (suc most) n h = by (λ big. decimal-length most (n / 10) (omega arith)) (less-or-not n 10)
+decimal-length (suc more) n h = by (λ big. decimal-length more (n / 10) (omega arith)) (less-or-not n 10)
   where
-    by : (10 ≤ n → length (decimal (n / 10)) ≤ suc most) → (n < 10) ⊎ (10 ≤ n) → length (decimal n) ≤ suc (suc most)
+    by : (10 ≤ n → length (decimal (n / 10)) ≤ suc more) → (n < 10) ⊎ (10 ≤ n) → length (decimal n) ≤ suc (suc more)
     by front (inl small) = rw (decimal-small n small) (omega arith)
     by front (inr big) =
         rw (decimal-more n big) (omega (arith, length-append (decimal (n / 10)) ((48 + n % 10) ∷ []), front big))

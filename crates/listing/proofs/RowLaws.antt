@@ -1,8 +1,8 @@
 -- The rows of words, of an entry's simple types and of the entries, from one on and then the rest, as the loops put them.
-use Prim.Native.Nat.{ℕ, suc, _+_, _*_, _/_, _%_, _≤_, _<_}
+use Prim.Native.Nat.{ℕ, suc, _+_, _/_, _≤_, _<_}
 use native.Mathlib.Numerals.{add-one}
 use native.Mathlib.Omega.{arith}
-use mathlib.Core.Path.{_≡_, refl, sym, ap, _∙_}
+use mathlib.Core.Path.{_≡_, sym, ap, _∙_}
 use mathlib.Core.List.{List, [], _∷_, _++_, append-assoc}
 use lib.IntN.{ℤ}
 use lib.ListN.{length, getD, drop, length-append, drop-of-length-le}
@@ -10,7 +10,7 @@ use lib.Seq.{drop-cons}
 use Rattle.pregroup.specs.Types.{PregroupType}
 use Rattle.book.specs.Format.{Bytes, Entry, exponentOf, simplesOf}
 use Rattle.book.proofs.Simples.{simples-step}
-use Rattle.line.specs.LineWords.{Word, wordsOf}
+use Rattle.line.specs.LineWords.{wordsOf}
 use Rattle.line.specs.Split.{wordAt, SplitInto}
 use Rattle.line.proofs.LineLaws.{words-at, none-left}
 use Rattle.line.proofs.LookUpLaws.{simples-length}
@@ -29,7 +29,7 @@ module _ (entries : List ℕ) (line : Bytes) (starts ends : List ℕ) (words : �
   abbrev pub from : ℕ → Bytes
   from k = wordRows entries k (drop k (wordsOf line))
 
-  pub word-rows-at : (k : ℕ) → k < words → from k ≡ here k ++ from (k + 1)
+  word-rows-at : (k : ℕ) → k < words → from k ≡ here k ++ from (k + 1)
   unfolding wordRows
   word-rows-at k h = rw (words-at line starts ends words s k h, add-one k)
 
@@ -80,7 +80,7 @@ module _ (names : List Bytes) (partners : List ℕ) (part : Bytes) where
     simples-put h = going-done (rw (drop-of-length-le part {i = j} h) at g)
 
 module _ (names : List Bytes) (partners : List ℕ) where
-  pub type-rows-append : (k : ℕ) (X Y : PregroupType) (n : ℕ) → n ≡ k + length X → typeRows names partners k (X ++ Y) ≡ typeRows names partners k X ++ typeRows names partners n Y
+  type-rows-append : (k : ℕ) (X Y : PregroupType) (n : ℕ) → n ≡ k + length X → typeRows names partners k (X ++ Y) ≡ typeRows names partners k X ++ typeRows names partners n Y
   unfolding typeRows
   type-rows-append k [] Y n e = let same : n ≡ k = omega arith in rw same
   type-rows-append k (x ∷ X) Y n e =
