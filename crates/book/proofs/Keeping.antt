@@ -135,7 +135,7 @@ module _ (bytes : Bytes) (s : Store) (p : Progress) (sound : Sound bytes s p) wh
 
     -- The places that the code reads and writes are there.
     pub name-place : kindAt bytes (p .at) ≡ 1 → p .types < maxTypes
-    name-place kind = let few = name-no-fault _ _ _ _ (body-fault kind) in omega (arith, names-count)
+    name-place kind = let fine = name-no-fault _ _ _ _ (body-fault kind) in omega (arith, names-count)
 
     pub entry-place : kindAt bytes (p .at) ≡ 3 → p .entries < maxEntries
     entry-place kind = entry-no-fault _ _ _ _ (body-fault kind) .3

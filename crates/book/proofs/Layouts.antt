@@ -2,7 +2,7 @@
 use Prim.Native.Nat.{ℕ, _+_, _-_, _*_, _%_, _≤_, _<_}
 use native.Mathlib.Omega.{arith}
 use mathlib.Core.Path.{_≡_, sym, ap, _∙_}
-use mathlib.Core.Bool.{Bool, true, false}
+use mathlib.Core.Bool.{Bool, true, false, _&&_}
 use lib.Dec.{leb}
 use lib.ListN.{length, getD, take, drop, length-drop, List·getD-eq-default}
 use borrow.Author.Tests.{lt-ltb, le-ltb, eq-eqb, ne-eqb, leb-true, ltb-true, eqb-true}
@@ -22,6 +22,13 @@ module _ (body : Bytes) where
   pub name-rest : (1 ≤ length body) × (length body ≤ maxName) → between 97 122 (getD {A = ℕ} body 0 0) ≡ true → every nameByte body ≡ isName body
   unfolding isName
   name-rest h e = rw (inside 1 maxName (length body) h, e)
+
+  pub name-short : isName body ≡ true → length body ≤ maxName
+  unfolding isName
+  name-short h =
+      let front = both (between 1 maxName (length body) && between 97 122 (getD {A = ℕ} body 0 0)) (every nameByte body) h in
+      let size = both (between 1 maxName (length body)) (between 97 122 (getD {A = ℕ} body 0 0)) (front .0) in
+      leb-true _ _ (both (leb 1 (length body)) (leb (length body) maxName) (size .0) .1)
 
   pub entry-length-no : (1 ≤ wordLength body → wordLength body ≤ maxWord → ⊥) → false ≡ isEntry body
   unfolding isEntry

@@ -47,11 +47,11 @@ module _ (bytes : Bytes) (at : ℕ) (names : List Bytes) (entries : ℕ) (seen :
   no-fault-body h k = rw k at (parts h .1)
 
 module _ (body : Bytes) (names : List Bytes) (entries : ℕ) (seen : Bool) where
-  pub name-no-fault : firstBroken (bodyRules 1 body names entries seen) ≡ 0 → length names < maxTypes
+  pub name-no-fault : firstBroken (bodyRules 1 body names entries seen) ≡ 0 → (isName body ≡ true) × (length names < maxTypes)
   name-no-fault h =
       let layout = none (not (isName body)) badLayout (cond (isAmong names body) nameUsed (cond (leb maxTypes (length names)) tooManyRecords 0)) (omega arith) (sym (name-rules body names entries seen) ∙ h) in
       let used = none (isAmong names body) nameUsed (cond (leb maxTypes (length names)) tooManyRecords 0) (omega arith) (layout .1) in
-      leb-false _ _ (none (leb maxTypes (length names)) tooManyRecords 0 (omega arith) (used .1) .0)
+      (not-false _ (layout .0), leb-false _ _ (none (leb maxTypes (length names)) tooManyRecords 0 (omega arith) (used .1) .0))
 
   pub pair-no-fault : firstBroken (bodyRules 2 body names entries seen) ≡ 0 → (length body ≡ 2) × (getD {A = ℕ} body 0 0 < length names) × (getD {A = ℕ} body 1 0 < length names)
   pair-no-fault h =

@@ -1,17 +1,17 @@
 -- What holds of every line that breaks none of 11 to 14: its words are those of the definition, each has an entry, and the numbers of a
 -- word's entries ascend.
-use Prim.Native.Nat.{ℕ, _+_, _*_, _≤_}
+use Prim.Native.Nat.{ℕ, _+_, _*_, _≤_, _<_}
 use native.Mathlib.Omega.{arith}
 use mathlib.Core.Path.{_≡_, refl, sym, ap, subst}
-use mathlib.Core.Bool.{Bool, true, false, cond}
+use mathlib.Core.Bool.{Bool, true, false, cond, _||_}
 use mathlib.Core.List.{List, [], _∷_, map, List·Memᴰ, List·Memᴰ·not-nil, List·Memᴰ·head, List·Memᴰ·tail, List·Memᴰ·cases-cons}
 use mathlib.Core.Logic.{⊎-elim}
 use mathlib.Core.Option.{Option, none, some}
-use lib.Dec.{eqb, ltb}
+use lib.Dec.{eqb, leb, ltb}
 use lib.ListN.{length, length-append}
-use borrow.Author.Tests.{ne-eqb, ltb-false}
+use borrow.Author.Tests.{ne-eqb, leb-false, ltb-false}
 use Rattle.pregroup.specs.Types.{PregroupType}
-use Rattle.figures.specs.Limits.{maxEntrySimples, maxLineSimples}
+use Rattle.figures.specs.Limits.{maxWord, maxWords, maxEntrySimples, maxLineSimples}
 use Rattle.figures.specs.Refusals.{badLineByte, badWord, unknownWord, tooManySimples}
 use Rattle.linking.specs.Reading.{NumberedEntry, Words, Choice, take, empty as empty-choice}
 use Rattle.linking.specs.Ascending.{Ascending, empty, more, AllAscending}
@@ -65,6 +65,26 @@ words-known B (w ∷ words) h = go (entriesOf B w) (λ k. words-known B words k)
         → AllKnown (es ∷ map (entriesOf B) words)
     go [] rest k = let z : _≡_ {A = ℕ} 0 1 = cc in absurd (omega arith)
     go (e ∷ es) rest k = known (rest (rw (ne-eqb (length (e ∷ es)) 0 (omega arith)) at k))
+
+-- Words that do not break 12: none is too long, and the first of them is not one too many ..
+pub word-fine : (n : ℕ) (w : Word) (words : List Word) → wordFault n (w ∷ words) ≡ none
+    → (length (w .bytes) ≤ maxWord) × (n < maxWords) × (wordFault (n + 1) words ≡ none)
+unfolding wordFault
+word-fine n w words h = go (ltb maxWord (length (w .bytes))) (leb maxWords n) refl refl h
+  where
+    go : (long many : Bool) → ltb maxWord (length (w .bytes)) ≡ long → leb maxWords n ≡ many
+        → cond (long || many) (some (w .at)) (wordFault (n + 1) words) ≡ none
+        → (length (w .bytes) ≤ maxWord) × (n < maxWords) × (wordFault (n + 1) words ≡ none)
+    go true many p q k = let z : _≡_ {A = ℕ} 0 1 = cc in absurd (omega arith)
+    go false true p q k = let z : _≡_ {A = ℕ} 0 1 = cc in absurd (omega arith)
+    go false false p q k = (ltb-false _ _ p, leb-false _ _ q, k)
+
+-- .. so that they are few.
+pub words-few : (n : ℕ) (words : List Word) → n ≤ maxWords → wordFault n words ≡ none → n + length words ≤ maxWords
+words-few n [] h k = omega arith
+words-few n (w ∷ words) h k =
+    let fine = word-fine n w words k in
+    omega (arith, words-few (n + 1) words (omega (arith, fine .1)) (fine .2))
 
 -- What a line that passes comes to.
 pub record Passing (B : Book) (line : Bytes) (words : Words) : Type 0 where

@@ -1,10 +1,10 @@
 -- What `read_line` answers is listed whole: a row for each word, with its entry, and a row for each simple type of the reading's choice, with its
 -- partner. Nothing of what `listing` says of other values is needed for it.
-use Prim.Native.Nat.{ℕ, suc, _+_, _-_, _≤_}
+use Prim.Native.Nat.{ℕ, suc, _+_, _-_, _≤_, _<_}
 use native.Mathlib.Numerals.{add-one}
 use native.Mathlib.Omega.{arith}
 use mathlib.Core.Path.{_≡_, refl, sym, ap, _∙_}
-use mathlib.Core.Logic.{_⊎_, ⊎-elim}
+use mathlib.Core.Logic.{⊎-elim}
 use mathlib.Core.Bool.{Bool, true, false, cond}
 use mathlib.Core.List.{List, [], _∷_, _++_, map, List·Memᴰ, List·Memᴰ·not-nil, List·Memᴰ·cases-cons}
 use lib.ListN.{length, take, drop}
@@ -23,12 +23,12 @@ use Rattle.listing.specs.Listing.{typeOf, joined, readingRows, counted, 
 
 -- An entry of a word, by its number: n entries stand before these.
 abbrev Typed : ℕ → List Entry → NumberedEntry → Type 0
-Typed n entries f = (n ≤ f .number) × (typeOf entries (f .number - n) ≡ f .type)
+Typed n entries f = (n ≤ f .number) × (f .number < n + length entries) × (typeOf entries (f .number - n) ≡ f .type)
 
 typed-later : (n : ℕ) (e : Entry) (entries : List Entry) (f : NumberedEntry) → Typed (n + 1) entries f → Typed n (e ∷ entries) f
 typed-later n e entries f t =
     let behind : f .number - n ≡ suc (f .number - (n + 1)) = omega (arith, t .0) in
-    (omega (arith, t .0), ap (typeOf (e ∷ entries)) behind ∙ t .1)
+    (omega (arith, t .0), omega (arith, t .1), ap (typeOf (e ∷ entries)) behind ∙ t .2)
 
 entries-typed : (n : ℕ) (entries : List Entry) (word : Bytes) (f : NumberedEntry) → List·Memᴰ f (entriesFrom n entries word) → Typed n entries f
 unfolding entriesFrom
@@ -43,19 +43,20 @@ entries-typed n (e ∷ entries) word f m = go (sameWord (e .word) word) (λ k. t
 
     here : f ≡ first → Typed n (e ∷ entries) f
     here q =
-        let none-before : f .number - n ≡ 0 = omega (arith, ap (λ (x : NumberedEntry). x .number) q) in
-        (omega (arith, ap (λ (x : NumberedEntry). x .number) q), ap (typeOf (e ∷ entries)) none-before ∙ sym (ap (λ (x : NumberedEntry). x .type) q))
+        let number = ap (λ (x : NumberedEntry). x .number) q in
+        let none-before : f .number - n ≡ 0 = omega arith in
+        (omega arith, omega arith, ap (typeOf (e ∷ entries)) none-before ∙ sym (ap (λ (x : NumberedEntry). x .type) q))
 
     go : (b : Bool) → (List·Memᴰ f rest → Typed n (e ∷ entries) f) → List·Memᴰ f (cond b (first ∷ rest) rest) → Typed n (e ∷ entries) f
     go true later k = ⊎-elim here later (List·Memᴰ·cases-cons k)
     go false later k = later k
 
 module _ (B : Book) where
-  -- The types of a choice's entries, joined, are its type; and it has an entry for each word.
-  choice-joined : {words : Words} {ns : List ℕ} {X : PregroupType} → Choice words ns X → (typed : List Word) → words ≡ map (entriesOf B) typed
-      → (joined (B .entries) ns ≡ X) × (length ns ≡ length typed)
+  -- The types of a choice's entries, joined, are its type; it has an entry for each word; and its entries are the book's.
+  pub choice-joined : {words : Words} {ns : List ℕ} {X : PregroupType} → Choice words ns X → (typed : List Word) → words ≡ map (entriesOf B) typed
+      → (joined (B .entries) ns ≡ X) × (length ns ≡ length typed) × ((n : ℕ) → List·Memᴰ n ns → n < length (B .entries))
   unfolding joined
-  choice-joined empty [] e = (refl, refl)
+  choice-joined empty [] e = (refl, refl, λ n m. absurd (List·Memᴰ·not-nil m))
   choice-joined empty (w ∷ typed) e = let z : _≡_ {A = ℕ} 0 1 = cc in absurd (omega arith)
   choice-joined (chosen-entry m c) [] e = let z : _≡_ {A = ℕ} 0 1 = cc in absurd (omega arith)
   choice-joined (chosen-entry {e = f} {es} {rest} {ns} {X} m c) (w ∷ typed) e =
@@ -64,7 +65,7 @@ module _ (B : Book) where
       let t = entries-typed 0 (B .entries) (w .bytes) f (rw here at m) in
       let number : f .number - 0 ≡ f .number = omega arith in
       let r = choice-joined c typed behind in
-      (rw (← number, t .1, r .0), omega (arith, r .1))
+      (rw (← number, t .2, r .0), omega (arith, r .1), λ n k. ⊎-elim (λ q. omega (arith, t .1)) (λ l. r .2 n l) (List·Memᴰ·cases-cons k))
 
 -- The parts of an answer's values are its entry numbers and its partners.
 module _ (entries partners : List ℕ) where

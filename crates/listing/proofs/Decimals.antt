@@ -44,11 +44,11 @@ decimal-more n h =
     last-digits-more n n h
     ∙ ap (λ (front : Bytes). front ++ ((48 + n % 10) ∷ [])) (last-digits-enough n (suc (n / 10)) (n / 10) (omega arith) (omega arith))
 
-pub decimal-length : (most n : ℕ) → n < 10 ^ most → length (decimal n) ≤ suc most
+pub decimal-length : (more n : ℕ) → n < 10 ^ suc more → length (decimal n) ≤ suc more
 decimal-length zero n h = let small : n < 10 = omega arith in rw (decimal-small n small) (omega arith)
-decimal-length (suc most) n h = by (λ big. decimal-length most (n / 10) (omega arith)) (less-or-not n 10)
+decimal-length (suc more) n h = by (λ big. decimal-length more (n / 10) (omega arith)) (less-or-not n 10)
   where
-    by : (10 ≤ n → length (decimal (n / 10)) ≤ suc most) → (n < 10) ⊎ (10 ≤ n) → length (decimal n) ≤ suc (suc most)
+    by : (10 ≤ n → length (decimal (n / 10)) ≤ suc more) → (n < 10) ⊎ (10 ≤ n) → length (decimal n) ≤ suc (suc more)
     by front (inl small) = rw (decimal-small n small) (omega arith)
     by front (inr big) =
         rw (decimal-more n big) (omega (arith, length-append (decimal (n / 10)) ((48 + n % 10) ∷ []), front big))

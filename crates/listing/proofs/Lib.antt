@@ -3,7 +3,9 @@ pub mod Decimals
 pub mod Fields
 pub mod PartLaws
 pub mod RowLaws
+pub mod Lengths
 pub mod Bounds
 pub mod Rendering
 pub mod Answers
+pub mod Longest
 pub mod Examples

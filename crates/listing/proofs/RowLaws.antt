@@ -29,7 +29,7 @@ module _ (entries : List ℕ) (line : Bytes) (starts ends : List ℕ) (words : �
   abbrev pub from : ℕ → Bytes
   from k = wordRows entries k (drop k (wordsOf line))
 
-  pub word-rows-at : (k : ℕ) → k < words → from k ≡ here k ++ from (k + 1)
+  word-rows-at : (k : ℕ) → k < words → from k ≡ here k ++ from (k + 1)
   unfolding wordRows
   word-rows-at k h = rw (words-at line starts ends words s k h, add-one k)
 
@@ -80,7 +80,7 @@ module _ (names : List Bytes) (partners : List ℕ) (part : Bytes) where
     simples-put h = going-done (rw (drop-of-length-le part {i = j} h) at g)
 
 module _ (names : List Bytes) (partners : List ℕ) where
-  pub type-rows-append : (k : ℕ) (X Y : PregroupType) (n : ℕ) → n ≡ k + length X → typeRows names partners k (X ++ Y) ≡ typeRows names partners k X ++ typeRows names partners n Y
+  type-rows-append : (k : ℕ) (X Y : PregroupType) (n : ℕ) → n ≡ k + length X → typeRows names partners k (X ++ Y) ≡ typeRows names partners k X ++ typeRows names partners n Y
   unfolding typeRows
   type-rows-append k [] Y n e = let same : n ≡ k = omega arith in rw same
   type-rows-append k (x ∷ X) Y n e =

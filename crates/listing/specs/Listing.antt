@@ -1,10 +1,11 @@
 -- Document 01, "A book to try": what `reading` prints of an answer or a refusal. Each kind of row is one definition, its fields in their order.
-use Prim.Native.Nat.{ℕ, suc, _+_, _≤_, _<_}
+use Prim.Native.Nat.{ℕ, suc, _+_, _*_, _≤_, _<_}
 use mathlib.Core.Path.{_≡_}
 use mathlib.Core.List.{List, [], _∷_, _++_}
 use mathlib.Core.Option.{Option, none, some}
 use lib.IntN.{ℤ}
 use lib.ListN.{length, getD, take, drop}
+use Rattle.figures.specs.Limits.{maxWords, maxString}
 use Rattle.figures.specs.Refusals.{badLineByte, badWord}
 use Rattle.pregroup.specs.Types.{PregroupType}
 use Rattle.book.specs.Format.{Bytes, Entry, Parsed, accepted, refused, parse}
@@ -92,6 +93,11 @@ listed book line values = parsedRows (parse book) line values
 abbrev pub listing : Bytes → Bytes → LineAnswer → List ℕ → Bytes
 listing book line (Read n) buffer = listed book line (take n buffer)
 listing book line (Refused number value) buffer = refusalRow number value
+
+-- How many bytes the listing of what `read_line` answers has at most: 11 for its first row, 40 for each word and 27 for each simple type.
+-- `src/lib.rt` has the same figure.
+abbrev pub maxListing : ℕ
+maxListing = 11 + 40 * maxWords + 27 * maxString
 
 -- A listing for which there is room is written whole, and the bytes behind it stay. For a longer one the bytes needed are returned, and
 -- nothing is written.

@@ -23,6 +23,7 @@ ghost use Rattle.listing.specs.Listing.{refusalRow, answerRows, lineRows
 ghost use Rattle.listing.specs.Parts.{BookKept, LineKept};
 
 // How many bytes the listing of what `read_line` answers has at most: 11 for its first row, 40 for each word and 27 for each simple type.
+// specs/Listing has the same figure; proofs/Longest proves it enough.
 pub const MAX_LISTING: usize = 11 + 40 * MAX_WORDS + 27 * MAX_STRING;
 
 // What rendering a listing gives. `Written`: the buffer holds the listing, of so many bytes, and those behind it are as they were.

@@ -19,6 +19,7 @@ fn answer_line(book: &[u8], line: &[u8]) {
     let mut text = [0u8; MAX_LISTING];
     let rendered = render(book, line, answer, &values, &mut text);
     let Rendered::Written { bytes } = rendered else {
+        // Never taken: MAX_LISTING bytes always suffice (`answer-short`, `refusal-short`).
         return;
     };
     io::write_all(STDOUT_FILENO, &text[0..bytes]);

@@ -1,0 +1,86 @@
+-- How many bytes rows take, from bounds on their fields. The same laws bound the listing of any values, for its places to be counted, and that of an
+-- answer.
+use Prim.Native.Nat.{ℕ, suc, _+_, _*_, _≤_, _<_}
+use native.Mathlib.Nat.{suc-mul}
+use native.Mathlib.Numerals.{add-one}
+use native.Mathlib.Omega.{arith}
+use mathlib.Core.Path.{_≡_, refl}
+use mathlib.Core.Logic.{⊎-elim}
+use mathlib.Core.List.{List, [], _∷_, _++_, List·Memᴰ, List·Memᴰ·not-nil, List·Memᴰ·head, List·Memᴰ·tail, List·Memᴰ·append-cases}
+use mathlib.Core.Option.{none}
+use lib.ListN.{length, getD, length-append}
+use Rattle.figures.specs.Limits.{maxEntrySimples}
+use Rattle.pregroup.specs.Types.{Simple, PregroupType}
+use Rattle.book.specs.Format.{Bytes, Entry}
+use Rattle.line.specs.LineWords.{Word}
+use Rattle.line.specs.LineFaults.{wordFault}
+use Rattle.line.proofs.Passed.{word-fine}
+use Rattle.listing.specs.Text.{decimal, signed, row}
+use Rattle.listing.specs.Listing.{firstRow, wordRow, typeRow, wordRows, typeRows, typeOf, joined, readingRows}
+use Rattle.listing.proofs.Decimals.{decimal-length}
+
+-- A byte behind each field.
+pub row-of-three : (a b c : Bytes) → length (row (a ∷ b ∷ c ∷ [])) ≡ length a + length b + length c + 3
+row-of-three a b c = omega (arith, length-append a (32 ∷ row (b ∷ c ∷ [])), length-append b (32 ∷ row (c ∷ [])), length-append c (10 ∷ []))
+
+pub row-of-four : (a b c d : Bytes) → length (row (a ∷ b ∷ c ∷ d ∷ [])) ≡ length a + length b + length c + length d + 4
+row-of-four a b c d = omega (arith, length-append a (32 ∷ row (b ∷ c ∷ d ∷ [])), row-of-three b c d)
+
+-- Rows of at most so many bytes each. The number of a word takes at most 2, the word 31.
+module _ (most : ℕ) where
+  pub word-rows-within : (chosen : List ℕ) → ((i : ℕ) → length (decimal (getD {A = ℕ} chosen i 0)) + 36 ≤ most)
+      → (k : ℕ) (words : List Word) → wordFault k words ≡ none → length (wordRows chosen k words) ≤ length words * most
+  unfolding wordRows
+  word-rows-within chosen short k [] h = omega arith
+  word-rows-within chosen short k (w ∷ words) h =
+      let fine = word-fine k w words h in
+      let entry = getD {A = ℕ} chosen k 0 in
+      omega (
+        arith,
+        suc-mul (length words) most,
+        length-append (wordRow (suc k) (w .bytes) entry) (wordRows chosen (suc k) words),
+        row-of-three (decimal (suc k)) (w .bytes) (decimal entry),
+        decimal-length 1 (suc k) (omega (arith, fine .1)),
+        fine .0,
+        short k,
+        word-rows-within chosen short (suc k) words (rw add-one at (fine .2)),
+      )
+
+  pub type-rows-within : (names : List Bytes) (partners : List ℕ) (k : ℕ) (X : PregroupType)
+      → ((j : ℕ) (x : Simple) → j < k + length X → List·Memᴰ x X
+      → length (typeRow (suc j) (getD {A = Bytes} names (x .base) []) (x .exponent) (getD {A = ℕ} partners j 0)) ≤ most)
+      → length (typeRows names partners k X) ≤ length X * most
+  unfolding typeRows
+  type-rows-within names partners k [] short = omega arith
+  type-rows-within names partners k (x ∷ X) short =
+      omega (
+        arith,
+        suc-mul (length X) most,
+        length-append (typeRow (suc k) (getD {A = Bytes} names (x .base) []) (x .exponent) (getD {A = ℕ} partners k 0)) (typeRows names partners (suc k) X),
+        short k x (omega arith) (List·Memᴰ·head refl),
+        type-rows-within names partners (suc k) X (λ j y h m. short j y (omega arith) (List·Memᴰ·tail m)),
+      )
+
+-- The type of an entry, with exponents of at most so many bytes.
+pub record TypeShort (most : ℕ) (X : PregroupType) : Type 0 where
+  pub simples : length X ≤ maxEntrySimples
+  pub signs : (x : Simple) → List·Memᴰ x X → length (signed (x .exponent)) ≤ most
+
+pub joined-within : (most : ℕ) (entries : List Entry) → ((number : ℕ) → TypeShort most (typeOf entries number)) → (chosen : List ℕ)
+    → (length (joined entries chosen) ≤ length chosen * maxEntrySimples)
+    × ((x : Simple) → List·Memᴰ x (joined entries chosen) → length (signed (x .exponent)) ≤ most)
+unfolding joined
+joined-within most entries short [] = (omega arith, λ x m. absurd (List·Memᴰ·not-nil m))
+joined-within most entries short (number ∷ chosen) =
+    let rest = joined-within most entries short chosen in (
+      omega (arith, length-append (typeOf entries number) (joined entries chosen), short number .simples, rest .0),
+      λ x m. ⊎-elim (λ k. short number .signs x k) (λ k. rest .1 x k) (List·Memᴰ·append-cases (typeOf entries number) m),
+    )
+
+pub reading-length : (names : List Bytes) (entries : List Entry) (words : List Word) (chosen partners : List ℕ)
+    → length (readingRows names entries words chosen partners)
+    ≡ length (firstRow (length chosen) (length partners)) + length (wordRows chosen 0 words) + length (typeRows names partners 0 (joined entries chosen))
+reading-length names entries words chosen partners =
+    let of-words = wordRows chosen 0 words in
+    let of-types = typeRows names partners 0 (joined entries chosen) in
+    omega (arith, length-append (firstRow (length chosen) (length partners)) (of-words ++ of-types), length-append of-words of-types)
