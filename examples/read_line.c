@@ -1,7 +1,5 @@
 /* Reads a line against a book: read_line BOOK LINE. Prints the values of the answer, or the number of the refusal and its value. */
 #include "vurzhelik.h"
-
-#include <inttypes.h>
 #include <stdio.h>
 #include <string.h>
 
@@ -12,28 +10,23 @@ int main(int argc, char **argv) {
     uint16_t answer[VURZHELIK_MAX_VALUES];
     uint64_t value;
     if (argc != 3 || vurzhelik_version() != VURZHELIK_VERSION) {
-        fputs(argc != 3 ? "usage: read_line BOOK LINE\n" : "library and header are of different versions\n", stderr);
+        fputs("usage: read_line BOOK LINE, with library and header of one version\n", stderr);
         return 2;
     }
     FILE *file = fopen(argv[1], "rb");
-    if (file == NULL) {
-        perror(argv[1]);
-        return 2;
-    }
-    size_t length = fread(book, 1, sizeof book, file);
-    if (ferror(file)) {
+    size_t length = file ? fread(book, 1, sizeof book, file) : 0;
+    if (!file || ferror(file)) {
         perror(argv[1]);
         return 2;
     }
     fclose(file);
-    uint32_t result =
-        vurzhelik_read_line(book, length, (const uint8_t *)argv[2], strlen(argv[2]), answer, VURZHELIK_MAX_VALUES, &value);
+    const uint8_t *line = (const uint8_t *)argv[2];
+    uint32_t result = vurzhelik_read_line(book, length, line, strlen(argv[2]), answer, VURZHELIK_MAX_VALUES, &value);
     if (result != VURZHELIK_OK) {
-        printf("refused: %" PRIu32 ", value %" PRIu64 "\n", result, value);
+        printf("refused: %u, value %llu\n", (unsigned)result, (unsigned long long)value);
         return 1;
     }
-    for (uint64_t i = 0; i < value; i++) {
+    for (uint64_t i = 0; i < value; i++)
         printf("%u%c", (unsigned)answer[i], i + 1 < value ? ' ' : '\n');
-    }
     return 0;
 }

@@ -140,6 +140,7 @@ pub answer-short : (book line : Bytes) (buffer after : List ℕ) (n : ℕ) → P
     → length (listing book line (Read n) after) ≤ maxListing
 answer-short book line buffer after n p = reading-short book line (listing book line (Read n) after) (answer-listed book line buffer after n p)
 
-pub refusal-short : (number value : ℕ) → number < 100 → value < placeBound → length (refusalRow number value) ≤ maxListing
+-- The row of a refusal, whatever numbers of 64 bits it has.
+pub refusal-short : (number value : ℕ) → number < placeBound → value < placeBound → length (refusalRow number value) ≤ maxListing
 refusal-short number value h i =
-    omega (arith, row-of-three no (decimal number) (decimal value), decimal-length 1 number (omega arith), decimal-length 19 value (omega arith))
+    omega (arith, row-of-three no (decimal number) (decimal value), decimal-length 19 number (omega arith), decimal-length 19 value (omega arith))
