@@ -13,7 +13,7 @@ use Rattle.book.specs.Format.{Bytes, Book, Draft, Parsed, accepted, refu
 use Rattle.book.specs.Kept.{nextFault}
 use Rattle.book.specs.Check.{GoodUpTo, start, next, Cause, too-long, bad-record, no-target}
 use Rattle.book.proofs.NoFault.{no-fault-whole}
-use Rattle.book.proofs.SmallestNumber.{Decided, clean, broken, fault-decided, fault-clean, fault-smallest, breaks-some}
+use Rattle.book.proofs.SmallestNumber.{Decided, clean, broken, fault-decided, fault-clean, fault-smallest, breaks-within}
 
 module _ (bytes : Bytes) where
   records-end : (more at : ℕ) (d : Draft) → length bytes ≤ at → recordsFrom more bytes at d ≡ ended bytes d
@@ -84,7 +84,7 @@ module _ (bytes : Bytes) where
   unfolding ended
   cause-refuses (too-long h) = long-refused h
   cause-refuses (bad-record {at} {n} {d} short good h b least) =
-      bad-refuses short good n h (fault-smallest bytes at d n b least) (breaks-some bytes at d n b)
+      bad-refuses short good n h (fault-smallest bytes at d n b least) (breaks-within bytes at d n b .0)
   cause-refuses (no-target short good) = end-parse short good (omega arith)
 
   -- What a book comes to, with its cause.

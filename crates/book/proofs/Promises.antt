@@ -1,24 +1,24 @@
 -- The book check keeps its promises, for all bytes: whatever `parse` comes to has its cause, and no cause leads to anything else. And no other
 -- answer keeps them.
-use Prim.Native.Nat.{ℕ, _<_}
+use Prim.Native.Nat.{ℕ, _≤_, _<_}
 use native.Mathlib.Omega.{arith}
 use mathlib.Core.Path.{_≡_, refl, sym, ap, _∙_}
 use mathlib.Core.List.{[], _∷_}
 use lib.ListN.{length}
-use Rattle.figures.specs.Refusals.{Reply}
+use Rattle.figures.specs.Refusals.{Reply, noTarget}
 use Rattle.order.specs.Closed.{Closed, Listed, HasPairs, closedCount}
 use Rattle.order.proofs.PairCount.{closed-has-pairs, pairs-unique}
 use Rattle.book.specs.Format.{Bytes, Book, Parsed, accepted, refused, parse, ended}
 use Rattle.book.specs.Check.{answerFor, bookCheck, checkReply, Cause, too-long, bad-record, no-target, BookPromised}
-use Rattle.book.proofs.SmallestNumber.{breaks-some}
+use Rattle.book.proofs.SmallestNumber.{breaks-within}
 use Rattle.book.proofs.Parsing.{end-parse, cause-refuses, Comes, whole, stopped, parse-comes}
 use Rattle.book.proofs.Accepted.{good-declares}
 
--- No cause has the number 0.
-pub cause-some : {bytes : Bytes} {n v : ℕ} → Cause bytes n v → 0 < n
-cause-some (too-long h) = omega arith
-cause-some {bytes} (bad-record {at} {n} {d} short good h b least) = breaks-some bytes at d n b
-cause-some (no-target short good) = omega arith
+-- The number of a cause is from 1 to 10.
+pub cause-within : {bytes : Bytes} {n v : ℕ} → Cause bytes n v → (0 < n) × (n ≤ noTarget)
+cause-within (too-long h) = omega arith
+cause-within {bytes} (bad-record {at} {n} {d} short good h b least) = let number = breaks-within bytes at d n b in omega arith
+cause-within (no-target short good) = omega arith
 
 refused-number : (n m v w : ℕ) → refused n v ≡ refused m w → n ≡ m
 refused-number n m v w e = cc
@@ -48,7 +48,7 @@ module _ (bytes : Bytes) where
         refuses = λ n v. (λ q. let three : _≡_ {A = ℕ} 3 1 = ap (λ (r : Reply). length (r .values)) q in absurd (omega arith), λ cause. absurd (never n v cause));
       }
   checked (stopped {n} {v} cause) parsed =
-      let some-number = cause-some cause in
+      let number = cause-within cause in
       record {
         accepts = (λ z. absurd (omega arith), λ free. absurd (free n v cause));
         counts = λ z. absurd (omega arith);

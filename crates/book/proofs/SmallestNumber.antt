@@ -5,6 +5,7 @@ use mathlib.Core.Path.{_≡_, refl, ap}
 use mathlib.Core.Logic.{⊎-elim}
 use mathlib.Core.Bool.{Bool, true, false, cond, true≢false}
 use mathlib.Core.List.{List, [], _∷_, List·Memᴰ, List·Memᴰ·head, List·Memᴰ·tail, List·Memᴰ·not-nil, List·Memᴰ·cases-cons}
+use Rattle.figures.specs.Refusals.{tooManyRecords}
 use Rattle.book.specs.Format.{Bytes, Draft, bodyRules, recordRules, firstBroken, nextRules}
 use Rattle.book.specs.Kept.{nextFault}
 use Rattle.book.specs.Check.{Breaks}
@@ -23,6 +24,16 @@ broken-above k [] rising n b = absurd (List·Memᴰ·not-nil b)
 broken-above k (rule ∷ rules) rising n b =
     let above = broken-above (rule .0) rules (rising .1) n in
     ⊎-elim (λ e. let same : n ≡ rule .0 = ap (λ (r : ℕ × Bool). r .0) e in omega (arith, rising .0)) (λ l. omega (arith, rising .0, above l)) (List·Memᴰ·cases-cons b)
+
+-- The numbers of the rules are at most this.
+abbrev Within : ℕ → List (ℕ × Bool) → Type 0
+Within most [] = Unit {0}
+Within most (rule ∷ rules) = (rule .0 ≤ most) × Within most rules
+
+broken-within : (most : ℕ) (rules : List (ℕ × Bool)) → Within most rules → (n : ℕ) → Broken rules n → n ≤ most
+broken-within most [] within n b = absurd (List·Memᴰ·not-nil b)
+broken-within most (rule ∷ rules) within n b =
+    ⊎-elim (λ e. let same : n ≡ rule .0 = ap (λ (r : ℕ × Bool). r .0) e in omega (arith, within .0)) (λ l. broken-within most rules (within .1) n l) (List·Memᴰ·cases-cons b)
 
 -- What the first broken rule's number says.
 pub data Decided (rules : List (ℕ × Bool)) (n : ℕ) : Type 0 where
@@ -68,8 +79,12 @@ module _ (bytes : Bytes) (at : ℕ) (d : Draft) where
       go m (clean q never) = absurd (never n b)
       go m (broken some c first) = omega (arith, least m c, first n b)
 
-  pub breaks-some : (n : ℕ) → Breaks bytes at d n → 0 < n
-  breaks-some n b = broken-above 0 (nextRules bytes at d) rules-rise n b
+  rules-within : Within tooManyRecords (nextRules bytes at d)
+  unfolding recordRules bodyRules
+  rules-within = (omega arith, (omega arith, (omega arith, (omega arith, (omega arith, (omega arith, (omega arith, (omega arith, tt))))))))
+
+  pub breaks-within : (n : ℕ) → Breaks bytes at d n → (0 < n) × (n ≤ tooManyRecords)
+  breaks-within n b = (broken-above 0 (nextRules bytes at d) rules-rise n b, broken-within tooManyRecords (nextRules bytes at d) rules-within n b)
 
   pub fault-clean : ((n : ℕ) → Breaks bytes at d n → ⊥) → nextFault bytes at d ≡ 0
   fault-clean never = go (nextFault bytes at d) fault-decided

@@ -1,6 +1,5 @@
 -- From a scanned book and a checked line to a graph that can be read, and from what the graph gives to the outcome.
 use Prim.Native.Nat.{ℕ, _≤_}
-use native.Mathlib.Omega.{arith}
 use mathlib.Core.Path.{_≡_, sym, ap, subst, _∙_}
 use mathlib.Core.Logic.{Iff·trans, Iff·symm}
 use mathlib.Core.List.{List}

@@ -1,15 +1,14 @@
--- No refusal of a book or a line has the number 0, so that 0 can stand for success.
-use Prim.Native.Nat.{ℕ}
+-- The numbers of refusals: a book's are from 1 to 10, a line's before it is read from 11 to 14. So 0 can stand for success.
+use Prim.Native.Nat.{ℕ, _≤_, _<_}
 use native.Mathlib.Omega.{arith}
-use mathlib.Core.Path.{_≡_}
 use mathlib.Core.Bool.{Bool, true, false, cond}
 use mathlib.Core.Option.{Option, none, some}
 use lib.Dec.{ltb}
 use Rattle.figures.specs.Limits.{maxLineSimples}
-use Rattle.figures.specs.Refusals.{badLineByte, badWord, unknownWord, tooManySimples}
+use Rattle.figures.specs.Refusals.{noTarget, badLineByte, badWord, unknownWord, tooManySimples}
 use Rattle.book.specs.Format.{Bytes, Book, Parsed, accepted, refused, parse}
 use Rattle.book.proofs.Parsing.{Comes, whole, stopped as parsed-refused, parse-comes}
-use Rattle.book.proofs.Promises.{cause-some}
+use Rattle.book.proofs.Promises.{cause-within}
 use Rattle.line.specs.LineWords.{wordsOf}
 use Rattle.line.specs.LineFaults.{LineCheck, passed, stopped, lineCheck, orElse, byteFault, wordFault, entryFault, simplesOfWords, entriesOfLine}
 
@@ -20,20 +19,20 @@ either-side P false x y p q = q
 
 abbrev pub NamedParse : Parsed → Type 0
 NamedParse (accepted B) = Unit {0}
-NamedParse (refused number value) = number ≡ 0 → ⊥
+NamedParse (refused number value) = (0 < number) × (number ≤ noTarget)
 
 comes-named : {bytes : Bytes} {p : Parsed} → Comes bytes p → NamedParse p
 comes-named (whole short good) = tt
-comes-named (parsed-refused cause) = λ z. omega (arith, cause-some cause)
+comes-named (parsed-refused cause) = cause-within cause
 
 pub parse-named : (bytes : Bytes) → NamedParse (parse bytes)
 parse-named bytes = comes-named (parse-comes bytes)
 
 abbrev pub NamedLine : LineCheck → Type 0
 NamedLine (passed words) = Unit {0}
-NamedLine (stopped number value) = number ≡ 0 → ⊥
+NamedLine (stopped number value) = (noTarget < number) × (number ≤ tooManySimples)
 
-or-else-named : (number : ℕ) (found : Option ℕ) (next : LineCheck) → (number ≡ 0 → ⊥) → NamedLine next → NamedLine (orElse number found next)
+or-else-named : (number : ℕ) (found : Option ℕ) (next : LineCheck) → (noTarget < number) × (number ≤ tooManySimples) → NamedLine next → NamedLine (orElse number found next)
 or-else-named number none next named rest = rest
 or-else-named number (some value) next named rest = named
 

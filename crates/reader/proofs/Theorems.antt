@@ -32,7 +32,7 @@ use Rattle.book.proofs.Promises.{check-promised, one-answer}
 use Rattle.reader.specs.declared.LineAnswer.the-variants.{Refused}
 use Rattle.reader.specs.Outcome.{outcome}
 use Rattle.reader.specs.Demands.{Promised}
-use Rattle.reader.proofs.Promises.{outcome-promised, refusals-named}
+use Rattle.reader.proofs.Promises.{outcome-promised, refusals-within}
 use Rattle.reader.proofs.Table.{Case, lineOf, cases, lent, expected, paper-cases}
 
 module _ {Declared : Basic → Type 0} {Le : Relation} (order : IsOrder Declared Le) where
@@ -96,9 +96,9 @@ module _ (book line : Bytes) (buffer : List ℕ) where
   pub promises-kept : Promised book line buffer (outcome book line buffer .answer) (outcome book line buffer .buffer)
   promises-kept = outcome-promised book line buffer
 
-  -- No refusal has the number 0, which stands for success.
-  pub no-refusal-is-zero : (number value : ℕ) → outcome book line buffer .answer ≡ Refused number value → number ≡ 0 → ⊥
-  no-refusal-is-zero = refusals-named book line buffer
+  -- A refusal has a number from 1 to 16; 0 stands for success.
+  pub refusals-from-1-to-16 : (number value : ℕ) → outcome book line buffer .answer ≡ Refused number value → (1 ≤ number) × (number ≤ 16)
+  refusals-from-1-to-16 = refusals-within book line buffer
 
 -- The marked cases of the paper come to what its table says.
 pub marked-cases : map (λ (c : Case). outcome (c .book) (lineOf (c .words)) lent) cases ≡ map (λ (c : Case). expected (c .reading)) cases

@@ -1,5 +1,6 @@
 -- A refusal handed on as numbers stands for itself: its number is not 0.
 use Prim.Native.Nat.{ℕ}
+use native.Mathlib.Omega.{arith}
 use mathlib.Core.Path.{_≡_, refl, sym, subst}
 use mathlib.Core.List.{List, [], _∷_}
 use borrow.Author.Tests.{ne-eqb}
@@ -10,7 +11,7 @@ use Rattle.book.specs.declared.BookCheck.the-variants.{Accepted, Refused}
 use Rattle.reader.specs.declared.LineAnswer.the-variants.{Refused as RefusedLine}
 use Rattle.reader.specs.Outcome.{outcome}
 use Rattle.reader.proofs.Refusals.{NamedParse, parse-named}
-use Rattle.reader.proofs.Promises.{refusals-named}
+use Rattle.reader.proofs.Promises.{refusals-within}
 use Rattle.vurzhelik.specs.Calls.{Checks, answerOf}
 
 abbrev NamedCheck : BookCheck → Type 0
@@ -22,7 +23,7 @@ check-named bytes = go (parse bytes) (parse-named bytes)
   where
     go : (p : Parsed) → NamedParse p → NamedCheck (answerFor p)
     go (accepted B) named = tt
-    go (refused number value) named = named
+    go (refused number value) named = λ z. omega (arith, named .0)
 
 -- The laws that the two functions use.
 
@@ -38,4 +39,4 @@ accepted-checks bytes before types entries pairs e =
     (record { same-number = refl; accepted = λ _. (refl, refl); refused = λ some. absurd (some refl) })
 
 pub refused-answers : (book line : Bytes) (buffer : List ℕ) (number value : ℕ) → RefusedLine number value ≡ outcome book line buffer .answer → RefusedLine number value ≡ answerOf number value
-refused-answers book line buffer number value e = rw (ne-eqb number 0 (refusals-named book line buffer number value (sym e)))
+refused-answers book line buffer number value e = rw (ne-eqb number 0 (λ z. omega (arith, refusals-within book line buffer number value (sym e) .0)))
