@@ -37,13 +37,13 @@ pub fn all() -> Vec<Sample> {
 
 /// Books to check alone, by name.
 pub fn books() -> [(&'static str, Vec<u8>); 4] {
-    let book_of = |samples: Vec<Sample>, place: usize| samples[place].book.clone();
-    let last = full().len() - 1;
+    let (typical, hard, full) = (typical(), hard(), full());
+    let last = full.len() - 1;
     [
-        ("typical, 1000 entries", book_of(typical(), 0)),
-        ("64 types in a cycle", book_of(hard(), 1)),
-        ("1024 empty entries, 1 byte", book_of(full(), 0)),
-        ("1024 words alike, 31 bytes", book_of(full(), last)),
+        ("typical, 1000 entries", typical[0].book.clone()),
+        ("64 types in a cycle", hard[1].book.clone()),
+        ("1024 empty entries, 1 byte", full[0].book.clone()),
+        ("1024 words alike, 31 bytes", full[last].book.clone()),
     ]
 }
 

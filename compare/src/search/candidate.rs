@@ -1,14 +1,12 @@
 //! A book and a line as the search changes them: the exponents of each word's entries, and the line's words. The basic types are all
 //! equal by a cycle of the order, so that their numbers do not matter, and the book is filled up to its limits.
 use crate::books::Records;
+use crate::twin::figures::limits::{
+    MAX_BOOK, MAX_ENTRIES, MAX_ENTRY_SIMPLES, MAX_LINE_SIMPLES, MAX_TYPES, MAX_WORDS,
+};
 
-/// The paper's limits.
-pub const MAX_WORDS: usize = 24;
-pub const MAX_LINE_SIMPLES: usize = 512;
-pub const MAX_ENTRY_SIMPLES: usize = 12;
-pub const MAX_ENTRIES: usize = 1024;
-const MAX_BOOK: usize = 65_535;
-const MAX_TYPES: u8 = 64;
+/// The number of basic types as a type number.
+const TYPES: u8 = MAX_TYPES as u8;
 
 /// How many bytes a pair's record has.
 const PAIR: usize = 6;
@@ -78,11 +76,11 @@ impl Candidate {
     /// of a type with itself as there is room for.
     pub fn book(&self) -> Vec<u8> {
         let mut book = Records::default();
-        for number in 0..MAX_TYPES {
+        for number in 0..TYPES {
             book.basic_type(name(number as usize).as_bytes());
         }
-        for number in 0..MAX_TYPES {
-            book.pair(number, (number + 1) % MAX_TYPES);
+        for number in 0..TYPES {
+            book.pair(number, (number + 1) % TYPES);
         }
         book.target(0);
         for (number, entries) in self.words.iter().enumerate() {

@@ -1,6 +1,7 @@
 //! Small changes of a candidate, picked at random.
-use super::candidate::{Candidate, Entry, MAX_ENTRY_SIMPLES};
+use super::candidate::{Candidate, Entry};
 use crate::random::Random;
+use crate::twin::figures::limits::MAX_ENTRY_SIMPLES;
 
 type Change = fn(&mut Candidate, &mut Random);
 

@@ -1,10 +1,11 @@
 //! Fits the model's weights to instruction counts.
-use super::candidate::{Candidate, MAX_WORDS};
+use super::candidate::Candidate;
 use super::changes;
 use super::model;
 use super::starts::starts;
 use super::steps::{Steps, KINDS};
 use crate::random::Random;
+use crate::twin::figures::limits::MAX_WORDS;
 
 /// What little is added to each weight's own equation, so that there is one solution.
 const LITTLE: f64 = 1e-5;

@@ -1,9 +1,9 @@
 //! What a candidate costs by a model: the steps of the reader's loops are counted by their kinds, and each kind has a weight, the
 //! instructions that a step takes. The loops are those of the twin, shortened: all types are equal, so that exponents alone decide.
-use super::candidate::{Candidate, Entry, MAX_ENTRIES};
+use super::candidate::{Candidate, Entry};
 use super::steps::{Step, Steps};
 use super::weights::WEIGHTS;
-use crate::twin::figures::limits::{ROW_BITS, ROW_WORDS};
+use crate::twin::figures::limits::{MAX_ENTRIES, ROW_BITS, ROW_WORDS};
 use crate::twin::rows::{empty, member, next_member, put, put_in, store, unite, words_of, Row};
 
 /// How exponents from -8 to 8, and those beside them, are numbered.

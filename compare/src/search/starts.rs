@@ -1,6 +1,7 @@
 //! Candidates to start from: one word in all places but the last, with an entry of twelve that vanishes, nine of one simple type
 //! before or behind it, and an empty one.
-use super::candidate::{Candidate, Entry, MAX_ENTRY_SIMPLES, MAX_WORDS};
+use super::candidate::{Candidate, Entry};
+use crate::twin::figures::limits::{MAX_ENTRY_SIMPLES, MAX_WORDS};
 
 /// So many simple types 0 1 0 1.
 fn alternating(length: usize) -> Entry {

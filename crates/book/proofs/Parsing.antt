@@ -56,6 +56,14 @@ module _ (bytes : Bytes) where
   unfolding parse
   long-refused h = rw (lt-ltb maxBook (length bytes) h)
 
+  -- So an accepted book is not too long.
+  pub accepted-short : (B : Book) → parse bytes ≡ accepted B → length bytes ≤ maxBook
+  accepted-short B e = by (decLt maxBook (length bytes))
+    where
+      by : Dec (maxBook < length bytes) → length bytes ≤ maxBook
+      by (yes h) = let never = long-refused h in let z : _≡_ {A = ℕ} 0 1 = cc in omega arith
+      by (no h) = omega (arith, h)
+
   module _ (short : length bytes ≤ maxBook) where
     parse-short : parse bytes ≡ recordsFrom (length bytes) bytes 0 nothingYet
     unfolding parse

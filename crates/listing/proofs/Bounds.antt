@@ -1,7 +1,7 @@
 -- The places of a whole listing can be counted: numbers of 64 bits have few digits, names and words are short, and there are not many rows.
 use Prim.Native.Nat.{ℕ, suc, _+_, _-_, _*_, _≤_, _<_}
 use native.Mathlib.Omega.{arith}
-use mathlib.Core.Path.{_≡_, refl, subst}
+use mathlib.Core.Path.{refl, subst}
 use mathlib.Core.Logic.{_⊎_, inl, inr, ⊎-elim}
 use mathlib.Core.List.{List, [], _∷_, List·Memᴰ, List·Memᴰ·not-nil, List·Memᴰ·cases-cons}
 use lib.ListN.{length, getD, drop, length-take, length-drop, List·getD-eq-default}
@@ -10,9 +10,8 @@ use borrow.Author.Tests.{lt-ltb, le-ltb}
 use Rattle.figures.specs.Limits.{maxBook, maxEntrySimples}
 use Rattle.bits.proofs.Cases.{less-or-not}
 use Rattle.pregroup.specs.Types.{Simple}
-use Rattle.book.specs.Format.{Bytes, Entry, Book, accepted, parse, bodyAt, typePart, twoBytes, exponentOf, simplesOf}
+use Rattle.book.specs.Format.{Bytes, Entry, bodyAt, typePart, twoBytes, exponentOf, simplesOf}
 use Rattle.book.specs.Kept.{bodiesAt}
-use Rattle.book.proofs.Parsing.{long-refused}
 use Rattle.book.proofs.Layouts.{entry-shape}
 use Rattle.line.specs.LineWords.{wordsOf}
 use Rattle.line.specs.LookUp.{entriesKept}
@@ -26,21 +25,16 @@ use Rattle.listing.proofs.Decimals.{decimal-length}
 use Rattle.listing.proofs.PartLaws.{name-at, no-name, type-at, no-type}
 use Rattle.listing.proofs.Lengths.{row-of-three, row-of-four, word-rows-within, type-rows-within, TypeShort, joined-within, reading-length}
 
--- An accepted book is not too long.
-pub accepted-short : (bytes : Bytes) (B : Book) → parse bytes ≡ accepted B → length bytes ≤ maxBook
-accepted-short bytes B e = by (less-or-not maxBook (length bytes))
-  where
-    by : (maxBook < length bytes) ⊎ (length bytes ≤ maxBook) → length bytes ≤ maxBook
-    by (inl h) = let never = long-refused bytes h in let z : _≡_ {A = ℕ} 0 1 = cc in omega arith
-    by (inr h) = h
-
 -- A number of 64 bits has at most 20 digits.
 decimal-short : (n : ℕ) → n < placeBound → length (decimal n) ≤ 20
 decimal-short n h = decimal-length 19 n (omega arith)
 
+-- The row of a refusal, whatever numbers of 64 bits it has.
+pub refusal-row-short : (number value : ℕ) → number < placeBound → value < placeBound → length (refusalRow number value) ≤ 45
+refusal-row-short number value h i = omega (arith, row-of-three no (decimal number) (decimal value), decimal-short number h, decimal-short value i)
+
 pub refusal-countable : (number value : ℕ) → number < placeBound → value < placeBound → Countable 0 (refusalRow number value)
-refusal-countable number value h i =
-    record { small = omega (arith, row-of-three no (decimal number) (decimal value), decimal-short number h, decimal-short value i) }
+refusal-countable number value h i = record { small = omega (arith, refusal-row-short number value h i) }
 
 -- The values of a list of 16-bit numbers.
 abbrev pub Narrow : List ℕ → Type 0

@@ -22,9 +22,10 @@ use Rattle.line.proofs.Passed.{Passing, line-passing, words-few}
 use Rattle.reader.specs.declared.LineAnswer.the-variants.{Read}
 use Rattle.reader.specs.Demands.{Promised}
 use Rattle.listing.specs.Text.{decimal, signed}
-use Rattle.listing.specs.Listing.{yes, no, firstRow, refusalRow, typeRow, wordRows, typeOf, joined, listing, maxListing}
+use Rattle.listing.specs.Listing.{yes, firstRow, refusalRow, typeRow, wordRows, typeOf, joined, listing, maxListing}
 use Rattle.listing.specs.Placed.{placeBound}
 use Rattle.listing.proofs.Decimals.{decimal-length}
+use Rattle.listing.proofs.Bounds.{refusal-row-short}
 use Rattle.listing.proofs.Lengths.{row-of-three, row-of-four, word-rows-within, type-rows-within, TypeShort, joined-within, reading-length}
 use Rattle.listing.proofs.Answers.{choice-joined, ListsReading, answer-listed}
 
@@ -140,7 +141,5 @@ pub answer-short : (book line : Bytes) (buffer after : List ℕ) (n : ℕ) → P
     → length (listing book line (Read n) after) ≤ maxListing
 answer-short book line buffer after n p = reading-short book line (listing book line (Read n) after) (answer-listed book line buffer after n p)
 
--- The row of a refusal, whatever numbers of 64 bits it has.
 pub refusal-short : (number value : ℕ) → number < placeBound → value < placeBound → length (refusalRow number value) ≤ maxListing
-refusal-short number value h i =
-    omega (arith, row-of-three no (decimal number) (decimal value), decimal-length 19 number (omega arith), decimal-length 19 value (omega arith))
+refusal-short number value h i = omega (arith, refusal-row-short number value h i)

@@ -4,13 +4,14 @@ use native.Mathlib.Numerals.{add-one}
 use native.Mathlib.Omega.{arith}
 use mathlib.Core.Path.{_≡_, refl, sym, ap, _∙_}
 use mathlib.Core.List.{List, [], _∷_}
-use lib.ListN.{length, getD, take, drop, length-map, length-drop, List·getD-map, List·getD-eq-default, drop-of-length-le}
+use lib.ListN.{length, getD, take, drop, length-drop, List·getD-eq-default, drop-of-length-le}
 use lib.Seq.{take-all, take-nil}
 use Rattle.book.specs.Format.{Bytes, Entry, bodyAt, typePart, entryOf, simplesOf}
 use Rattle.book.specs.Kept.{Whole, bodiesAt}
 use Rattle.book.proofs.Names.{bodies-length, bodies-at}
 use Rattle.book.proofs.Layouts.{entry-shape}
 use Rattle.line.specs.LookUp.{Entries, entriesKept}
+use Rattle.line.proofs.LookUpLaws.{all-length, all-at}
 use Rattle.listing.specs.Listing.{counted}
 use Rattle.listing.specs.Parts.{HasType}
 
@@ -33,14 +34,10 @@ module _ (bytes : Bytes) (offsets : List ℕ) (count : ℕ) (kept : Entries byte
   abbrev none : Entry
   none = record { word = []; type = [] }
 
-  kept-length : length (entriesKept bytes offsets count) ≡ count
-  kept-length = length-map (bodiesAt bytes offsets count) entryOf ∙ bodies-length bytes offsets count (kept .whole .room)
-
   entry-at : (i : ℕ) → i < count → getD {A = Entry} (entriesKept bytes offsets count) i none ≡ entryOf (bodyAt bytes (getD {A = ℕ} offsets i 0))
   entry-at i h =
-      getD-any (entriesKept bytes offsets count) i none (entryOf (bodyAt bytes 0)) (omega (arith, kept-length))
-      ∙ List·getD-map entryOf (bodiesAt bytes offsets count) i (bodyAt bytes 0)
-      ∙ ap entryOf (bodies-at bytes offsets count i h)
+      getD-any (entriesKept bytes offsets count) i none (entryOf (bodyAt bytes 0)) (omega (arith, all-length bytes offsets count kept))
+      ∙ all-at bytes offsets count kept i h
 
   pub type-at : (i : ℕ) (part : Bytes) → i < count → part ≡ typePart (bodyAt bytes (getD {A = ℕ} offsets i 0)) → HasType (entriesKept bytes offsets count) i part
   type-at i part h e =
@@ -53,7 +50,7 @@ module _ (bytes : Bytes) (offsets : List ℕ) (count : ℕ) (kept : Entries byte
   unfolding simplesOf
   no-type i h =
       record {
-        type = ap (λ (x : Entry). x .type) (sym (List·getD-eq-default (entriesKept bytes offsets count) none {n = i} (omega (arith, kept-length))));
+        type = ap (λ (x : Entry). x .type) (sym (List·getD-eq-default (entriesKept bytes offsets count) none {n = i} (omega (arith, all-length bytes offsets count kept))));
         pairs = refl;
       }
 

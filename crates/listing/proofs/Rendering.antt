@@ -8,14 +8,15 @@ use lib.ListN.{length, drop}
 use lib.Seq.{sets-eq}
 use Rattle.book.specs.Format.{Bytes, Entry, Book, refused, parse}
 use Rattle.book.specs.Kept.{Store, Opened, bodiesAt}
+use Rattle.book.proofs.Parsing.{accepted-short}
 use Rattle.line.specs.LineWords.{Word, wordsOf}
 use Rattle.line.specs.LookUp.{entriesKept}
 use Rattle.line.specs.Split.{SplitInto, Stopped, at-byte, at-word}
+use Rattle.line.proofs.LookUpLaws.{opened-entries}
 use Rattle.listing.specs.Listing.{refusalRow, readingRows, counted, answerRows, lineRows, listed, Renders}
 use Rattle.listing.specs.declared.Rendered.the-variants.{Written, TooShort}
 use Rattle.listing.specs.Placed.{Placed}
 use Rattle.listing.specs.Parts.{BookKept}
-use Rattle.listing.proofs.Bounds.{accepted-short}
 
 -- The piece was counted, with no room at all, and is then put where there is room.
 pub renders-written : (piece : Bytes) {text nowhere nothing after : Bytes} {needed behind : ℕ} → Placed nowhere 0 piece nothing needed → needed ≤ length text
@@ -53,7 +54,7 @@ module _ (book : Bytes) (s : Store) (types count target : ℕ) (B : Book) (o : O
       record {
         short = accepted-short book B (o .parsed);
         names-whole = o .names-whole;
-        entries-kept = record { few = o .few-entries; whole = o .entries-whole; layouts = λ i h. o .formed i h .layout };
+        entries-kept = opened-entries o;
       }
 
   pub book-opened : (line : Bytes) (values : List ℕ) → lineRows (bodiesAt book (s .names) types) (entriesKept book (s .entries) count) line values ≡ listed book line values

@@ -17,6 +17,7 @@ use Rattle.linking.specs.Reading.{Words, firstReading}
 use Rattle.line.specs.LineWords.{wordsOf}
 use Rattle.line.specs.LineFaults.{passed, stopped, lineCheck, entriesOf, entriesOfLine}
 use Rattle.line.proofs.LineLaws.{kept-length}
+use Rattle.line.proofs.LookUpLaws.{opened-entries}
 use Rattle.line.proofs.Passed.{line-passing, line-brief}
 use Rattle.graph.specs.Lists.{Lists, graphOf, Checked, LaidOut}
 use Rattle.reader.specs.declared.LineAnswer.{LineAnswer}
@@ -66,7 +67,7 @@ is-open bytes s types count target B rows o hold =
       parsed = o .parsed;
       entries = o .entries;
       lexicon = record {
-        entries = record { few = o .few-entries; whole = o .entries-whole; layouts = λ i h. o .formed i h .layout };
+        entries = opened-entries o;
         listed = λ i h. o .formed i h .listed;
       };
       decides = λ a b. Iff·trans (below-decides (length (B .names)) (B .pairs) declared a b) (Iff·symm (order a b));
