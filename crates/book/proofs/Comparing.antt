@@ -4,7 +4,7 @@ use Prim.Native.Nat.{ℕ, zero, suc, _+_, _*_, _^_, _≤_, _<_}
 use native.Mathlib.Nat.{add-zero, zero-add, suc-add, pow-zero, pow-succ', mul-assoc, mul-comm}
 use native.Mathlib.Omega.{arith}
 use native.Mathlib.Decide.{decLt}
-use mathlib.Core.Path.{_≡_, sym, ap, _∙_}
+use mathlib.Core.Path.{_≡_, refl, sym, ap, ap₂, _∙_}
 use mathlib.Core.Bool.{Bool, true, false, false≢true}
 use lib.Arith.{digits-lt}
 use lib.Dec.{eqb}
@@ -45,7 +45,7 @@ joined n m {bytes} {at} {r} {s} low high = record {
     go k f h (no l) = high .byte k (omega (arith, l)) (omega arith)
 
 -- The n numbers of a list from i on are bytes.
-abbrev Bytewise : ℕ → Bytes → ℕ → Type 0
+abbrev pub Bytewise : ℕ → Bytes → ℕ → Type 0
 Bytewise n l i = (k : ℕ) → i ≤ k → k < i + n → getD {A = ℕ} l k 0 < 256
 
 -- Equal numbers have equal bytes: the first is the remainder by 256, and the others make up the quotient.
@@ -67,6 +67,13 @@ equal-bytes (suc n) a b i f g e k h l =
     go (yes t) later = later t
     go (no t) later = let same : k ≡ i = omega (arith, t) in rw same (omega (arith, here, there))
 
+-- Equal bytes have equal numbers.
+pub same-number : (n i : ℕ) (a b : Bytes) → ((k : ℕ) → i ≤ k → k < i + n → getD {A = ℕ} a k 0 ≡ getD {A = ℕ} b k 0) → littleEndian n a i ≡ littleEndian n b i
+unfolding littleEndian
+same-number zero i a b h = refl
+same-number (suc n) i a b h =
+    ap₂ (λ (low high : ℕ). low + 256 * high) (h i (omega arith) (omega arith)) (same-number n (suc i) a b (λ k p q. h k (omega arith) (omega arith)))
+
 -- Two lists agree at the places below i.
 abbrev pub Agree : Bytes → Bytes → ℕ → Type 0
 Agree a b i = (k : ℕ) → k < i → getD {A = ℕ} a k 0 ≡ getD {A = ℕ} b k 0
@@ -82,13 +89,15 @@ module _ {n i r s : ℕ} {a b : Bytes} (first : ReadsNumber n a i r) (second : R
   pub equal-numbers : a ≡ b → r ≡ s
   equal-numbers e = first .value ∙ ap (λ (l : Bytes). littleEndian n l i) e ∙ sym (second .value)
 
+  pub equal-stretch : r ≡ s → (k : ℕ) → i ≤ k → k < i + n → getD {A = ℕ} a k 0 ≡ getD {A = ℕ} b k 0
+  equal-stretch e = equal-bytes n a b i (first .byte) (second .byte) (sym (first .value) ∙ e ∙ second .value)
+
   pub agree-more : (from : ℕ) → i ≤ from → Agree a b from → r ≡ s → Agree a b (i + n)
   agree-more from h below e k l = go (decLt k from)
     where
       go : Dec (k < from) → getD {A = ℕ} a k 0 ≡ getD {A = ℕ} b k 0
       go (yes t) = below k t
-      go (no t) =
-          equal-bytes n a b i (first .byte) (second .byte) (sym (first .value) ∙ e ∙ second .value) k (omega (arith, t)) l
+      go (no t) = equal-stretch e k (omega (arith, t)) l
 
   -- The last numbers of two lists decide, where the places below agree.
   pub last-tells : (from : ℕ) → i ≤ from → Agree a b from → length a ≡ length b → length a ≡ i + n → Tells a b (eqb r s)

@@ -8,12 +8,12 @@ use lib.IntN.{pos, negsuc}
 use Rattle.bits.specs.Totals.{total}
 use Rattle.pregroup.specs.Types.{PregroupType, _⁽_⁾, plain}
 use Rattle.order.specs.Closed.{below, closedCount}
-use Rattle.book.specs.Format.{Bytes, Entry, accepted, every, twoBytes, nameByte, isName, exponentOf, simplesOf, isEntry, exponentListed, sameBytes, bodyRules, recordRules, firstBroken, add, ended, recordsFrom, parse}
+use Rattle.book.specs.Format.{Bytes, Entry, recordOf, accepted, every, twoBytes, nameByte, isName, exponentOf, simplesOf, isEntry, exponentListed, sameBytes, bodyRules, recordRules, firstBroken, add, ended, recordsFrom, parse}
 use Rattle.book.specs.Check.{bookCheck, AcceptedCounts, Cause}
 use Rattle.book.specs.declared.BookCheck.{BookCheck}
 use Rattle.book.specs.declared.BookCheck.the-variants.{Accepted, Refused}
 use Rattle.book.proofs.Promises.{check-promised}
-use Rattle.book.proofs.PaperBooks.{recordOf, typeRecord, pairRecord, entryRecord, targetRecord, fetch, bed4, ward7, urgently, admit, site, go, please, firstBook, secondBook}
+use Rattle.book.proofs.PaperBooks.{typeRecord, pairRecord, entryRecord, targetRecord, fetch, bed4, ward7, urgently, admit, site, go, please, firstBook, secondBook}
 
 abbrev entry : Bytes → PregroupType → Entry
 entry word type = record { word = word; type = type }

@@ -6,6 +6,7 @@ pub mod Simples
 pub mod Faults
 pub mod Names
 pub mod Comparing
+pub mod RecordLaws
 pub mod WholeRecords
 pub mod NoFault
 pub mod SmallestNumber

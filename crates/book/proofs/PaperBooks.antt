@@ -1,13 +1,9 @@
 -- Document 01's "A book to try", byte by byte, for closed examples: how a record is laid out, the two books, and words as bytes.
-use Prim.Native.Nat.{ℕ, _/_, _%_}
+use Prim.Native.Nat.{ℕ}
 use mathlib.Core.List.{List, [], _∷_, _++_}
-use lib.ListN.{length}
-use Rattle.book.specs.Format.{Bytes}
+use Rattle.book.specs.Format.{Bytes, recordOf, entryBody}
 
--- A record: body length and kind, two bytes each, then the body.
-abbrev pub recordOf : ℕ → Bytes → Bytes
-recordOf kind body = length body % 256 ∷ length body / 256 ∷ kind % 256 ∷ kind / 256 ∷ body
-
+-- The records of each kind.
 abbrev pub typeRecord : Bytes → Bytes
 typeRecord name = recordOf 1 name
 
@@ -16,7 +12,7 @@ pairRecord lower upper = recordOf 2 (lower ∷ upper ∷ [])
 
 -- The simple types as bytes: a type number, then an exponent in two's complement.
 abbrev pub entryRecord : Bytes → Bytes → Bytes
-entryRecord word simples = recordOf 3 (length word ∷ (word ++ simples))
+entryRecord word simples = recordOf 3 (entryBody word simples)
 
 abbrev pub targetRecord : ℕ → Bytes
 targetRecord number = recordOf 4 (number ∷ [])

@@ -1,7 +1,7 @@
 -- Document 01, "The book's bytes" and, of "When the screen says no", causes 1 to 10: what any list of bytes is as a book. The rules for a
 -- record stand with their numbers in `bodyRules` and `recordRules`; within a record the smallest number counts, and the earliest bad record
 -- decides. This file alone knows the byte layout.
-use Prim.Native.Nat.{ℕ, zero, suc, _+_, _-_, _*_, _%_}
+use Prim.Native.Nat.{ℕ, zero, suc, _+_, _-_, _*_, _/_, _%_}
 use mathlib.Core.Bool.{Bool, true, false, cond, not, _&&_, _||_}
 use mathlib.Core.List.{List, [], _∷_, _++_, map}
 use lib.Dec.{leb, ltb, eqb}
@@ -50,6 +50,10 @@ twoBytes bytes at = getD {A = ℕ} bytes at 0 + 256 * getD {A = ℕ} bytes (at +
 abbrev pub headLength : ℕ
 headLength = 4
 
+-- A record written out.
+abbrev pub recordOf : ℕ → Bytes → Bytes
+recordOf kind body = length body % 256 ∷ length body / 256 ∷ kind % 256 ∷ kind / 256 ∷ body
+
 abbrev pub kindAt : Bytes → ℕ → ℕ
 kindAt bytes at = twoBytes bytes (at + 2)
 
@@ -83,6 +87,10 @@ wordOf body = take (wordLength body) (drop 1 body)
 
 abbrev pub typePart : Bytes → Bytes
 typePart body = drop (1 + wordLength body) body
+
+-- The body of an entry, of a word and the bytes of its simple types.
+abbrev pub entryBody : Bytes → Bytes → Bytes
+entryBody word type = length word ∷ (word ++ type)
 
 unfoldable pub exponentOf : ℕ → ℤ
 exponentOf byte = cond (ltb byte 128) (pos byte) (negsuc (255 - byte))

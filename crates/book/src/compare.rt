@@ -36,7 +36,7 @@ fn same_long(a: &[u8], b: &[u8]) -> bool
 }
 
 // Eight bytes as one little-endian number, joined from halves, these from halves again: the compiler makes one load of it.
-fn eight_bytes(bytes: &[u8], at: usize) -> usize
+pub fn eight_bytes(bytes: &[u8], at: usize) -> usize
     requires { ⌜ at + 7 < length (now bytes) ⌝ }
     ensures { λ r. ⌜ ReadsNumber 8 (now (bytes .entry)) at r ⌝ }
 {
