@@ -11,7 +11,8 @@ pub fn rows(buf: &mut Space) {
     no_target(buf);
 }
 
-// One entry with a bad exponent and an undeclared type, faults of a record's form, and a name that is used.
+// One entry with a bad exponent and an undeclared type, faults of a record's form, a name that is used, and one that would be used but for its
+// capitals.
 fn one_record(buf: &mut Space) {
     check_each(
         buf,
@@ -23,7 +24,10 @@ fn one_record(buf: &mut Space) {
           pair-of-3-with-type-2:1 a,1 b,2 \x02\x02\x02,4 \x00\n\
           simple-types-13-type-2:1 a,1 b,29/3,'\x02go\x02\x09,24*'\x00,4 \x00\n\
           first-name-used:1 a,1 b,1 a,4 \x00\n\
-          second-name-used:1 a,1 b,1 b,4 \x00\n",
+          second-name-used:1 a,1 b,1 b,4 \x00\n\
+          first-name-in-capitals:1 a,1 b,1 A,4 \x00\n\
+          second-name-in-capitals:1 a,1 b,1 B,4 \x00\n\
+          third-name-with-a-capital:1 a,1 b,1 kind,1 kinD,4 \x00\n",
     );
 }
 
@@ -37,7 +41,8 @@ fn past_the_limits(buf: &mut Space) {
           type-65-no-name:64#,1 ,4 \x00\n\
           entry-1025-exponent-9:1 a,4 \x00,1024*3 \x01x,3 \x01x\x00\x09\n\
           entry-1025-type-1:1 a,4 \x00,1024*3 \x01x,3 \x01x\x01\x09\n\
-          entry-1025-bad-word:1 a,4 \x00,1024*3 \x01x,3 \x01\x20\x01\x09\n",
+          entry-1025-bad-word:1 a,4 \x00,1024*3 \x01x,3 \x01\x20\x01\x09\n\
+          entry-1025-another-spelling:1 a,4 \x00,1024*3 \x01x,3 \x01X\n",
     );
 }
 

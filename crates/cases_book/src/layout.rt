@@ -102,7 +102,7 @@ fn words(buf: &mut Space) {
     );
 }
 
-// The bytes beside 33 to 126, bytes that no word holds, and a word with a capital.
+// The bytes beside 33 to 126, bytes that no word holds, a word with a capital, and a word in two spellings, which has two entries.
 fn word_bytes(buf: &mut Space) {
     check_each(
         buf,
@@ -113,7 +113,8 @@ fn word_bytes(buf: &mut Space) {
           word-byte-0:1 a,1 b,3 \x01\x00,4 \x00\n\
           word-byte-255:1 a,1 b,3 \x01\xff,4 \x00\n\
           word-byte-32-last:1 a,1 b,3 \x03go\x20\x00\x00,4 \x00\n\
-          word-capital:1 a,1 b,3 \x02Go\x00\x00,4 \x00\n",
+          word-capital:1 a,1 b,3 \x02Go\x00\x00,4 \x00\n\
+          word-in-two-spellings:1 a,1 b,3 \x02Go\x00\x00,3 \x02gO\x00\x00,4 \x00\n",
     );
 }
 

@@ -1,8 +1,13 @@
 // Lines read against books: a row for each, with its name and what the reader answers.
+mod capitals;
 mod choices;
+mod letters;
 mod limits;
+mod long_words;
 mod paper;
 mod rows;
+mod signs;
+mod spellings;
 mod thesis;
 
 fn main() {
@@ -12,4 +17,9 @@ fn main() {
     thesis::rows(&mut space);
     limits::rows(&mut space);
     choices::rows(&mut space);
+    capitals::rows(&mut space);
+    spellings::rows(&mut space);
+    letters::rows(&mut space);
+    signs::rows(&mut space);
+    long_words::rows(&mut space);
 }

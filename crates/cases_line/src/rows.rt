@@ -1,6 +1,7 @@
 // Lines read against a book, with a row for each. A list of cases is written as text: for each case its name, a colon, its line, and a
 // semicolon; no name and no line holds one of the two.
 use cases::buffer::Space;
+use cases::items::put_items;
 use cases::text::find;
 use reader::LineAnswer;
 
@@ -131,6 +132,12 @@ pub fn against(bytes: &[u8], length: usize, cases: &[u8], lent: usize, show: Sho
 // The rows of a list with the answers, and with more values lent than any answer takes.
 pub fn answers(buf: &Space, length: usize, cases: &[u8]) {
     against(buf, length, cases, VALUES, Show::Answer);
+}
+
+// The same, against a book that is written as items.
+pub fn answers_with(buf: &mut Space, items: &[u8], cases: &[u8]) {
+    let length = put_items(buf, 0, items);
+    answers(buf, length, cases);
 }
 
 // The rows of a list with the buffer, for each number of values lent, from 0 to the last.

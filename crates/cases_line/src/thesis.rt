@@ -10,7 +10,11 @@ use cases::items::put_items;
 
 pub fn rows(buf: &mut Space) {
     let at = example_3(buf);
-    answers(buf, at, b"I-will-meet-him:I will meet him;");
+    answers(
+        buf,
+        at,
+        b"I-will-meet-him:I will meet him;i-WILL-Meet-him:i WILL Meet him;",
+    );
     example_4(buf);
     example_5(buf);
 }
@@ -28,7 +32,8 @@ fn example_4(buf: &mut Space) {
     against(
         buf,
         at,
-        b"did-he-give-books-to-her:did he give books to her;did-he-her:did he her;",
+        b"Did-he-give-books-to-her:Did he give books to her;did-he-give-books-to-her:did he give books to her;\
+          did-he-her:did he her;DID-HE-HER:DID HE HER;",
         VALUES,
         Show::Whether,
     );
@@ -45,7 +50,8 @@ fn example_5(buf: &mut Space) {
     against(
         buf,
         at,
-        b"Kim-mailed-the-letter-to-Sandy:Kim mailed the letter to Sandy;Kim-mailed-to-Sandy:Kim mailed to Sandy;",
+        b"Kim-mailed-the-letter-to-Sandy:Kim mailed the letter to Sandy;\
+          kim-mailed-the-letter-to-sandy:kim mailed the letter to sandy;Kim-mailed-to-Sandy:Kim mailed to Sandy;",
         VALUES,
         Show::Whether,
     );

@@ -49,7 +49,7 @@ fn refused_lines(buf: &mut Space) {
           byte-at-128:abcdefghijklmnopqrstuvwxyz01234 abcdefghijklmnopqrstuvwxyz01234 abcdefghijklmnopqrstuvwxyz01234 \
           abcdefghijklmnopqrstuvwxyz01234 \x7f;\
           word-of-32:go abcdefghijklmnopqrstuvwxyz012345;words-25:e e e e e e e e e e e e e e e e e e e e e e e e go;\
-          words-24:e e e e e e e e e e e e e e e e e e e e e e e go;unknown-word:please go nobody;capital:Go;\
+          words-24:e e e e e e e e e e e e e e e e e e e e e e e go;unknown-word:please go nobody;\
           simple-types-544:w w w w w w w w w w w w w w w w w;simple-types-512:w w w w w w w w w w w w w w w w;",
     );
 }

@@ -1,4 +1,5 @@
 // Listings of lines read against books: for each case a row with its name and what rendering gave, and behind it the listing.
+mod capitals;
 mod given;
 mod limits;
 mod longest;
@@ -12,6 +13,7 @@ fn main() {
     limits::rows(&mut space);
     paper::rows(&mut space);
     words::rows(&mut space);
+    capitals::rows(&mut space);
     longest::rows(&mut space);
     given::rows(&mut space);
 }

@@ -15,14 +15,14 @@ fn words(buf: &mut Space) {
     let at = put_items(
         buf,
         0,
-        b"1 o,1 o15,2 \x01\x00,4 \x00,3 \x02go\x00\x00,3 \x02Go\x00\x01\x00\x00,3 \x03goo\x00\x01\x00\x00,3 \x03yes\x00\x01\x00\x00,\
+        b"1 o,1 o15,2 \x01\x00,4 \x00,3 \x02go\x00\x00,3 \x02g0\x00\x01\x00\x00,3 \x03goo\x00\x01\x00\x00,3 \x03yes\x00\x01\x00\x00,\
           3 \x02no\x00\x01\x00\x00,3 \x02-1\x00\x01\x00\x00,3 \x0215\x00\x01\x00\x00,3 \x01!\x00\x01\x00\x00,3 \x01~\x00\x01\x00\x00,\
           3 \x03o15\x00\x01\x01\x00,3 \x1fabcdefghijklmnopqrstuvwxyz01234\x00\x01\x00\x00,3 \x01e",
     );
     listings(
         buf,
         at,
-        b"words-that-look-like-others:go Go goo yes no -1 15 ! ~ o15;word-of-31:go abcdefghijklmnopqrstuvwxyz01234;\
+        b"words-that-look-like-others:go g0 goo yes no -1 15 ! ~ o15;word-of-31:go abcdefghijklmnopqrstuvwxyz01234;\
           empty-entries: e go  e e o15 e;\
           words-24-and-47-types:go ! ! ! ! ! ! ! ! ! ! ! ! ! ! ! ! ! ! ! ! ! ! ~;",
     );

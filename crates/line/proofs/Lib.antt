@@ -1,7 +1,12 @@
 -- Laws that the proofs of several functions cite.
+pub mod CapitalLaws
+pub mod EightLaws
+pub mod LetterLaws
 pub mod WordLaws
 pub mod SplitLaws
 pub mod LookUpLaws
 pub mod FoundLaws
 pub mod LineLaws
 pub mod Passed
+pub mod SmallLines
+pub mod SmallBooks

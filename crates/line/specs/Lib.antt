@@ -1,5 +1,7 @@
 -- A line: its words, what it is refused for before it is read (11 to 14), and its words' entries.
 pub mod LineWords
+pub mod Capitals
+pub mod Letters
 pub mod LineFaults
 pub mod Split
 pub mod LookUp

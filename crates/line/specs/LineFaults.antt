@@ -1,20 +1,17 @@
 -- Document 01, "When the screen says no", causes 11 to 14: each number is tried over the whole line before the next, and the earliest place
 -- is returned. Words that pass are given by their entries, in the book's order.
 use Prim.Native.Nat.{ℕ, _+_}
-use mathlib.Core.Bool.{Bool, cond, _||_}
+use mathlib.Core.Bool.{cond, _||_}
 use mathlib.Core.List.{List, [], _∷_, foldr, map}
 use mathlib.Core.Option.{Option, none, some}
 use lib.Dec.{eqb, leb, ltb}
 use lib.ListN.{length}
 use Rattle.figures.specs.Limits.{maxWord, maxWords, maxLineSimples}
 use Rattle.figures.specs.Refusals.{badLineByte, badWord, unknownWord, tooManySimples}
-use Rattle.book.specs.Format.{Bytes, Book, Entry, between, sameBytes}
+use Rattle.book.specs.Format.{Bytes, Book, Entry, between}
 use Rattle.linking.specs.Reading.{NumberedEntry, Words}
 use Rattle.line.specs.LineWords.{Word, wordsOf}
-
--- Words are the same when their bytes are.
-abbrev pub sameWord : Bytes → Bytes → Bool
-sameWord a b = sameBytes a b
+use Rattle.line.specs.Capitals.{sameWord}
 
 -- The entries of a word, numbered as they stand in the book: the rest of its entries, and the number of the first of them.
 unfoldable pub entriesFrom : ℕ → List Entry → Bytes → List NumberedEntry

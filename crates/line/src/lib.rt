@@ -1,5 +1,6 @@
 // A line: any bytes at all. Its words are found where they stand, and it is refused for a byte, a word, a word without an entry or too
 // many simple types, in this order.
+pub mod letters;
 pub mod lookup;
 pub mod split;
 

@@ -1,7 +1,7 @@
 // The look-up of a line's words in a book, and refusals 13 and 14. Words are compared where they stand.
 use crate::CheckedLine;
+use crate::letters::same_word;
 use crate::split::split;
-use book::compare::same;
 use book::layout::body_at;
 use book::layout::type_part;
 use book::layout::word_part;
@@ -16,7 +16,7 @@ ghost use Prim.Native.Nat.{_≤_, _<_};
 ghost use lib.ListN.{length};
 ghost use Rattle.figures.specs.Limits.{maxWords};
 ghost use Rattle.book.specs.Format.{Book, bodyAt, nextAt, isEntry, wordOf};
-ghost use Rattle.line.specs.LineFaults.{sameWord};
+ghost use Rattle.line.specs.Capitals.{sameWord};
 ghost use Rattle.line.specs.Split.{SplitInto};
 ghost use Rattle.line.specs.LookUp.{entriesKept, Entries, FoundEntries, Tallyable, Tallied, LookedUp, LineSays};
 
@@ -25,7 +25,7 @@ fn belongs(book: &[u8], at: usize, word: &[u8]) -> bool
     requires { ⌜ (nextAt (now book) at ≤ length (now book)) × (isEntry (bodyAt (now book) at) ≡ true) ⌝ }
     ensures { λ r. ⌜ r ≡ sameWord (wordOf (bodyAt (now (book .entry)) at)) (now (word .entry)) ⌝ }
 {
-    same(word_part(body_at(book, at)), word)
+    same_word(word_part(body_at(book, at)), word)
 }
 
 // Finds a word's entries: their numbers, in the book's order, are written to the front of `found`, and how many there are is returned.

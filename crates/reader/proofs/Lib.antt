@@ -2,6 +2,8 @@
 pub mod Table
 pub mod Refusals
 pub mod Promises
+pub mod Capitals
+pub mod Spellings
 pub mod Selection
 pub mod Brief
 pub mod FirstFound

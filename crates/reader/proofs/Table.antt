@@ -14,6 +14,7 @@ use Rattle.linking.specs.Reading.{Answer, firstEntry, firstBehind, firstReading
 use Rattle.book.specs.Format.{Bytes, every, twoBytes, nameByte, isName, exponentOf, simplesOf, isEntry, exponentListed, sameBytes, bodyRules, recordRules, firstBroken, add, ended, recordsFrom, parse}
 use Rattle.book.proofs.PaperBooks.{typeRecord, pairRecord, entryRecord, targetRecord, join, fetch, bed4, ward7, urgently, admit, site, go, please, log, firstBook, secondBook}
 use Rattle.line.specs.LineWords.{wordsFrom}
+use Rattle.line.specs.Capitals.{small, sameWord}
 use Rattle.line.specs.LineFaults.{entriesFrom, byteFault, wordFault, entryFault, simplesIn, simplesOfWords, lineCheck}
 use Rattle.reader.specs.Outcome.{Outcome, valuesOf, given, readAgainst, readParsed, outcome}
 use Rattle.reader.specs.declared.LineAnswer.the-variants.{Read, Refused}
@@ -95,5 +96,5 @@ expected none = record { answer = Refused noReading 0; buffer = lent }
 expected (some a) = record { answer = Read (length (valuesOf a)); buffer = valuesOf a ++ drop (length (valuesOf a)) lent }
 
 pub paper-cases : map (λ (c : Case). outcome (c .book) (lineOf (c .words)) lent) cases ≡ map (λ (c : Case). expected (c .reading)) cases
-unfolding every twoBytes nameByte isName exponentOf simplesOf isEntry exponentListed sameBytes bodyRules recordRules firstBroken add ended recordsFrom parse even sameExponent contracts firstSome linkedTo firstWithin unlinkedAt firstFrom firstLinking firstEntry firstBehind firstReading below wordsFrom entriesFrom byteFault wordFault entryFault simplesIn simplesOfWords lineCheck given readAgainst readParsed
+unfolding every twoBytes nameByte isName exponentOf simplesOf isEntry exponentListed sameBytes bodyRules recordRules firstBroken add ended recordsFrom parse even sameExponent contracts firstSome linkedTo firstWithin unlinkedAt firstFrom firstLinking firstEntry firstBehind firstReading below small sameWord wordsFrom entriesFrom byteFault wordFault entryFault simplesIn simplesOfWords lineCheck given readAgainst readParsed
 paper-cases = refl

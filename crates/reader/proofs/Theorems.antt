@@ -2,7 +2,8 @@
 -- linkings and readings, then to a book, and end with what reading a line comes to.
 use Prim.Native.Nat.{ℕ, _≤_}
 use mathlib.Core.Path.{_≡_}
-use mathlib.Core.Logic.{_↔_}
+use mathlib.Core.Bool.{true}
+use mathlib.Core.Logic.{_↔_, _⊎_}
 use mathlib.Core.List.{List, [], _∷_, _++_, map}
 use mathlib.Core.Option.{none, some}
 use lib.ListN.{length}
@@ -29,10 +30,13 @@ use Rattle.book.specs.Format.{Bytes, nothingYet, recordsFrom}
 use Rattle.book.specs.Check.{bookCheck, checkReply, BookPromised}
 use Rattle.book.proofs.Parsing.{bound-never-ends}
 use Rattle.book.proofs.Promises.{check-promised, one-answer}
+use Rattle.line.specs.Capitals.{small, smallBytes, sameWord, DifferInCase}
+use Rattle.line.proofs.CapitalLaws.{CapitalOf, NoCapital, alike-exactly, same-reflexive, same-symmetric, same-transitive, equal-words, same-without-capitals}
 use Rattle.reader.specs.declared.LineAnswer.the-variants.{Refused}
 use Rattle.reader.specs.Outcome.{outcome}
 use Rattle.reader.specs.Demands.{Promised}
 use Rattle.reader.proofs.Promises.{outcome-promised, refusals-within}
+use Rattle.reader.proofs.Capitals.{small-line-outcome, same-books-outcome}
 use Rattle.reader.proofs.Table.{Case, lineOf, cases, lent, expected, paper-cases}
 
 module _ {Declared : Basic → Type 0} {Le : Relation} (order : IsOrder Declared Le) where
@@ -91,7 +95,35 @@ module _ (book : Bytes) where
   pub bound-is-enough : (more : ℕ) → length book ≤ more → recordsFrom more book 0 nothingYet ≡ recordsFrom (length book) book 0 nothingYet
   bound-is-enough = bound-never-ends book
 
+-- Bytes that count as one: equal ones, and a capital and its small letter.
+pub bytes-alike-exactly : (x y : ℕ) → (small x ≡ small y) ↔ ((x ≡ y) ⊎ (CapitalOf x y ⊎ CapitalOf y x))
+bytes-alike-exactly = alike-exactly
+
+-- Sameness of words is an equivalence that holds of equal bytes, and without capitals of no others.
+pub sameness-reflexive : (a : Bytes) → sameWord a a ≡ true
+sameness-reflexive = same-reflexive
+
+pub sameness-symmetric : (a b : Bytes) → sameWord a b ≡ true → sameWord b a ≡ true
+sameness-symmetric = same-symmetric
+
+pub sameness-transitive : (a b c : Bytes) → sameWord a b ≡ true → sameWord b c ≡ true → sameWord a c ≡ true
+sameness-transitive = same-transitive
+
+pub equal-bytes-are-the-same : (a b : Bytes) → a ≡ b → sameWord a b ≡ true
+equal-bytes-are-the-same = equal-words
+
+pub no-others-without-capitals : (a b : Bytes) → NoCapital a → NoCapital b → sameWord a b ≡ true → a ≡ b
+no-others-without-capitals = same-without-capitals
+
+-- Books that differ only in the case of their entries' words give every line the same outcome.
+pub case-of-a-book : (a b : Bytes) → DifferInCase a b → (line : Bytes) (buffer : List ℕ) → outcome a line buffer ≡ outcome b line buffer
+case-of-a-book = same-books-outcome
+
 module _ (book line : Bytes) (buffer : List ℕ) where
+  -- A line has the outcome that it has with its capitals made small.
+  pub case-of-a-line : outcome book line buffer ≡ outcome book (smallBytes line) buffer
+  case-of-a-line = small-line-outcome book line buffer
+
   -- What `outcome` defines keeps every promise made of an answer and the buffer.
   pub promises-kept : Promised book line buffer (outcome book line buffer .answer) (outcome book line buffer .buffer)
   promises-kept = outcome-promised book line buffer

@@ -1,8 +1,8 @@
 -- `line::lookup::belongs` meets its contract: the comparison is that of the entry's word.
 use borrow.Author.Needs.{needs}
-use mathlib.Core.Path.{sym, ap, _∙_}
-use Rattle.book.proofs.Names.{same-test}
-use Rattle.book.specs.Format.{Bytes, sameBytes, wordOf}
+use mathlib.Core.Path.{ap, _∙_}
+use Rattle.book.specs.Format.{Bytes, wordOf}
+use Rattle.line.specs.Capitals.{sameWord}
 use Rattle.line.proofs.lookup.belongs.Statement.{statement}
 use Rattle.line.proofs.lookup.belongs.Tie as tie
 
@@ -12,14 +12,14 @@ body-at-requires c κs = search needs
 word-part-requires : tie.Need-word-part-requires
 word-part-requires c κs = rw (c .body-at .ensures) (c .before .before .before .pre .1)
 
-same-requires : tie.Need-same-requires
-same-requires c κs = search needs
+same-word-requires : tie.Need-same-word-requires
+same-word-requires c κs = search needs
 
 returns : tie.Need-returns
 returns c =
     let a = c .before .before .before .before .before .args in
     let word = c .before .word-part .ensures ∙ ap wordOf (c .before .before .body-at .ensures) in
-    sym (ap (λ (w : Bytes). sameBytes w (a .word .now)) (sym word) ∙ same-test _ _ _ (c .same .ensures))
+    c .same-word .ensures ∙ ap (λ (w : Bytes). sameWord w (a .word .now)) word
 
 pub belongs-spec : {M : Type 1} → statement M
-belongs-spec = tie.close (tie.spec body-at-requires word-part-requires same-requires returns)
+belongs-spec = tie.close (tie.spec body-at-requires word-part-requires same-word-requires returns)

@@ -1,0 +1,219 @@
+-- Two books that differ only in the case of their entries' words: both are refused alike, or both are accepted and hold the same but for
+-- that case, and then every line is checked alike.
+use Prim.Native.Nat.{ℕ, zero, suc, _+_}
+use native.Mathlib.Omega.{arith}
+use mathlib.Core.Path.{_≡_, refl, sym, ap, ap₂, subst, _∙_}
+use mathlib.Core.Bool.{Bool, true, false, cond, _||_}
+use mathlib.Core.List.{List, [], _∷_, _++_, map, map-append}
+use lib.Dec.{eqb, ltb}
+use lib.ListN.{length, getD, drop, length-append, length-map}
+use Rattle.figures.specs.Limits.{maxBook}
+use Rattle.figures.specs.Refusals.{bookTooLong, cutShort, noTarget}
+use Rattle.linking.specs.Reading.{NumberedEntry, Words}
+use Rattle.book.specs.Format.{Bytes, Book, Entry, Draft, Parsed, accepted, refused, every, between, headLength, twoBytes, kindAt, bodyAt, nextAt, byKind, recordOf, entryBody, isEntry, entryOf, bodyRules, recordRules, firstBroken, add, nextRules, nextDraft, ended, recordsFrom, parse}
+use Rattle.book.proofs.RecordLaws.{size-first, kind-first, body-first, rest-first, size-at, kind-at, body-at, rest-at, word-part, type-part}
+use Rattle.line.specs.Capitals.{smallBytes, DifferInCase, same-rest, same-record, respelt}
+use Rattle.line.specs.LineWords.{Word, wordsOf}
+use Rattle.line.specs.LineFaults.{entriesFrom, entriesOf, entryFault, lineCheck}
+use Rattle.line.proofs.CapitalLaws.{small-every, same-exactly, same-length, small-bytes-twice, same-respelt}
+
+-- An entry, a book, and what a list of bytes is as a book, with the capitals of words made small.
+abbrev smallEntry : Entry → Entry
+smallEntry e = record { word = smallBytes (e .word); type = e .type }
+
+abbrev pub smallBook : Book → Book
+smallBook B = record { names = B .names; pairs = B .pairs; entries = map smallEntry (B .entries); target = B .target }
+
+abbrev pub smallParsed : Parsed → Parsed
+smallParsed (accepted B) = accepted (smallBook B)
+smallParsed (refused number value) = refused number value
+
+-- Bodies of one kind that differ only in the case of an entry's word.
+data SameBody : ℕ → Bytes → Bytes → Type 0 where
+  equal : {kind : ℕ} {body : Bytes} → SameBody kind body body
+  recased : (v w type : Bytes) → smallBytes v ≡ smallBytes w → SameBody 3 (entryBody v type) (entryBody w type)
+
+-- What two such books have at an offset.
+record Step (a b : Bytes) (at : ℕ) : Type 0 where
+  size : twoBytes a at ≡ twoBytes b at
+  kind : kindAt a at ≡ kindAt b at
+  body : SameBody (kindAt a at) (bodyAt a at) (bodyAt b at)
+  rest : DifferInCase (drop (nextAt a at) a) (drop (nextAt a at) b)
+
+first-step : {kind : ℕ} {p q : Bytes} → SameBody kind p q → length p ≡ length q → {a b : Bytes} → DifferInCase a b → Step (recordOf kind p ++ a) (recordOf kind q ++ b) 0
+first-step {kind} {p} {q} s e {a} {b} r = record {
+  size = size;
+  kind = kind-first kind p a ∙ sym (kind-first kind q b);
+  body = rw (kind-first kind p a, body-first kind p a, body-first kind q b) s;
+  rest = rw (rest-first kind p a, ap (λ (n : ℕ). drop (0 + 4 + n) (recordOf kind q ++ b)) size ∙ rest-first kind q b) r;
+}
+  where
+    size : twoBytes (recordOf kind p ++ a) 0 ≡ twoBytes (recordOf kind q ++ b) 0
+    size = size-first kind p a ∙ e ∙ sym (size-first kind q b)
+
+body-length : (v w type : Bytes) → smallBytes v ≡ smallBytes w → length (entryBody v type) ≡ length (entryBody w type)
+body-length v w type e = ap suc (length-append v type ∙ ap (λ (n : ℕ). n + length type) (same-length v w e) ∙ sym (length-append w type))
+
+step-first : {x y : Bytes} → DifferInCase x y → Step x y 0
+step-first same-rest = record { size = refl; kind = refl; body = equal; rest = same-rest }
+step-first (same-record kind body r) = first-step {kind = kind} {p = body} equal refl r
+step-first (respelt v w type same r) =
+    let e = same-exactly v w .0 same in
+    first-step {p = entryBody v type} {q = entryBody w type} (recased v w type e) (body-length v w type e) r
+
+step : (a b : Bytes) (at : ℕ) → DifferInCase (drop at a) (drop at b) → Step a b at
+step a b at r =
+    let s = step-first r in
+    record {
+      size = sym (size-at a at) ∙ s .size ∙ size-at b at;
+      kind = sym (kind-at a at) ∙ s .kind ∙ kind-at b at;
+      body = rw (kind-at a at, body-at a at, body-at b at) at (s .body);
+      rest = rw (rest-at a at a, rest-at a at b) at (s .rest);
+    }
+
+module _ (v w type : Bytes) (e : smallBytes v ≡ smallBytes w) where
+  every-same : every (between 33 126) v ≡ every (between 33 126) w
+  every-same =
+      sym (small-every 33 126 v (omega arith) (omega arith)) ∙ ap (every (between 33 126)) e ∙ small-every 33 126 w (omega arith) (omega arith)
+
+  layout-same : isEntry (entryBody v type) ≡ isEntry (entryBody w type)
+  unfolding isEntry
+  layout-same =
+      rw (word-part v type, word-part w type, type-part v type, type-part w type, body-length v w type e, same-length v w e, every-same)
+
+  entry-same : smallEntry (entryOf (entryBody v type)) ≡ smallEntry (entryOf (entryBody w type))
+  entry-same = rw (word-part v type, word-part w type, type-part v type, type-part w type, e)
+
+-- The rules see no difference ..
+rules-same : {kind : ℕ} {p q : Bytes} → SameBody kind p q → (names : List Bytes) (entries : ℕ) (seen : Bool) → bodyRules kind p names entries seen ≡ bodyRules kind q names entries seen
+unfolding bodyRules
+rules-same equal names entries seen = refl
+rules-same (recased v w type e) names entries seen = rw (layout-same v w type e, type-part v type, type-part w type)
+
+-- .. and the books stay the same but for case with a record more.
+abbrev withEntry : Book → Entry → Book
+withEntry B x = record { names = B .names; pairs = B .pairs; entries = B .entries ++ (x ∷ []); target = B .target }
+
+with-entry-small : (B : Book) (x : Entry) → smallBook (withEntry B x) ≡ withEntry (smallBook B) (smallEntry x)
+with-entry-small B x =
+    ap (λ (es : List Entry). record { names = B .names; pairs = B .pairs; entries = es; target = B .target }) (map-append smallEntry (B .entries) (x ∷ []))
+
+-- Two books that are the same but for case.
+record SameBook (B C : Book) : Type 0 where
+  small : smallBook B ≡ smallBook C
+
+with-entry-same : {B C : Book} → SameBook B C → (x y : Entry) → smallEntry x ≡ smallEntry y → SameBook (withEntry B x) (withEntry C y)
+with-entry-same {B} {C} s x y e = record { small = with-entry-small B x ∙ ap₂ withEntry (s .small) e ∙ sym (with-entry-small C y) }
+
+by-kind : (kind : ℕ) {p q r s p′ q′ r′ s′ : Book} → SameBook p p′ → SameBook q q′ → SameBook r r′ → SameBook s s′
+    → SameBook (byKind {A = Book} kind p q r s) (byKind {A = Book} kind p′ q′ r′ s′)
+by-kind kind {p} {q} {r} {s} {p′} {q′} {r′} {s′} a b c d = go (eqb kind 1) (eqb kind 2) (eqb kind 3)
+  where
+    go : (t u v : Bool) → SameBook (cond {A = Book} t p (cond {A = Book} u q (cond {A = Book} v r s))) (cond {A = Book} t p′ (cond {A = Book} u q′ (cond {A = Book} v r′ s′)))
+    go true u v = a
+    go false true v = b
+    go false false true = c
+    go false false false = d
+
+add-same : {kind : ℕ} {p q : Bytes} → SameBody kind p q → {B C : Book} → SameBook B C → SameBook (add kind p B) (add kind q C)
+unfolding add
+add-same {kind} {p} equal t =
+    by-kind kind
+    (record { small = ap (λ (S : Book). record { names = S .names ++ (p ∷ []); pairs = S .pairs; entries = S .entries; target = S .target }) (t .small) })
+    (record { small = ap (λ (S : Book). record { names = S .names; pairs = S .pairs ++ (record { lower = getD {A = ℕ} p 0 0; upper = getD {A = ℕ} p 1 0 } ∷ []); entries = S .entries; target = S .target }) (t .small) })
+    (with-entry-same t (entryOf p) (entryOf p) refl)
+    (record { small = ap (λ (S : Book). record { names = S .names; pairs = S .pairs; entries = S .entries; target = getD {A = ℕ} p 0 0 }) (t .small) })
+add-same (recased v w type e) t = with-entry-same t (entryOf (entryBody v type)) (entryOf (entryBody w type)) (entry-same v w type e)
+
+-- What has been read of two books, the same but for case.
+record SameDraft (d e : Draft) : Type 0 where
+  books : SameBook (d .book) (e .book)
+  seen : d .seen ≡ e .seen
+
+module _ {a b : Bytes} {at : ℕ} (s : Step a b at) {d e : Draft} (t : SameDraft d e) where
+  rules-at : bodyRules (kindAt a at) (bodyAt a at) (d .book .names) (length (d .book .entries)) (d .seen) ≡ bodyRules (kindAt b at) (bodyAt b at) (e .book .names) (length (e .book .entries)) (e .seen)
+  rules-at =
+      rules-same (s .body) (d .book .names) (length (d .book .entries)) (d .seen)
+      ∙ rw (s .kind, ap (λ (B : Book). B .names) (t .books .small), entries, t .seen)
+    where
+      entries : length (d .book .entries) ≡ length (e .book .entries)
+      entries = sym (length-map (d .book .entries) smallEntry) ∙ ap (λ (B : Book). length (B .entries)) (t .books .small) ∙ length-map (e .book .entries) smallEntry
+
+  cut-at : length a ≡ length b → ltb (length a) (at + headLength) || ltb (length a) (nextAt a at) ≡ ltb (length b) (at + headLength) || ltb (length b) (nextAt b at)
+  cut-at lengths = rw (lengths, s .size)
+
+  fault-same : length a ≡ length b → firstBroken (nextRules a at d) ≡ firstBroken (nextRules b at e)
+  unfolding recordRules
+  fault-same lengths = ap firstBroken (ap₂ (λ (t : Bool) (rules : List (ℕ × Bool)). (cutShort, t) ∷ rules) (cut-at lengths) rules-at)
+
+  draft-same : SameDraft (nextDraft a at d) (nextDraft b at e)
+  draft-same = record {
+    books = rw (← s .kind) (add-same (s .body) (t .books));
+    seen = rw (s .kind, t .seen);
+  }
+
+-- Both are refused alike, or accepted and the same but for case.
+pub record SameParsed (p q : Parsed) : Type 0 where
+  pub small : smallParsed p ≡ smallParsed q
+
+ended-same : (a b : Bytes) {d e : Draft} → length a ≡ length b → SameDraft d e → SameParsed (ended a d) (ended b e)
+unfolding ended
+ended-same a b {d} {e} lengths t = rw (t .seen, lengths) (go (e .seen))
+  where
+    go : (u : Bool) → SameParsed (cond u (accepted (d .book)) (refused noTarget (length b))) (cond u (accepted (e .book)) (refused noTarget (length b)))
+    go true = record { small = ap accepted (t .books .small) }
+    go false = record { small = refl }
+
+one-of : {p q x y : Parsed} (u v : Bool) (n m : ℕ) → SameParsed p q → SameParsed x y → SameParsed (cond u (cond v p (refused n m)) x) (cond u (cond v q (refused n m)) y)
+one-of true true n m f g = f
+one-of true false n m f g = record { small = refl }
+one-of false v n m f g = g
+
+records-same : (more : ℕ) (a b : Bytes) (at : ℕ) {d e : Draft} → length a ≡ length b → DifferInCase (drop at a) (drop at b) → SameDraft d e
+    → SameParsed (recordsFrom more a at d) (recordsFrom more b at e)
+unfolding recordsFrom
+records-same zero a b at lengths r t = ended-same a b lengths t
+records-same (suc more) a b at {d} {e} lengths r t =
+    let s = step a b at r in
+    let next = records-same more a b (nextAt a at) lengths (s .rest) (draft-same s t) in
+    let place : ℕ → Type 0 = λ n. SameParsed (recordsFrom more a (nextAt a at) (nextDraft a at d)) (recordsFrom more b (at + headLength + n) (nextDraft b at e)) in
+    rw (lengths, fault-same s t lengths)
+    (one-of (ltb at (length b)) (eqb (firstBroken (nextRules b at e)) 0) (firstBroken (nextRules b at e)) at (subst place (s .size) next) (ended-same a b lengths t))
+
+same-size : {a b : Bytes} → DifferInCase a b → length a ≡ length b
+same-size same-rest = refl
+same-size (same-record kind body {a} {b} r) = length-append (recordOf kind body) a ∙ ap (λ (n : ℕ). length (recordOf kind body) + n) (same-size r) ∙ sym (length-append (recordOf kind body) b)
+same-size (respelt v w type {a} {b} h r) =
+    length-append (recordOf 3 (entryBody v type)) a ∙ ap₂ (λ (n m : ℕ). suc (suc (suc (suc n))) + m) (body-length v w type (same-exactly v w .0 h)) (same-size r) ∙ sym (length-append (recordOf 3 (entryBody w type)) b)
+
+pub parse-same : (a b : Bytes) → DifferInCase a b → SameParsed (parse a) (parse b)
+unfolding parse
+parse-same a b r =
+    rw (same-size r) (go (ltb maxBook (length b)) (records-same (length b) a b 0 (same-size r) r (record { books = record { small = refl }; seen = refl })))
+  where
+    go : (u : Bool) {p q : Parsed} → SameParsed p q → SameParsed (cond u (refused bookTooLong 0) p) (cond u (refused bookTooLong 0) q)
+    go true s = record { small = refl }
+    go false s = s
+
+-- A word has the same entries in a book whose words have small letters ..
+entries-small : (n : ℕ) (entries : List Entry) (word : Bytes) → entriesFrom n (map smallEntry entries) word ≡ entriesFrom n entries word
+unfolding entriesFrom
+entries-small n [] word = refl
+entries-small n (e ∷ entries) word =
+    rw (same-respelt (smallBytes (e .word)) word (e .word) word (small-bytes-twice (e .word)) refl, entries-small (n + 1) entries word)
+
+module _ (B : Book) where
+  fault-small : (words : List Word) → entryFault (smallBook B) words ≡ entryFault B words
+  unfolding entryFault
+  fault-small [] = refl
+  fault-small (w ∷ words) = rw (entries-small 0 (B .entries) (w .bytes), fault-small words)
+
+  entries-of-small : (words : List Word) → map (entriesOf (smallBook B)) words ≡ map (entriesOf B) words
+  entries-of-small [] = refl
+  entries-of-small (w ∷ words) =
+      ap₂ (λ (es : List NumberedEntry) (rest : Words). es ∷ rest) (entries-small 0 (B .entries) (w .bytes)) (entries-of-small words)
+
+  -- .. and every line is checked alike.
+  pub book-small : (line : Bytes) → lineCheck (smallBook B) line ≡ lineCheck B line
+  unfolding lineCheck
+  book-small line = rw (fault-small (wordsOf line), entries-of-small (wordsOf line))
