@@ -133,7 +133,7 @@ fn time_lines(samples: &[&Sample]) -> Vec<Rounds> {
 fn head(title: &str) {
     println!("\n{title}");
     println!(
-        "{:44} {:>12} {:>12} {:>7} {:>13}",
+        "{:56} {:>12} {:>12} {:>7} {:>13}",
         "sample", "library ns", "twin ns", "ratio", "median ratio"
     );
 }
@@ -142,7 +142,7 @@ fn head(title: &str) {
 fn row(name: &str, rounds: &Rounds) {
     let (library, twin) = rounds.smallest();
     println!(
-        "{name:44} {library:>12.0} {twin:>12.0} {:>7.2} {:>13.2}",
+        "{name:56} {library:>12.0} {twin:>12.0} {:>7.2} {:>13.2}",
         library / twin,
         rounds.median_ratio()
     );

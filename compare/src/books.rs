@@ -1,4 +1,5 @@
-//! Writing books record by record, and the books of documents 01 and 000.
+//! Writing books record by record, finding their words again, and the books of documents 01 and 000.
+use std::ops::Range;
 
 /// A book as a list of records, each with its head and body.
 #[derive(Clone, Default)]
@@ -44,6 +45,26 @@ pub fn entry(word: &[u8], simple_types: &[(u8, i8)]) -> Vec<u8> {
         body.extend([*basic, *exponent as u8]);
     }
     record(3, &body)
+}
+
+/// Where the words of a book's entries stand, as far as its records are whole.
+pub fn word_ranges(book: &[u8]) -> Vec<Range<usize>> {
+    let mut ranges = vec![];
+    let mut at = 0;
+    while let Some(head) = book.get(at..at + 4) {
+        let end = at + 4 + u16::from_le_bytes([head[0], head[1]]) as usize;
+        let Some(body) = book.get(at + 4..end) else {
+            break;
+        };
+        if let ([3, 0], Some(&length)) = (&head[2..], body.first()) {
+            let word = at + 5..at + 5 + length as usize;
+            if word.end <= end {
+                ranges.push(word);
+            }
+        }
+        at = end;
+    }
+    ranges
 }
 
 /// A book written with names: entries as ("fetch", "o p^l").

@@ -108,7 +108,7 @@ fn choices(book: &Book, words: &[&[u8]]) -> Vec<Vec<usize>> {
         let mut longer = vec![];
         for list in &lists {
             for number in 0..book.entries.len() {
-                if book.entries[number].0 == *word {
+                if same_word(&book.entries[number].0, word) {
                     longer.push([list.clone(), vec![number]].concat());
                 }
             }
@@ -116,6 +116,17 @@ fn choices(book: &Book, words: &[&[u8]]) -> Vec<Vec<usize>> {
         lists = longer;
     }
     lists
+}
+
+/// Whether two words are the same: at every place one byte, or a capital and
+/// its small letter.
+fn same_word(a: &[u8], b: &[u8]) -> bool {
+    const CAPITALS: &[u8; 26] = b"ABCDEFGHIJKLMNOPQRSTUVWXYZ";
+    const SMALL: &[u8; 26] = b"abcdefghijklmnopqrstuvwxyz";
+    let spells =
+        |capital: u8, small: u8| (0..26).any(|k| [CAPITALS[k], SMALL[k]] == [capital, small]);
+    let alike = |(x, y): (&u8, &u8)| x == y || spells(*x, *y) || spells(*y, *x);
+    a.len() == b.len() && a.iter().zip(b).all(alike)
 }
 
 /// Whether the written values are some reading of the line.
@@ -136,7 +147,7 @@ fn is_reading(book: &[u8], line: &[u8], values: &[u16]) -> bool {
         && entries
             .iter()
             .zip(&words)
-            .all(|(entry, word)| entry.0 == *word)
+            .all(|(entry, word)| same_word(&entry.0, word))
         && partners.len() == string.len()
         && (0..partners.len()).all(|i| partners[partners[i]] == i)
         && own == 1
@@ -149,11 +160,28 @@ fn words_of(line: &[u8]) -> Vec<&[u8]> {
         .collect()
 }
 
+/// The offset of the first word without an entry.
+fn unknown_word(book: &[u8], line: &[u8]) -> Option<u64> {
+    let book = take_apart(book);
+    let known = |word: &[u8]| book.entries.iter().any(|entry| same_word(&entry.0, word));
+    let mut offset = 0;
+    for word in line.split(|byte| *byte == 32) {
+        if !word.is_empty() && !known(word) {
+            return Some(offset);
+        }
+        offset += word.len() as u64 + 1;
+    }
+    None
+}
+
 /// The answers of all readings in order, or nothing where there is too much to try.
 fn all_readings(book: &[u8], line: &[u8]) -> Option<Vec<Vec<u16>>> {
     let book = take_apart(book);
     let words = words_of(line);
-    let of_word = |word: &&[u8]| book.entries.iter().filter(|e| e.0 == *word).count();
+    let of_word = |word: &&[u8]| {
+        let entries = book.entries.iter();
+        entries.filter(|entry| same_word(&entry.0, word)).count()
+    };
     if words.iter().map(of_word).product::<usize>() > 300 {
         return None;
     }
@@ -209,18 +237,24 @@ fn the_first_of_all_readings_is_read() {
     let mut number = 0;
     while tried < 6_000 {
         number += 1;
-        let case = cases::ambiguous(&mut Random::for_case(7, number));
+        let random = &mut Random::for_case(7, number);
+        let case = match number % 3 {
+            0 => cases::spellings(random),
+            _ => cases::ambiguous(random),
+        };
         let Some(readings) = all_readings(&case.book, &case.line) else {
             continue;
         };
         let mut answer = [0; cases::AMPLE];
         let outcome = read_line(&case.book, &case.line, &mut answer);
-        match readings.first() {
-            Some(first) => {
+        let unknown = unknown_word(&case.book, &case.line);
+        match (unknown, readings.first()) {
+            (Some(offset), _) => assert_eq!(outcome, Err((13, offset)), "case {number}"),
+            (None, Some(first)) => {
                 assert_eq!(outcome, Ok(first.len() as u64), "case {number}");
                 assert_eq!(answer[..first.len()], first[..], "case {number}");
             }
-            None => assert_eq!(outcome, Err((15, 0)), "case {number}"),
+            (None, None) => assert_eq!(outcome, Err((15, 0)), "case {number}"),
         }
         tried += 1;
         read += usize::from(!readings.is_empty());

@@ -5,10 +5,12 @@ mod borders;
 mod damaged_books;
 mod damaged_lines;
 mod papers;
+mod spellings;
 
 use crate::independent;
 use crate::random::Random;
 pub use ambiguous::ambiguous;
+pub use spellings::spellings;
 
 pub struct Case {
     pub kind: &'static str,
@@ -23,11 +25,12 @@ pub const AMPLE: usize = 320;
 type Maker = fn(&mut Random) -> Case;
 
 /// The makers with their shares of 2,000 cases.
-const MAKERS: [(usize, Maker); 6] = [
-    (1_000, ambiguous),
-    (300, papers::papers),
-    (350, damaged_books::damaged_books),
-    (318, damaged_lines::damaged_lines),
+const MAKERS: [(usize, Maker); 7] = [
+    (850, ambiguous),
+    (200, spellings),
+    (280, papers::papers),
+    (340, damaged_books::damaged_books),
+    (298, damaged_lines::damaged_lines),
     (30, borders::small_borders),
     (2, borders::big_borders),
 ];
@@ -44,9 +47,12 @@ pub fn any(random: &mut Random) -> Case {
     unreachable!("the shares make 2,000")
 }
 
-/// The case of a kind, with a number of values lent that is often just enough
-/// or just too small.
-fn lend(random: &mut Random, kind: &'static str, book: Vec<u8>, line: Vec<u8>) -> Case {
+/// The case of a kind: with its words respelt in every second case, and with a
+/// number of values lent that is often just enough or just too small.
+fn lend(random: &mut Random, kind: &'static str, mut book: Vec<u8>, mut line: Vec<u8>) -> Case {
+    if random.chance(1, 2) {
+        spellings::respell(random, &mut book, &mut line);
+    }
     let lent = match random.below(10) {
         0..=4 => AMPLE,
         5 | 6 => needed(&book, &line),

@@ -1,6 +1,7 @@
 //! Runs cases through the independent reader and through others, compares what
 //! they return and what they leave in the answer buffer, and counts the outcomes.
 
+use crate::books::word_ranges;
 use crate::cases::{self, Case};
 use crate::progress;
 use crate::random::Random;
@@ -13,25 +14,57 @@ use std::time::{Duration, Instant};
 
 const THREADS: u64 = 2;
 
-/// Outcomes of one kind of case, and the time the independent implementation took.
+/// How many cases there were, and how many of each outcome.
 #[derive(Default)]
-struct Tally {
+struct Outcomes {
     cases: u64,
     accepted: u64,
     read: u64,
     refused: [u64; 17],
-    time: Duration,
-    slowest: Duration,
 }
 
-impl Tally {
-    fn add(&mut self, other: &Tally) {
+impl Outcomes {
+    fn count(&mut self, outcome: &Outcome) {
+        self.cases += 1;
+        self.accepted += u64::from(outcome.checked.is_ok());
+        match outcome.read {
+            Ok(_) => self.read += 1,
+            Err((number, _)) => self.refused[number as usize] += 1,
+        }
+    }
+
+    fn add(&mut self, other: &Outcomes) {
         self.cases += other.cases;
         self.accepted += other.accepted;
         self.read += other.read;
         for (mine, more) in self.refused.iter_mut().zip(other.refused) {
             *mine += more;
         }
+    }
+
+    /// The refusals that occurred, each with how often.
+    fn refusals(&self) -> String {
+        let refused: Vec<String> = (1..=16)
+            .filter(|number| self.refused[*number] > 0)
+            .map(|number| format!("{number}: {}", self.refused[number]))
+            .collect();
+        format!("refusals {}", refused.join(", "))
+    }
+}
+
+/// Outcomes of one kind of case, those with capitals on both sides, and the time the independent implementation took.
+#[derive(Default)]
+struct Tally {
+    all: Outcomes,
+    capitals: Outcomes,
+    time: Duration,
+    slowest: Duration,
+}
+
+impl Tally {
+    fn add(&mut self, other: &Tally) {
+        self.all.add(&other.all);
+        self.capitals.add(&other.capitals);
         self.time += other.time;
         self.slowest = self.slowest.max(other.slowest);
     }
@@ -112,13 +145,18 @@ fn in_threads(part: impl Fn(u64) -> Tallies + Sync) -> Tallies {
     tallies
 }
 
+/// Whether the book is accepted, and capitals stand both in words of its entries and in the line.
+fn capitals_on_both_sides(case: &Case, ours: &Outcome) -> bool {
+    let capitals = |bytes: &[u8]| bytes.iter().any(u8::is_ascii_uppercase);
+    let mut words = word_ranges(&case.book).into_iter();
+    ours.checked.is_ok() && capitals(&case.line) && words.any(|word| capitals(&case.book[word]))
+}
+
 fn count(tallies: &mut Tallies, case: &Case, ours: &Outcome, time: Duration) {
     let tally = tallies.entry(case.kind).or_default();
-    tally.cases += 1;
-    tally.accepted += u64::from(ours.checked.is_ok());
-    match ours.read {
-        Ok(_) => tally.read += 1,
-        Err((number, _)) => tally.refused[number as usize] += 1,
+    tally.all.count(ours);
+    if capitals_on_both_sides(case, ours) {
+        tally.capitals.count(ours);
     }
     tally.time += time;
     tally.slowest = tally.slowest.max(time);
@@ -131,27 +169,30 @@ fn print_tallies(tallies: &Tallies, time: Duration) {
         all.add(tally);
     }
     print_tally("all", &all);
-    for (number, count) in all.refused.iter().enumerate().skip(1) {
+    for (number, count) in all.all.refused.iter().enumerate().skip(1) {
         if *count == 0 {
             println!("refusal {number} did not occur");
         }
     }
     let seconds = time.as_secs_f64();
-    let rate = all.cases as f64 / seconds;
+    let rate = all.all.cases as f64 / seconds;
     println!("{seconds:.2} seconds, {rate:.0} cases a second");
 }
 
 fn print_tally(kind: &str, tally: &Tally) {
+    let (all, capitals) = (&tally.all, &tally.capitals);
     println!(
         "{kind}: {} cases, {} books accepted, {} lines read",
-        tally.cases, tally.accepted, tally.read
+        all.cases, all.accepted, all.read
     );
-    let refused: Vec<String> = (1..=16)
-        .filter(|number| tally.refused[*number] > 0)
-        .map(|number| format!("{number}: {}", tally.refused[number]))
-        .collect();
-    println!("    refusals {}", refused.join(", "));
-    let mean = tally.time / tally.cases.max(1) as u32;
+    println!("    {}", all.refusals());
+    println!(
+        "    with capitals on both sides {} cases, {} lines read, {}",
+        capitals.cases,
+        capitals.read,
+        capitals.refusals()
+    );
+    let mean = tally.time / all.cases.max(1) as u32;
     println!("    time mean {mean:?}, most {:?}", tally.slowest);
 }
 
@@ -178,6 +219,22 @@ fn hex(bytes: &[u8]) -> String {
     bytes.iter().map(|byte| format!("{byte:02x}")).collect()
 }
 
+/// The independent reader, but with one bit set in every byte from 64 to 94 of words on both sides, so that `[` is `{`.
+#[cfg(test)]
+fn one_bit_masked(book: &[u8], line: &[u8], answer: &mut [u16]) -> Result<u64, Refusal> {
+    let mask = |byte: &mut u8| {
+        if (64..=94).contains(byte) {
+            *byte |= 32;
+        }
+    };
+    let (mut book, mut line) = (book.to_vec(), line.to_vec());
+    for word in word_ranges(&book) {
+        book[word].iter_mut().for_each(mask);
+    }
+    line.iter_mut().for_each(mask);
+    (INDEPENDENT.read_line)(&book, &line, answer)
+}
+
 #[test]
 fn differences_are_found() {
     let one_too_many = |book: &[u8], line: &[u8], answer: &mut [u16]| {
@@ -191,6 +248,10 @@ fn differences_are_found() {
     assert!(alike(INDEPENDENT));
     assert!(!alike(Reader {
         read_line: one_too_many,
+        ..INDEPENDENT
+    }));
+    assert!(!alike(Reader {
+        read_line: one_bit_masked,
         ..INDEPENDENT
     }));
     assert!(!alike(Reader {

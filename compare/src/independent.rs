@@ -1,5 +1,6 @@
-//! The book check and the line reader of document 01, straight from its
-//! definitions: a second implementation, to be compared with the first.
+//! The book check and the line reader of document 01 with request 2.1 of
+//! document 02, straight from their definitions: a second implementation, to be
+//! compared with the first.
 
 use crate::types::{Counts, Refusal};
 
@@ -288,7 +289,8 @@ fn look_up<'b>(
 ) -> Result<Vec<Vec<&'b Entry<'b>>>, Refusal> {
     let mut places = Vec::new();
     for (offset, word) in words {
-        let entries: Vec<&Entry> = book.entries.iter().filter(|e| e.word == *word).collect();
+        let of_word = |entry: &&Entry| same_word(entry.word, word);
+        let entries: Vec<&Entry> = book.entries.iter().filter(of_word).collect();
         if entries.is_empty() {
             return Err((13, *offset as u64));
         }
@@ -298,6 +300,12 @@ fn look_up<'b>(
         return Err((14, 0));
     }
     Ok(places)
+}
+
+/// Whether a book's word and a line's word are the same: letters A–Z count as
+/// their small letters, and no other two bytes are alike.
+fn same_word(book_word: &[u8], line_word: &[u8]) -> bool {
+    book_word.eq_ignore_ascii_case(line_word)
 }
 
 /// How many simple types all entries of all places have together.

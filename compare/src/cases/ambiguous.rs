@@ -157,24 +157,27 @@ pub struct Small {
 
 impl Small {
     pub fn new(random: &mut Random) -> Small {
-        let types = Types::new(random, 6);
-        let mut pool = WORDS;
+        let mut pool = WORDS.map(|word| word.as_bytes().to_vec());
         random.shuffle(&mut pool);
-        let vocabulary = &pool[..2 + random.below(4)];
+        let words = 2 + random.below(4);
+        Small::over(random, &pool[..words])
+    }
+
+    /// A book of the given words, each with an entry, and a line over them.
+    pub fn over(random: &mut Random, vocabulary: &[Vec<u8>]) -> Small {
         let places = random.below(8);
-        let words: Vec<Vec<u8>> = (0..places)
-            .map(|_| random.pick(vocabulary).as_bytes().to_vec())
-            .collect();
         let mut small = Small {
-            types,
+            types: Types::new(random, 6),
             entries: vec![],
-            words,
+            words: (0..places)
+                .map(|_| random.pick(vocabulary).clone())
+                .collect(),
         };
         for _ in 0..random.below(3) {
             small.add_readable(random);
         }
         for word in vocabulary {
-            small.add_shaped(random, word.as_bytes());
+            small.add_shaped(random, word);
         }
         if random.chance(1, 4) {
             small.repeat_entry(random);
@@ -183,8 +186,10 @@ impl Small {
         small
     }
 
+    /// How many entries a word has, under all its spellings.
     fn entries_of(&self, word: &[u8]) -> usize {
-        self.entries.iter().filter(|entry| entry.0 == word).count()
+        let of_word = |entry: &&(Vec<u8>, TypeString)| entry.0.eq_ignore_ascii_case(word);
+        self.entries.iter().filter(of_word).count()
     }
 
     /// Entries that together give the line a reading, as far as four entries

@@ -36,12 +36,14 @@ fn bytes(random: &mut Random, most: usize) -> Vec<u8> {
 
 /// A name, often with a fault.
 fn name(random: &mut Random) -> Vec<u8> {
-    let mut name: Vec<u8> = match random.below(6) {
+    let mut name: Vec<u8> = match random.below(8) {
         0 => b"s".to_vec(),
         1 => b"np".to_vec(),
         2 => vec![b'z'; 14 + random.below(3)],
         3 => b"newone".to_vec(),
         4 => vec![],
+        5 => random.pick(&["S", "Np", "nP"]).as_bytes().to_vec(),
+        6 => random.pick(&["Newone", "neWone", "X1"]).as_bytes().to_vec(),
         _ => bytes(random, 4),
     };
     if random.chance(1, 3) {

@@ -8,7 +8,7 @@ use crate::random::Random;
 
 /// A book with a word of many simple types, and that word so often that the
 /// line has too many; seldom once less often, so that it has not.
-fn heavy(random: &mut Random) -> (Records, Vec<Vec<u8>>) {
+pub fn heavy(random: &mut Random) -> (Records, Vec<Vec<u8>>) {
     let mut small = Small::new(random);
     let word = b"heavy".to_vec();
     let target = small.types.target;

@@ -87,10 +87,13 @@ pub fn full() -> Vec<Sample> {
     }
     samples.push(dearest());
     let (book, line) = alike_book();
-    samples.push(Sample {
-        name: "1024 words alike, 31 bytes, 24 words, reads".to_string(),
-        book,
-        line,
-    });
+    let capitals = line.to_ascii_uppercase();
+    for (kind, line) in [("24 words", line), ("24 words in capitals", capitals)] {
+        samples.push(Sample {
+            name: format!("1024 words alike, 31 bytes, {kind}, reads"),
+            book: book.clone(),
+            line,
+        });
+    }
     samples
 }

@@ -212,8 +212,8 @@ fn reading_line(random: &mut Random, length: usize) -> Vec<Class> {
     }
 }
 
-/// Lines of 6 to 12 words against the typical book. Those without a reading end with a determiner, of which every entry wants
-/// something behind it.
+/// Lines of 6 to 12 words against the typical book, and one of 12 in capitals. Those without a reading end with a determiner, of which
+/// every entry wants something behind it.
 pub fn typical() -> Vec<Sample> {
     let mut random = Random::new(1);
     let (book, words) = typical_book(&mut random);
@@ -242,6 +242,13 @@ pub fn typical() -> Vec<Sample> {
             });
         }
     }
+    // The last two lines have 12 words, and the first of them reads.
+    let capitals = samples[samples.len() - 2].line.to_ascii_uppercase();
+    samples.push(Sample {
+        name: "typical, 12 words in capitals, reads".to_string(),
+        book,
+        line: capitals,
+    });
     samples
 }
 

@@ -99,10 +99,10 @@ impl Candidate {
         book.bytes()
     }
 
-    /// The line's bytes.
+    /// The line's bytes, in capitals: letters that differ in case are the dearest to compare.
     pub fn line_bytes(&self) -> Vec<u8> {
         let words: Vec<String> = self.line.iter().map(|&number| word(number)).collect();
-        words.join(" ").into_bytes()
+        words.join(" ").to_ascii_uppercase().into_bytes()
     }
 }
 

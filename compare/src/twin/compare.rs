@@ -26,7 +26,7 @@ fn same_long(a: &[u8], b: &[u8]) -> bool {
 
 /// Eight bytes as one little-endian number.
 #[inline]
-fn eight_bytes(bytes: &[u8], at: usize) -> u64 {
+pub fn eight_bytes(bytes: &[u8], at: usize) -> u64 {
     let eight = bytes[at..at + 8].try_into().expect("eight bytes");
     u64::from_le_bytes(eight)
 }

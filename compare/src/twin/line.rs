@@ -1,9 +1,9 @@
 //! A line: any bytes at all. Its words are found where they stand, and it is refused for a byte, a word, a word without an entry or
 //! too many simple types, in this order.
 use super::book::{body_at, type_part, wide_number, word_part};
-use super::compare;
 use super::figures::limits::{MAX_ENTRIES, MAX_LINE_SIMPLES, MAX_WORD, MAX_WORDS};
 use super::figures::refusals::{BAD_LINE_BYTE, BAD_WORD, TOO_MANY_SIMPLES, UNKNOWN_WORD};
+use super::letters;
 
 /// What splitting a line gives: how many words it has, or the number that it is refused with and the value returned with it.
 pub enum CheckedLine {
@@ -70,7 +70,7 @@ fn split(line: &[u8], starts: &mut [usize], ends: &mut [usize]) -> CheckedLine {
 
 /// Whether the entry whose record stands at an offset is a word's.
 fn belongs(book: &[u8], at: usize, word: &[u8]) -> bool {
-    compare::same(word_part(body_at(book, at)), word)
+    letters::same_word(word_part(body_at(book, at)), word)
 }
 
 /// Finds a word's entries: their numbers, in the book's order, are written to the front of `found`, and how many there are is

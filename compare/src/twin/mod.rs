@@ -9,6 +9,7 @@ mod choice;
 mod compare;
 pub mod figures;
 mod graph;
+mod letters;
 mod line;
 mod links;
 mod order;
