@@ -20,7 +20,7 @@ extern "C" {
 
 /* The version of this header. */
 #define VURZHELIK_VERSION_MAJOR 1
-#define VURZHELIK_VERSION_MINOR 0
+#define VURZHELIK_VERSION_MINOR 1
 #define VURZHELIK_VERSION_PATCH 0
 #define VURZHELIK_VERSION (10000 * VURZHELIK_VERSION_MAJOR + 100 * VURZHELIK_VERSION_MINOR + VURZHELIK_VERSION_PATCH)
 
@@ -60,7 +60,8 @@ uint32_t vurzhelik_check_book(const uint8_t *book, size_t book_length, uint64_t 
 
 /* Reads a line against a book.
  * VURZHELIK_OK: answer holds the first reading: the number of words, the entry number of each, the number of simple types, the partner of
- * each. *value holds how many values that is; those behind them are as they were.
+ * each. *value holds how many values that is; those behind them are as they were. The letters A to Z of a word count as a to z, in the line
+ * and in the book.
  * 1 to 16: book or line is refused; *value is as listed above, and answer is as it was. */
 uint32_t vurzhelik_read_line(const uint8_t *book, size_t book_length, const uint8_t *line, size_t line_length, uint16_t *answer,
                              size_t answer_length, uint64_t *value);

@@ -120,7 +120,8 @@ pub fn check_book(book: &[u8]) -> Result<Counts, Refusal> {
 }
 
 /// Reads a line against a book. The answer then begins with the first reading: n, the n entry numbers, m, the m partners. What is returned
-/// is how many values that is; those behind them are as they were. A refusal leaves the whole answer as it was.
+/// is how many values that is; those behind them are as they were. A refusal leaves the whole answer as it was. The letters A to Z of a
+/// word count as a to z, in the line and in the book.
 pub fn read_line(book: &[u8], line: &[u8], answer: &mut [u16]) -> Result<usize, Refusal> {
     let mut value = 0;
     // Safety: as in `check_book`.
