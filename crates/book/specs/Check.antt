@@ -7,7 +7,7 @@ use mathlib.Core.Bool.{true, false}
 use mathlib.Core.List.{List, [], _∷_, List·Memᴰ}
 use lib.ListN.{length}
 use Rattle.figures.specs.Limits.{maxBook}
-use Rattle.figures.specs.Refusals.{Reply, bookTooLong, noTarget}
+use Rattle.figures.specs.Refusals.{Reply, refusal, bookTooLong, noTarget}
 use Rattle.order.specs.Closed.{Closed, Listed, HasPairs, closedCount}
 use Rattle.book.specs.Format.{Bytes, Book, Draft, Parsed, accepted, refused, parse, nothingYet, nextAt, nextRules, nextDraft}
 use Rattle.book.specs.declared.BookCheck.{BookCheck}
@@ -24,7 +24,7 @@ bookCheck bytes = answerFor (parse bytes)
 -- An answer of the book check as the paper gives it.
 abbrev pub checkReply : BookCheck → Reply
 checkReply (Accepted types entries pairs) = record { number = 0; values = types ∷ entries ∷ pairs ∷ [] }
-checkReply (Refused number value) = record { number = number; values = value ∷ [] }
+checkReply (Refused number value) = refusal number value
 
 -- The record at an offset, behind records that hold d, breaks the rule with this number.
 abbrev pub Breaks : Bytes → ℕ → Draft → ℕ → Type 0
@@ -55,4 +55,4 @@ pub record AcceptedCounts (bytes : Bytes) (values : List ℕ) : Type 0 where
 pub record BookPromised (bytes : Bytes) (reply : Reply) : Type 0 where
   pub accepts : (reply .number ≡ 0) ↔ ((n v : ℕ) → Cause bytes n v → ⊥)
   pub counts : reply .number ≡ 0 → AcceptedCounts bytes (reply .values)
-  pub refuses : (n v : ℕ) → (reply ≡ record { number = n; values = v ∷ [] }) ↔ Cause bytes n v
+  pub refuses : (n v : ℕ) → (reply ≡ refusal n v) ↔ Cause bytes n v

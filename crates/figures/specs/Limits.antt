@@ -1,4 +1,4 @@
--- Document 01, "The book's bytes": the limits of books and lines, and the sizes that follow from them. `src/limits.rt` has the same figures.
+-- Document 01, "The book's bytes": the limits of books and lines, those of batches, and the sizes that follow from them. `src/limits.rt` has the same figures.
 use Prim.Native.Nat.{ℕ, _+_, _*_, _/_}
 
 -- Bytes, basic types and entries of a book.
@@ -38,6 +38,24 @@ maxString = maxWords * maxEntrySimples
 
 abbrev pub maxPlaces : ℕ
 maxPlaces = maxString + 1
+
+-- Values of an answer: the number of words and that of simple types, an entry for each word, a partner for each simple type.
+abbrev pub maxValues : ℕ
+maxValues = 2 + maxWords + maxString
+
+-- Bytes and lines of a batch (document 02, 2.2).
+abbrev pub maxBatch : ℕ
+maxBatch = 65535
+
+abbrev pub maxLines : ℕ
+maxLines = 32
+
+-- Values that a line of a batch takes, with the two before its answer, and that all of its lines take.
+abbrev pub maxPart : ℕ
+maxPart = 2 + maxValues
+
+abbrev pub maxParts : ℕ
+maxParts = maxLines * maxPart
 
 -- Nodes of a line's graph: a boundary for each word and one behind the last, the simple types, the target and the end.
 abbrev pub maxNodes : ℕ

@@ -1,12 +1,15 @@
 -- Document 01, "When the screen says no": the number of each refusal, and the form in which the paper gives an answer. `src/refusals.rt` has
 -- the same numbers.
 use Prim.Native.Nat.{ℕ}
-use mathlib.Core.List.{List}
+use mathlib.Core.List.{List, [], _∷_}
 
 -- An answer as the paper gives it: 0 and the values of a success, or the number of a refusal and the value returned with it.
 pub record Reply : Type 0 where
   pub number : ℕ
   pub values : List ℕ
+
+abbrev pub refusal : ℕ → ℕ → Reply
+refusal number value = record { number = number; values = value ∷ [] }
 
 -- Book over 65,535 bytes.
 abbrev pub bookTooLong : ℕ
@@ -71,3 +74,11 @@ noReading = 15
 -- Answer buffer too short.
 abbrev pub bufferTooShort : ℕ
 bufferTooShort = 16
+
+-- Batch of over 32 lines or over 65,535 bytes, or with a last line that is not closed.
+abbrev pub badBatch : ℕ
+badBatch = 17
+
+-- Answers of a batch do not fit.
+abbrev pub answersTooLong : ℕ
+answersTooLong = 18

@@ -1,4 +1,4 @@
-// The limits of books and lines, and the sizes of lists that follow from them. `specs/Limits` has the same figures for contracts.
+// The limits of books, lines and batches, and the sizes of lists that follow from them. `specs/Limits` has the same figures for contracts.
 
 // How many bytes a book has at most, and how many basic types and entries.
 pub const MAX_BOOK: usize = 65535;
@@ -26,6 +26,19 @@ pub const MAX_LINE_SIMPLES: usize = 512;
 pub const MAX_STRING: usize = MAX_WORDS * MAX_ENTRY_SIMPLES;
 
 pub const MAX_PLACES: usize = MAX_STRING + 1;
+
+// How many values an answer has at most: the number of words and that of simple types, an entry for each word, a partner for each simple type.
+pub const MAX_VALUES: usize = 2 + MAX_WORDS + MAX_STRING;
+
+// How many bytes and how many lines a batch has at most.
+pub const MAX_BATCH: usize = 65535;
+
+pub const MAX_LINES: usize = 32;
+
+// How many values a line of a batch takes at most, with the two before its answer, and how many all of its lines.
+pub const MAX_PART: usize = 2 + MAX_VALUES;
+
+pub const MAX_PARTS: usize = MAX_LINES * MAX_PART;
 
 // How many nodes a line's graph has at most: a boundary for each word and one behind the last, the simple types, the target and the end.
 pub const MAX_NODES: usize = MAX_WORDS + MAX_LINE_SIMPLES + 3;

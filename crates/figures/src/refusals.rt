@@ -47,3 +47,9 @@ pub const NO_READING: u32 = 15;
 
 // Answer buffer too short.
 pub const BUFFER_TOO_SHORT: u32 = 16;
+
+// Batch of over 32 lines or over 65,535 bytes, or with a last line that is not closed.
+pub const BAD_BATCH: u32 = 17;
+
+// Answers of a batch do not fit.
+pub const ANSWERS_TOO_LONG: u32 = 18;

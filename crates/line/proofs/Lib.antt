@@ -8,5 +8,6 @@ pub mod LookUpLaws
 pub mod FoundLaws
 pub mod LineLaws
 pub mod Passed
+pub mod Offsets
 pub mod SmallLines
 pub mod SmallBooks

@@ -117,7 +117,7 @@ first-of-behind (read {X = X} c t f) =
     })
 first-of-behind (unread n) = no-reading (λ ns P r. n ns P (r .type) (r .chosen) (r .linking))
 
-choice-length : {words : Words} {ns : List ℕ} {X : PregroupType} → Choice words ns X → length ns ≡ length words
+pub choice-length : {words : Words} {ns : List ℕ} {X : PregroupType} → Choice words ns X → length ns ≡ length words
 choice-length empty = refl
 choice-length (take m c) = ap suc (choice-length c)
 

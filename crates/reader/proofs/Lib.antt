@@ -2,6 +2,7 @@
 pub mod Table
 pub mod Refusals
 pub mod Promises
+pub mod Ample
 pub mod Capitals
 pub mod Spellings
 pub mod Selection

@@ -53,7 +53,7 @@ module _ (book line : Bytes) (before : List ℕ) {B : Book} (parsed : parse book
   pub gives-outcome : {words : Words} {target : Basic} {answer : LineAnswer} {after : List ℕ} → lineCheck B line ≡ passed words → B .target ≡ target
       → Gives (given (firstReading (below (length (B .names)) (B .pairs)) target words) before) answer after → Gives (outcome book line before) answer after
   gives-outcome {words} {answer = answer} {after} l e g =
-      subst (λ (o : Outcome). Gives o answer after) (sym (outcome-is l))
+      subst (λ (o : Outcome LineAnswer). Gives o answer after) (sym (outcome-is l))
       (subst (λ (s : Basic). Gives (given (firstReading (below (length (B .names)) (B .pairs)) s words) before) answer after) (sym e) g)
 
 -- What is kept of an accepted book, with its closed order.

@@ -10,7 +10,7 @@ use lib.Dec.{ltb}
 use lib.ListN.{length, getD, drop, length-append}
 use lib.Seq.{take-append-seam}
 use borrow.Author.Tests.{ltb-true, ltb-false}
-use Rattle.figures.specs.Refusals.{Reply, noReading, bufferTooShort}
+use Rattle.figures.specs.Refusals.{Reply, refusal, noReading, bufferTooShort}
 use Rattle.pregroup.specs.Tests.{Decides}
 use Rattle.order.specs.Closed.{below, DeclaredPairs}
 use Rattle.order.proofs.Decision.{below-decides}
@@ -29,24 +29,24 @@ use Rattle.reader.specs.Outcome.{Outcome, lineReply, valuesOf, given, re
 use Rattle.reader.specs.Demands.{OrderOf, Readable, Written, TooShort, NoChain, Promised}
 use Rattle.reader.proofs.Refusals.{NamedParse, parse-named, NamedLine, line-named}
 
-values-count : (a : Answer) → length (valuesOf a) ≡ 2 + length (a .0) + length (a .1)
+pub values-count : (a : Answer) → length (valuesOf a) ≡ 2 + length (a .0) + length (a .1)
 values-count a = let n = length-append (a .0) (length (a .1) ∷ a .1) in omega arith
 
 -- The three outcomes that `given` has.
-data Given (buffer : List ℕ) : Option Answer → LineAnswer → List ℕ → Type 0 where
+pub data Given (buffer : List ℕ) : Option Answer → LineAnswer → List ℕ → Type 0 where
   no-answer : Given buffer none (Refused noReading 0) buffer
   too-short : {a : Answer} → length buffer < length (valuesOf a) → Given buffer (some a) (Refused bufferTooShort (length (valuesOf a))) buffer
   enough : {a : Answer} → length (valuesOf a) ≤ length buffer → Given buffer (some a) (Read (length (valuesOf a))) (valuesOf a ++ drop (length (valuesOf a)) buffer)
 
-given-is : (buffer : List ℕ) (o : Option Answer) → Given buffer o (given o buffer .answer) (given o buffer .buffer)
+pub given-is : (buffer : List ℕ) (o : Option Answer) → Given buffer o (given o buffer .answer) (given o buffer .buffer)
 unfolding given
 given-is buffer none = no-answer
 given-is buffer (some a) = go (ltb (length buffer) (length (valuesOf a))) refl
   where
-    short : Outcome
+    short : Outcome LineAnswer
     short = record { answer = Refused bufferTooShort (length (valuesOf a)); buffer = buffer }
 
-    full : Outcome
+    full : Outcome LineAnswer
     full = record { answer = Read (length (valuesOf a)); buffer = valuesOf a ++ drop (length (valuesOf a)) buffer }
 
     go : (b : Bool) → ltb (length buffer) (length (valuesOf a)) ≡ b → Given buffer (some a) (cond b short full .answer) (cond b short full .buffer)
@@ -56,15 +56,11 @@ given-is buffer (some a) = go (ltb (length buffer) (length (valuesOf a))) refl
 some-same : {a b : Answer} → _≡_ {A = Option Answer} (some a) (some b) → a ≡ b
 some-same e = cc
 
-none-some : {C : Type 0} {a : Answer} → _≡_ {A = Option Answer} none (some a) → C
+pub none-some : {C : Type 0} {a : Answer} → _≡_ {A = Option Answer} none (some a) → C
 none-some e = let z : _≡_ {A = ℕ} 0 1 = cc in absurd (omega arith)
 
 read-refused : {C : Type 0} {n number value : ℕ} → Read n ≡ Refused number value → C
 read-refused e = let z : _≡_ {A = ℕ} 0 1 = cc in absurd (omega arith)
-
--- The reply of a refusal.
-abbrev refusal : ℕ → ℕ → Reply
-refusal number value = record { number = number; values = value ∷ [] }
 
 other-number : {C : Type 0} {r : Reply} {n v : ℕ} → (r .number ≡ n → ⊥) → r ≡ refusal n v → C
 other-number d e = absurd (d (ap (λ (x : Reply). x .number) e))
@@ -80,10 +76,10 @@ given-named (enough l) number value h = read-refused h
 
 -- A book and a line that can be read.
 module _ (book line : Bytes) (B : Book) (words : Words) (r : Readable book line B words) where
-  abbrev types : ℕ
+  abbrev pub types : ℕ
   types = length (B .names)
 
-  abbrev firstOf : Option Answer
+  abbrev pub firstOf : Option Answer
   firstOf = firstReading (below types (B .pairs)) (B .target) words
 
   declared : DeclaredPairs types (B .pairs)
@@ -103,7 +99,7 @@ module _ (book line : Bytes) (B : Book) (words : Words) (r : Readable book line 
   of-first : {entries partners : List ℕ} → IsFirst (OrderOf B) (B .target) words entries partners → firstOf ≡ some (entries, partners)
   of-first f = first-reading-unique decides (B .target) ascending f
 
-  is-first : (a : Answer) → firstOf ≡ some a → IsFirst (OrderOf B) (B .target) words (a .0) (a .1)
+  pub is-first : (a : Answer) → firstOf ≡ some a → IsFirst (OrderOf B) (B .target) words (a .0) (a .1)
   is-first a e = first-reading-some decides (B .target) ascending e
 
   first-none : firstOf ≡ none → (entries partners : List ℕ) → IsReading (OrderOf B) (B .target) words entries partners → ⊥
@@ -199,7 +195,7 @@ module _ (book line : Bytes) (buffer : List ℕ) where
 
   given-read : (B : Book) (words : Words) (r : Readable book line B words) → Given buffer (firstOf book line B words r) (outcome book line buffer .answer) (outcome book line buffer .buffer)
   given-read B words r =
-      subst (λ (x : Outcome). Given buffer (firstOf book line B words r) (x .answer) (x .buffer)) (sym (outcome-read book line B words r buffer))
+      subst (λ (x : Outcome LineAnswer). Given buffer (firstOf book line B words r) (x .answer) (x .buffer)) (sym (outcome-read book line B words r buffer))
       (given-is buffer (firstOf book line B words r))
 
   pub refusals-within : (number value : ℕ) → outcome book line buffer .answer ≡ Refused number value → (0 < number) × (number ≤ bufferTooShort)

@@ -18,6 +18,7 @@ use Rattle.line.specs.LineWords.{wordsFrom}
 use Rattle.line.specs.Capitals.{small, sameWord, DifferInCase, same-rest, same-record, respelt}
 use Rattle.line.specs.LineFaults.{entriesFrom, byteFault, wordFault, entryFault, simplesIn, simplesOfWords, lineCheck}
 use Rattle.reader.specs.Outcome.{Outcome, given, readAgainst, readParsed, outcome}
+use Rattle.reader.specs.declared.LineAnswer.{LineAnswer}
 use Rattle.reader.specs.declared.LineAnswer.the-variants.{Refused}
 use Rattle.reader.proofs.Table.{lineOf, lent, expected}
 use Rattle.reader.proofs.Capitals.{same-books-outcome}
@@ -73,10 +74,10 @@ abbrev signs : Bytes
 signs = join (types ++ (targetRecord 0 ∷ entryRecord (91 ∷ []) (0 ∷ 0 ∷ []) ∷ entryRecord (96 ∷ []) (0 ∷ 0 ∷ []) ∷ []))
 
 -- "{" and "@" are other words than these: 13 at the line's start.
-abbrev unknown : Outcome
+abbrev unknown : Outcome LineAnswer
 unknown = record { answer = Refused unknownWord 0; buffer = lent }
 
-abbrev outcomes : Bytes → List (List Bytes) → List Outcome
+abbrev outcomes : Bytes → List (List Bytes) → List (Outcome LineAnswer)
 outcomes book lines = map (λ (words : List Bytes). outcome book (lineOf words) lent) lines
 
 pub spelt-lines :

@@ -17,6 +17,7 @@ use Rattle.line.specs.LineWords.{wordsFrom}
 use Rattle.line.specs.Capitals.{small, sameWord}
 use Rattle.line.specs.LineFaults.{entriesFrom, byteFault, wordFault, entryFault, simplesIn, simplesOfWords, lineCheck}
 use Rattle.reader.specs.Outcome.{Outcome, valuesOf, given, readAgainst, readParsed, outcome}
+use Rattle.reader.specs.declared.LineAnswer.{LineAnswer}
 use Rattle.reader.specs.declared.LineAnswer.the-variants.{Read, Refused}
 
 -- The words of document 000, example 4.3.
@@ -91,7 +92,7 @@ cases =
 abbrev pub lent : List ℕ
 lent = replicate 20 7
 
-abbrev pub expected : Option Answer → Outcome
+abbrev pub expected : Option Answer → Outcome LineAnswer
 expected none = record { answer = Refused noReading 0; buffer = lent }
 expected (some a) = record { answer = Read (length (valuesOf a)); buffer = valuesOf a ++ drop (length (valuesOf a)) lent }
 

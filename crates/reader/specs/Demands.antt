@@ -5,7 +5,7 @@ use mathlib.Core.Path.{_≡_}
 use mathlib.Core.Logic.{_↔_, _⊎_}
 use mathlib.Core.List.{List, [], _∷_, _++_}
 use lib.ListN.{length, drop}
-use Rattle.figures.specs.Refusals.{noReading, bufferTooShort}
+use Rattle.figures.specs.Refusals.{refusal, noReading, bufferTooShort}
 use Rattle.pregroup.specs.Types.{PregroupType, plain}
 use Rattle.pregroup.specs.Order.{Relation}
 use Rattle.pregroup.specs.Steps.{Chain}
@@ -60,7 +60,7 @@ pub record Promised (book line : Bytes) (buffer : List ℕ) (answer : LineAnswer
       → (lineReply answer after .number ≡ 0) ⊎ ((v : ℕ) × TooShort B words buffer v)
   -- 16 with v, exactly when the first reading takes v values and fewer are lent.
   pub short : (B : Book) (words : Words) → Readable book line B words → (v : ℕ)
-      → (lineReply answer after ≡ record { number = bufferTooShort; values = v ∷ [] }) ↔ TooShort B words buffer v
+      → (lineReply answer after ≡ refusal bufferTooShort v) ↔ TooShort B words buffer v
   -- 15 with 0, exactly when no choice of entries can be turned into the target by a chain.
   pub unread : (B : Book) (words : Words) → Readable book line B words
-      → (lineReply answer after ≡ record { number = noReading; values = 0 ∷ [] }) ↔ NoChain B words
+      → (lineReply answer after ≡ refusal noReading 0) ↔ NoChain B words

@@ -7,7 +7,7 @@ use mathlib.Core.List.{List, [], _∷_, _++_}
 use mathlib.Core.Option.{Option, none, some}
 use lib.Dec.{ltb}
 use lib.ListN.{length, take, drop}
-use Rattle.figures.specs.Refusals.{Reply, noReading, bufferTooShort}
+use Rattle.figures.specs.Refusals.{Reply, refusal, noReading, bufferTooShort}
 use Rattle.order.specs.Closed.{below}
 use Rattle.book.specs.Format.{Bytes, Book, Parsed, accepted, refused, parse}
 use Rattle.linking.specs.Reading.{Answer, firstReading}
@@ -19,37 +19,41 @@ use Rattle.reader.specs.declared.LineAnswer.the-variants.{Read, Refused}
 -- value returned with it.
 abbrev pub lineReply : LineAnswer → List ℕ → Reply
 lineReply (Read n) buffer = record { number = 0; values = take n buffer }
-lineReply (Refused number value) buffer = record { number = number; values = value ∷ [] }
+lineReply (Refused number value) buffer = refusal number value
 
--- What is returned, and what the buffer holds then.
-pub record Outcome : Type 0 where
-  pub answer : LineAnswer
+-- What an entry that answers an A returns, and what the buffer holds then.
+pub record Outcome (A : Type 0) : Type 0 where
+  pub answer : A
   pub buffer : List ℕ
+
+-- The same of an outcome.
+abbrev pub outcomeReply : Outcome LineAnswer → Reply
+outcomeReply o = lineReply (o .answer) (o .buffer)
 
 -- An answer of n words and m simple types: n, the n entry numbers, m, the m partners.
 abbrev pub valuesOf : Answer → List ℕ
 valuesOf a = length (a .0) ∷ (a .0 ++ (length (a .1) ∷ a .1))
 
 -- 15: no reading. 16: answer buffer too short, with the values needed. Values behind an answer stay.
-unfoldable pub given : Option Answer → List ℕ → Outcome
+unfoldable pub given : Option Answer → List ℕ → Outcome LineAnswer
 given none buffer = record { answer = Refused noReading 0; buffer = buffer }
 given (some a) buffer =
     let values = valuesOf a in
     cond (ltb (length buffer) (length values)) (record { answer = Refused bufferTooShort (length values); buffer = buffer })
     (record { answer = Read (length values); buffer = values ++ drop (length values) buffer })
 
-unfoldable pub readAgainst : Book → LineCheck → List ℕ → Outcome
+unfoldable pub readAgainst : Book → LineCheck → List ℕ → Outcome LineAnswer
 readAgainst B (stopped number value) buffer = record { answer = Refused number value; buffer = buffer }
 readAgainst B (passed words) buffer = given (firstReading (below (length (B .names)) (B .pairs)) (B .target) words) buffer
 
-unfoldable pub readParsed : Parsed → Bytes → List ℕ → Outcome
+unfoldable pub readParsed : Parsed → Bytes → List ℕ → Outcome LineAnswer
 readParsed (refused number value) line buffer = record { answer = Refused number value; buffer = buffer }
 readParsed (accepted B) line buffer = readAgainst B (lineCheck B line) buffer
 
-abbrev pub outcome : Bytes → Bytes → List ℕ → Outcome
+abbrev pub outcome : Bytes → Bytes → List ℕ → Outcome LineAnswer
 outcome book line buffer = readParsed (parse book) line buffer
 
 -- This is returned, and the buffer holds that.
-pub record Gives (o : Outcome) (answer : LineAnswer) (after : List ℕ) : Type 0 where
+pub record Gives {A : Type 0} (o : Outcome A) (answer : A) (after : List ℕ) : Type 0 where
   pub returned : answer ≡ o .answer
   pub left : after ≡ o .buffer

@@ -9,7 +9,9 @@ use Rattle.pregroup.specs.Order.{Relation}
 use Rattle.pregroup.specs.Tests.{Test, Decides}
 use Rattle.pregroup.specs.Held.{InRows}
 use Rattle.order.specs.Closed.{below}
-use Rattle.book.specs.Format.{Bytes, Book, accepted, parse}
+use Rattle.book.specs.Format.{Bytes, Book, accepted, refused, parse}
+use Rattle.book.specs.declared.Scan.{Scan}
+use Rattle.book.specs.declared.Scan.the-variants.{Accepted, Refused}
 use Rattle.linking.specs.Reading.{Words}
 use Rattle.line.specs.LookUp.{entriesKept}
 use Rattle.line.specs.Passing.{AllKnown, AllBrief}
@@ -28,6 +30,11 @@ pub record Open (bytes : Bytes) (offsets : List ℕ) (count : ℕ) (rows : List 
 -- Some book is open.
 abbrev pub IsOpen : Bytes → List ℕ → ℕ → List ℕ → ℕ → Type 0
 IsOpen bytes offsets count rows target = (B : Book) × Open bytes offsets count rows target B
+
+-- What opening a book comes to: it is open, or refused.
+abbrev pub OpeningSays : Bytes → List ℕ → List ℕ → Scan → Type 0
+OpeningSays bytes offsets rows (Accepted types count target) = IsOpen bytes offsets count rows target
+OpeningSays bytes offsets rows (Refused number value) = parse bytes ≡ refused number value
 
 -- The graph is that of these words, n of them, and the target; its edges go up, its lists have room, and the test decides the order.
 pub record Drawn (le : Test) (Le : Relation) (g : Graph) (numbers : List ℕ) (t : Basic) (n : ℕ) (words : Words) : Type 0 where

@@ -1,4 +1,4 @@
-// Reads a line against a book: the book is scanned and its order closed, the line split and its words looked up, the entries laid out as a
+// Reads a line against a book: the book is opened, the line split and its words looked up, the entries laid out as a
 // graph, its chart filled, the first choice found, and its first linking written. What reading any bytes comes to is defined in specs/Outcome, and
 // what is promised of it in specs/Demands.
 use answer::write_answer;
@@ -21,11 +21,10 @@ use line::CheckedLine;
 use line::lookup::check_line;
 ghost use Prim.Native.Nat.{_≤_};
 ghost use lib.ListN.{length};
-ghost use Rattle.figures.specs.Limits.{maxWords};
-ghost use Rattle.graph.specs.Lists.{Checked};
+ghost use Rattle.figures.specs.Limits.{maxEntries};
 ghost use Rattle.reader.specs.Outcome.{outcome, Gives};
 ghost use Rattle.reader.specs.Demands.{Promised};
-ghost use Rattle.reader.specs.Runs.{IsOpen};
+ghost use Rattle.reader.specs.Runs.{IsOpen, OpeningSays};
 
 // What reading a line answers. `Read`: the buffer holds the answer, and `values` of its values are the answer's. `Refused`: the number
 // of the refusal and the value returned with it; the buffer is as it was.
@@ -34,8 +33,39 @@ pub enum LineAnswer {
     Refused { number: u32, value: usize },
 }
 
-// Reads a line against a book whose entries and order are kept.
-fn read_open(
+// What opening a book gives beside the offsets of its entries: what its records come to, and its closed order. The rows of a refused book mean nothing.
+pub struct Opening {
+    pub scan: Scan,
+    pub rows: [u64; MAX_TYPES],
+}
+
+// Opens a book: its records are scanned, with the offsets of its entries kept in `entries`, and its order is closed.
+pub fn open_book(book: &[u8], entries: &mut [u16]) -> Opening
+    requires { ⌜ maxEntries ≤ length (now entries) ⌝ }
+    ensures { λ r. ⌜ OpeningSays (now (book .entry)) (now (entries .exit)) (r .rows) (r .scan) ⌝ }
+{
+    let mut names = [0u16; MAX_TYPES];
+    let mut direct = [0u64; MAX_TYPES];
+    let scan = scan_book(book, &mut names, entries, &mut direct);
+    match scan {
+        Scan::Refused {
+            number: _,
+            value: _,
+        } => Opening { scan, rows: direct },
+        Scan::Accepted {
+            types,
+            entries: _,
+            target: _,
+        } => {
+            let order = order::close(&direct, types);
+            let rows = order.rows;
+            Opening { scan, rows }
+        }
+    }
+}
+
+// Reads a line against an open book.
+pub fn read_open(
     book: &[u8],
     offsets: &[u16],
     count: usize,
@@ -140,20 +170,16 @@ pub fn read_line(book: &[u8], line: &[u8], answer: &mut [u16]) -> LineAnswer
     ensures { λ r. ⌜ Gives (outcome (now (book .entry)) (now (line .entry)) (now (answer .entry))) r (now (answer .exit)) ⌝ }
     ensures { λ r. ⌜ Promised (now (book .entry)) (now (line .entry)) (now (answer .entry)) r (now (answer .exit)) ⌝ }
 {
-    let mut names = [0u16; MAX_TYPES];
     let mut entries = [0u16; MAX_ENTRIES];
-    let mut direct = [0u64; MAX_TYPES];
-    let scan = scan_book(book, &mut names, &mut entries, &mut direct);
+    let opening = open_book(book, &mut entries);
+    let rows = opening.rows;
+    let scan = opening.scan;
     match scan {
         Scan::Refused { number, value } => LineAnswer::Refused { number, value },
         Scan::Accepted {
-            types,
+            types: _,
             entries: count,
             target,
-        } => {
-            let order = order::close(&direct, types);
-            let rows = order.rows;
-            read_open(book, &entries, count, &rows, target, line, answer)
-        }
+        } => read_open(book, &entries, count, &rows, target, line, answer),
     }
 }
