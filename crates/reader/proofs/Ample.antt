@@ -1,6 +1,6 @@
 -- `maxValues` values hold any answer: where so many are lent 16 never comes back, and more change nothing but what stands behind the answer. So what a
 -- line gets there is a reply of its own (`ampleReply`), in which no buffer occurs.
-use Prim.Native.Nat.{ℕ, _+_, _≤_}
+use Prim.Native.Nat.{ℕ, _+_, _≤_, _<_}
 use native.Mathlib.Omega.{arith}
 use mathlib.Core.Path.{_≡_, refl, ap, _∙_}
 use mathlib.Core.List.{List}
@@ -8,7 +8,7 @@ use mathlib.Core.Option.{Option, none, some}
 use lib.ListN.{length, drop, length-map}
 use lib.Seq.{take-append-seam}
 use Rattle.figures.specs.Limits.{maxValues}
-use Rattle.figures.specs.Refusals.{Reply, refusal, noReading}
+use Rattle.figures.specs.Refusals.{Reply, refusal, noReading, bufferTooShort}
 use Rattle.order.specs.Closed.{below}
 use Rattle.book.specs.Format.{Bytes, Book, Parsed, accepted, refused, parse}
 use Rattle.book.proofs.Accepted.{accepted-declares}
@@ -21,6 +21,7 @@ use Rattle.line.proofs.Offsets.{stopped-within}
 use Rattle.reader.specs.declared.LineAnswer.{LineAnswer}
 use Rattle.reader.specs.Outcome.{outcomeReply, lineReply, valuesOf, readAgainst, readParsed, outcome}
 use Rattle.reader.specs.Demands.{OrderOf, Readable}
+use Rattle.reader.proofs.Refusals.{NamedParse, parse-named, NamedLine, line-named}
 use Rattle.reader.proofs.Promises.{Given, no-answer, too-short, enough, given-is, values-count, is-first, firstOf}
 
 -- A reading of a line that breaks nothing takes at most so many values.
@@ -47,11 +48,16 @@ abbrev pub ampleReply : Parsed → Bytes → Reply
 ampleReply (refused number value) line = refusal number value
 ampleReply (accepted B) line = checkedReply B (lineCheck B line)
 
--- A reply where any answer fits: the book's refusal, the line's with a value within the line, or an answer that is not too long.
+-- A reply where any answer fits: the book's refusal, the line's with a value within the line, or an answer that is not too long. None is 16.
 pub data Ample (book line : Bytes) : Reply → Type 0 where
-  of-book : {number value : ℕ} → parse book ≡ refused number value → Ample book line (refusal number value)
-  of-line : {number value : ℕ} → value ≤ length line → Ample book line (refusal number value)
+  of-book : {number value : ℕ} → parse book ≡ refused number value → number < bufferTooShort → Ample book line (refusal number value)
+  of-line : {number value : ℕ} → value ≤ length line → number < bufferTooShort → Ample book line (refusal number value)
   of-reading : {values : List ℕ} → length values ≤ maxValues → Ample book line (record { number = 0; values = values })
+
+pub below-short : {book line : Bytes} {reply : Reply} → Ample book line reply → reply .number < bufferTooShort
+below-short (of-book e h) = h
+below-short (of-line h k) = k
+below-short (of-reading h) = omega arith
 
 module _ (book line : Bytes) where
   -- The first reading is not too long.
@@ -59,21 +65,21 @@ module _ (book line : Bytes) where
   first-within B words r a e = omega (arith, values-count a, reading-within r (is-first book line B words r a e .reading))
 
   read-ample : (o : Option Answer) → ((a : Answer) → o ≡ some a → length (valuesOf a) ≤ maxValues) → Ample book line (readReply o)
-  read-ample none h = of-line {value = 0} (omega arith)
+  read-ample none h = of-line {number = noReading} {value = 0} (omega arith) (omega arith)
   read-ample (some a) h = of-reading (h a refl)
 
-  line-ample : (B : Book) → parse book ≡ accepted B → (c : LineCheck) → lineCheck B line ≡ c → Ample book line (checkedReply B c)
-  line-ample B e (stopped number value) l = of-line (stopped-within B line l)
-  line-ample B e (passed words) l =
+  line-ample : (B : Book) → parse book ≡ accepted B → (c : LineCheck) → lineCheck B line ≡ c → NamedLine c → Ample book line (checkedReply B c)
+  line-ample B e (stopped number value) l named = of-line {number = number} (stopped-within B line l) (omega arith)
+  line-ample B e (passed words) l named =
       let r : Readable book line B words = record { book-accepted = e; line-passed = l } in
       read-ample (firstOf book line B words r) (first-within B words r)
 
-  book-ample : (p : Parsed) → parse book ≡ p → Ample book line (ampleReply p line)
-  book-ample (refused number value) e = of-book e
-  book-ample (accepted B) e = line-ample B e (lineCheck B line) refl
+  book-ample : (p : Parsed) → parse book ≡ p → NamedParse p → Ample book line (ampleReply p line)
+  book-ample (refused number value) e named = of-book {number = number} e (omega arith)
+  book-ample (accepted B) e named = line-ample B e (lineCheck B line) refl (line-named B line)
 
   pub ample : Ample book line (ampleReply (parse book) line)
-  ample = book-ample (parse book) refl
+  ample = book-ample (parse book) refl (parse-named book)
 
   module _ (lent : List ℕ) (enough-lent : maxValues ≤ length lent) where
     given-reply : {o : Option Answer} {answer : LineAnswer} {after : List ℕ} → Given lent o answer after → ((a : Answer) → o ≡ some a → length (valuesOf a) ≤ maxValues)
@@ -97,3 +103,7 @@ module _ (book line : Bytes) where
     -- What is lent beyond that changes nothing.
     pub ample-reply : outcomeReply (outcome book line lent) ≡ ampleReply (parse book) line
     ample-reply = book-reply (parse book) refl
+
+    -- 16 never comes back.
+    pub never-short : outcomeReply (outcome book line lent) .number < bufferTooShort
+    never-short = rw ample-reply (below-short ample)

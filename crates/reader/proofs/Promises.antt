@@ -62,10 +62,10 @@ none-some e = let z : _≡_ {A = ℕ} 0 1 = cc in absurd (omega arith)
 read-refused : {C : Type 0} {n number value : ℕ} → Read n ≡ Refused number value → C
 read-refused e = let z : _≡_ {A = ℕ} 0 1 = cc in absurd (omega arith)
 
-other-number : {C : Type 0} {r : Reply} {n v : ℕ} → (r .number ≡ n → ⊥) → r ≡ refusal n v → C
+pub other-number : {C : Type 0} {r : Reply} {n v : ℕ} → (r .number ≡ n → ⊥) → r ≡ refusal n v → C
 other-number d e = absurd (d (ap (λ (x : Reply). x .number) e))
 
-same-value : {n v w : ℕ} → refusal n v ≡ refusal n w → v ≡ w
+pub same-value : {n v w : ℕ} → refusal n v ≡ refusal n w → v ≡ w
 same-value e = ap (λ (x : Reply). getD (x .values) 0 0) e
 
 given-named : {buffer : List ℕ} {o : Option Answer} {answer : LineAnswer} {after : List ℕ} → Given buffer o answer after → (number value : ℕ) → answer ≡ Refused number value

@@ -1,0 +1,6 @@
+-- Theorems on what reading a batch comes to.
+pub mod LinesLaws
+pub mod PartLaws
+pub mod StoreLaws
+pub mod BatchPromises
+pub mod BatchLaws

@@ -1,0 +1,52 @@
+-- Document 02, 2.2, in one definition: what is returned of a batch, and what the buffer holds then, for any bytes as book, any bytes as batch and any
+-- lent buffer. 17 comes first, then the book, then the answers, then 18; a refusal leaves the buffer as it was.
+use Prim.Native.Nat.{ℕ, _+_}
+use mathlib.Core.Bool.{cond}
+use mathlib.Core.List.{List, [], _∷_, _++_}
+use mathlib.Core.Option.{Option, none, some}
+use lib.Dec.{ltb}
+use lib.ListN.{length, drop, replicate}
+use Rattle.figures.specs.Limits.{maxValues}
+use Rattle.figures.specs.Refusals.{Reply, refusal, badBatch, answersTooLong}
+use Rattle.book.specs.Format.{Bytes, Parsed, accepted, refused, parse}
+use Rattle.reader.specs.Outcome.{Outcome, outcomeReply, outcome}
+use Rattle.batch.specs.declared.BatchAnswer.{BatchAnswer}
+use Rattle.batch.specs.declared.BatchAnswer.the-variants.{Answered, Refused}
+use Rattle.batch.specs.Lines.{batchLines}
+
+-- The paper's number and values for each answer: 0 and the number of lines, or the number of the refusal and the value returned with it.
+abbrev pub batchReply : BatchAnswer → Reply
+batchReply (Answered lines) = record { number = 0; values = lines ∷ [] }
+batchReply (Refused number value) = refusal number value
+
+-- What a line alone gets where any answer fits.
+abbrev pub aloneReply : Bytes → Bytes → Reply
+aloneReply book line = outcomeReply (outcome book line (replicate maxValues 0))
+
+-- A line's part of the answers: a count of the values after it, the number of the refusal or 0, then the answer or the value returned.
+abbrev pub partOf : Reply → List ℕ
+partOf reply = (1 + length (reply .values)) ∷ reply .number ∷ reply .values
+
+-- The parts of all lines, one after another.
+unfoldable pub partsOf : Bytes → List Bytes → List ℕ
+partsOf book [] = []
+partsOf book (line ∷ lines) = partOf (aloneReply book line) ++ partsOf book lines
+
+-- 18: answers do not fit, with the values needed. Values behind the answers stay.
+unfoldable pub givenParts : List ℕ → ℕ → List ℕ → Outcome BatchAnswer
+givenParts values lines buffer =
+    cond (ltb (length buffer) (length values)) (record { answer = Refused answersTooLong (length values); buffer = buffer })
+    (record { answer = Answered lines; buffer = values ++ drop (length values) buffer })
+
+-- The book's refusals, 1 to 10.
+unfoldable pub readLines : Parsed → Bytes → List Bytes → List ℕ → Outcome BatchAnswer
+readLines (refused number value) book lines buffer = record { answer = Refused number value; buffer = buffer }
+readLines (accepted B) book lines buffer = givenParts (partsOf book lines) (length lines) buffer
+
+-- 17: more than 32 lines or 65,535 bytes, or a last line not closed.
+unfoldable pub readBatch : Option (List Bytes) → Bytes → List ℕ → Outcome BatchAnswer
+readBatch none book buffer = record { answer = Refused badBatch 0; buffer = buffer }
+readBatch (some lines) book buffer = readLines (parse book) book lines buffer
+
+abbrev pub batchOutcome : Bytes → Bytes → List ℕ → Outcome BatchAnswer
+batchOutcome book batch buffer = readBatch (batchLines batch) book buffer

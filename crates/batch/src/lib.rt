@@ -1,0 +1,67 @@
+// Reads a batch: up to 32 lines in one buffer, each closed by byte 10, against one book. The book is opened once, each line is read once, into a store
+// of this call's own, and the answers are copied to the lent buffer when it is known that they fit. What reading any bytes comes to is defined in
+// specs/Batch, and what is promised of it in specs/BatchDemands.
+use book::Scan;
+use figures::limits::MAX_ENTRIES;
+use figures::limits::MAX_PARTS;
+use figures::refusals::ANSWERS_TOO_LONG;
+use figures::refusals::BAD_BATCH;
+use reader::open_book;
+ghost use Rattle.reader.specs.Outcome.{Gives};
+ghost use Rattle.batch.specs.Batch.{batchOutcome};
+ghost use Rattle.batch.specs.BatchDemands.{BatchPromised};
+
+mod lines;
+mod parts;
+
+// What reading a batch answers. `Answered`: the buffer holds the answers of all lines, of which there are `lines`, refused ones included. `Refused`:
+// the number of the refusal and the value returned with it; the buffer is as it was.
+pub enum BatchAnswer {
+    Answered { lines: usize },
+    Refused { number: u32, value: usize },
+}
+
+// How many lines a batch has; or that it is none.
+pub enum LineCount {
+    Lines(usize),
+    Bad,
+}
+
+// Reads a batch of lines against a book: any bytes, of any length, and any lent buffer. Book and lines are not written to.
+pub fn read_batch(book: &[u8], lines: &[u8], answers: &mut [u16]) -> BatchAnswer
+    ensures { λ r. ⌜ Gives (batchOutcome (now (book .entry)) (now (lines .entry)) (now (answers .entry))) r (now (answers .exit)) ⌝ }
+    ensures { λ r. ⌜ BatchPromised (now (book .entry)) (now (lines .entry)) (now (answers .entry)) r (now (answers .exit)) ⌝ }
+{
+    let counted = lines::count_lines(lines);
+    let LineCount::Lines(number_of_lines) = counted else {
+        return BatchAnswer::Refused {
+            number: BAD_BATCH,
+            value: 0,
+        };
+    };
+    let mut entries = [0u16; MAX_ENTRIES];
+    let opening = open_book(book, &mut entries);
+    let rows = opening.rows;
+    let scan = opening.scan;
+    match scan {
+        Scan::Refused { number, value } => BatchAnswer::Refused { number, value },
+        Scan::Accepted {
+            types: _,
+            entries: count,
+            target,
+        } => {
+            let mut store = [0u16; MAX_PARTS];
+            let used = parts::read_parts(book, &entries, count, &rows, target, lines, &mut store);
+            if answers.len() < used {
+                return BatchAnswer::Refused {
+                    number: ANSWERS_TOO_LONG,
+                    value: used,
+                };
+            }
+            parts::copy_front(&store, used, answers);
+            BatchAnswer::Answered {
+                lines: number_of_lines,
+            }
+        }
+    }
+}

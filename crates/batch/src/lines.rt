@@ -1,0 +1,69 @@
+// The lines of a batch: how many there are, and where each ends.
+use crate::LineCount;
+use figures::limits::MAX_BATCH;
+use figures::limits::MAX_LINES;
+ghost use Prim.Native.Nat.{_≤_};
+ghost use mathlib.Core.Path.{_≡_};
+ghost use lib.ListN.{length};
+ghost use Rattle.batch.specs.Splits.{breaks, ClosedSays, LineEnd, CountSays};
+
+// The byte that closes a line.
+const LINE_BREAK: u8 = 10;
+
+// How many bytes close a line.
+fn count_breaks(batch: &[u8]) -> usize
+    ensures { λ r. ⌜ r ≡ breaks (now (batch .entry)) ⌝ }
+{
+    let mut count: usize = 0;
+    let mut i = 0;
+    while i < batch.len() {
+        if batch[i] == LINE_BREAK {
+            count += 1;
+        }
+        i += 1;
+    }
+    count
+}
+
+// Whether the last line is closed.
+fn is_closed(batch: &[u8]) -> bool
+    ensures { λ r. ⌜ ClosedSays (now (batch .entry)) r ⌝ }
+{
+    if batch.len() == 0 {
+        return true;
+    }
+    let last = batch.len() - 1;
+    batch[last] == LINE_BREAK
+}
+
+// How many lines a batch has, unless it has too many bytes or lines or one that is not closed.
+pub fn count_lines(batch: &[u8]) -> LineCount
+    ensures { λ r. ⌜ CountSays (now (batch .entry)) r ⌝ }
+{
+    if MAX_BATCH < batch.len() {
+        return LineCount::Bad;
+    }
+    if !is_closed(batch) {
+        return LineCount::Bad;
+    }
+    let count = count_breaks(batch);
+    if MAX_LINES < count {
+        return LineCount::Bad;
+    }
+    LineCount::Lines(count)
+}
+
+// Where the line that starts at a place is closed; the batch's length, where it is not.
+pub fn end_of_line(batch: &[u8], at: usize) -> usize
+    requires { ⌜ at ≤ length (now batch) ⌝ }
+    ensures { λ r. ⌜ LineEnd (now (batch .entry)) at r ⌝ }
+{
+    let mut i = at;
+    while i < batch.len() {
+        if batch[i] == LINE_BREAK {
+            return i;
+        }
+        i += 1;
+    }
+    i
+}
