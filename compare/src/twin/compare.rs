@@ -12,16 +12,22 @@ pub fn same(a: &[u8], b: &[u8]) -> bool {
     same_long(a, b)
 }
 
-/// The same for two lists of one length, at least eight: eight bytes at a time, and at the end the last eight.
+/// The same for two lists of one length, at least eight: the first eight that are not equal tell, or the last eight.
 #[inline]
 fn same_long(a: &[u8], b: &[u8]) -> bool {
+    let at = first_other(a, b);
+    eight_bytes(a, at) == eight_bytes(b, at)
+}
+
+/// Where the first eight bytes stand that are not equal, of those one behind another and the last eight; the place of the last eight if
+/// none of those before is.
+#[inline]
+pub fn first_other(a: &[u8], b: &[u8]) -> usize {
     let last = a.len() - 8;
-    for i in (0..last).step_by(8) {
-        if eight_bytes(a, i) != eight_bytes(b, i) {
-            return false;
-        }
-    }
-    eight_bytes(a, last) == eight_bytes(b, last)
+    (0..last)
+        .step_by(8)
+        .find(|&i| eight_bytes(a, i) != eight_bytes(b, i))
+        .unwrap_or(last)
 }
 
 /// Eight bytes as one little-endian number.

@@ -1,6 +1,6 @@
 //! Words compared where they stand, capitals as small letters. Most words differ in more than case, and eight bytes as one number tell so;
 //! what may differ in case alone is compared in small letters, eight bytes at a time too.
-use super::compare::eight_bytes;
+use super::compare::{eight_bytes, first_other};
 
 /// The bit by which a capital and its small letter differ, and the same in each of eight bytes.
 const CASE_BIT: u8 = 0x20;
@@ -37,17 +37,6 @@ fn same_long(a: &[u8], b: &[u8]) -> bool {
         return false;
     }
     same_eights(a, b, at)
-}
-
-/// Where the first eight bytes stand that are not equal, of those one behind another and the last eight; the place of the last eight if
-/// none of those before is.
-#[inline]
-fn first_other(a: &[u8], b: &[u8]) -> usize {
-    let last = a.len() - 8;
-    (0..last)
-        .step_by(8)
-        .find(|&i| eight_bytes(a, i) != eight_bytes(b, i))
-        .unwrap_or(last)
 }
 
 /// Whether the letters from a place on are the same, eight at a time, and at the end the last eight.

@@ -1,5 +1,5 @@
 -- Comparing bytes by little-endian numbers: a number is joined from two shorter ones, equal numbers have equal bytes, and lists of one
--- length that agree at every place are equal.
+-- length are told apart by the first eight bytes that differ.
 use Prim.Native.Nat.{ℕ, zero, suc, _+_, _*_, _^_, _≤_, _<_}
 use native.Mathlib.Nat.{add-zero, zero-add, suc-add, pow-zero, pow-succ', mul-assoc, mul-comm}
 use native.Mathlib.Omega.{arith}
@@ -13,7 +13,7 @@ use lib.Pow.{pow-add}
 use lib.Seq.{ext-getD}
 use borrow.Author.Tests.{eqb-true, eq-eqb}
 use Rattle.book.specs.Format.{Bytes}
-use Rattle.book.specs.Compare.{littleEndian, ReadsNumber}
+use Rattle.book.specs.Compare.{littleEndian, ReadsNumber, FirstOther}
 
 pub one-byte : {bytes : Bytes} {at r : ℕ} → r ≡ getD {A = ℕ} bytes at 0 → r < 256 → ReadsNumber 1 bytes at r
 unfolding littleEndian
@@ -86,22 +86,21 @@ pub tells-apart : (a b : Bytes) → (a ≡ b → ⊥) → Tells a b false
 tells-apart a b h = (λ e. absurd (false≢true e), λ e. absurd (h e))
 
 module _ {n i r s : ℕ} {a b : Bytes} (first : ReadsNumber n a i r) (second : ReadsNumber n b i s) where
-  pub equal-numbers : a ≡ b → r ≡ s
-  equal-numbers e = first .value ∙ ap (λ (l : Bytes). littleEndian n l i) e ∙ sym (second .value)
-
   pub equal-stretch : r ≡ s → (k : ℕ) → i ≤ k → k < i + n → getD {A = ℕ} a k 0 ≡ getD {A = ℕ} b k 0
   equal-stretch e = equal-bytes n a b i (first .byte) (second .byte) (sym (first .value) ∙ e ∙ second .value)
 
-  pub agree-more : (from : ℕ) → i ≤ from → Agree a b from → r ≡ s → Agree a b (i + n)
-  agree-more from h below e k l = go (decLt k from)
+  pub agree-more : Agree a b i → r ≡ s → Agree a b (i + n)
+  agree-more below e k l = go (decLt k i)
     where
-      go : Dec (k < from) → getD {A = ℕ} a k 0 ≡ getD {A = ℕ} b k 0
+      go : Dec (k < i) → getD {A = ℕ} a k 0 ≡ getD {A = ℕ} b k 0
       go (yes t) = below k t
       go (no t) = equal-stretch e k (omega (arith, t)) l
 
-  -- The last numbers of two lists decide, where the places below agree.
-  pub last-tells : (from : ℕ) → i ≤ from → Agree a b from → length a ≡ length b → length a ≡ i + n → Tells a b (eqb r s)
-  last-tells from h below e f = (
-    λ t. ext-getD 0 a b e (λ k l. agree-more from h below (eqb-true r s t) k (omega arith)),
-    λ t. eq-eqb r s (equal-numbers t),
-  )
+-- The first eight bytes that are not equal tell, or the last eight.
+pub first-other-tells : {i r s : ℕ} {a b : Bytes} → ReadsNumber 8 a i r → ReadsNumber 8 b i s → FirstOther a b i → length a ≡ length b → Tells a b (eqb r s)
+first-other-tells {i} {r} {s} {a} {b} first second f e = (
+  λ t. let same = eqb-true r s t in
+      let end = f .last (sym (first .value) ∙ same ∙ second .value) in
+      ext-getD 0 a b e (λ k l. agree-more first second (f .equal) same k (omega arith)),
+  λ t. eq-eqb r s (first .value ∙ ap (λ (l : Bytes). littleEndian 8 l i) t ∙ sym (second .value)),
+)

@@ -1,7 +1,7 @@
--- Numbers read off bytes: what `compare` looks at in the place of single bytes.
+-- What `compare` looks at in the place of single bytes: numbers read off them, and where two lists have the first eight that differ.
 use Prim.Native.Nat.{ℕ, zero, suc, _+_, _*_, _^_, _≤_, _<_}
 use mathlib.Core.Path.{_≡_}
-use lib.ListN.{getD}
+use lib.ListN.{length, getD}
 use Rattle.book.specs.Format.{Bytes}
 
 -- The little-endian number of the n bytes from an offset on.
@@ -14,3 +14,9 @@ pub record ReadsNumber (n : ℕ) (bytes : Bytes) (at r : ℕ) : Type 0 where
   pub value : r ≡ littleEndian n bytes at
   pub below : r < 256 ^ n
   pub byte : (k : ℕ) → at ≤ k → k < at + n → getD {A = ℕ} bytes k 0 < 256
+
+-- Two lists have the same bytes up to a place, and eight bytes from there on. These are the last eight, or they differ.
+pub record FirstOther (a b : Bytes) (at : ℕ) : Type 0 where
+  pub inside : at + 8 ≤ length a
+  pub equal : (k : ℕ) → k < at → getD {A = ℕ} a k 0 ≡ getD {A = ℕ} b k 0
+  pub last : littleEndian 8 a at ≡ littleEndian 8 b at → at + 8 ≡ length a

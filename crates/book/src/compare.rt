@@ -4,7 +4,7 @@ ghost use mathlib.Core.Path.{_≡_};
 ghost use mathlib.Core.Bool.{true};
 ghost use Prim.Native.Nat.{_+_, _≤_, _<_};
 ghost use lib.ListN.{length};
-ghost use Rattle.book.specs.Compare.{ReadsNumber};
+ghost use Rattle.book.specs.Compare.{ReadsNumber, FirstOther};
 
 // Whether a and b hold the same bytes.
 pub fn same(a: &[u8], b: &[u8]) -> bool
@@ -19,20 +19,30 @@ pub fn same(a: &[u8], b: &[u8]) -> bool
     same_long(a, b)
 }
 
-// The same for two lists of one length, at least eight: eight bytes at a time, and at the end the last eight.
+// The same for two lists of one length, at least eight: the first eight that are not equal tell, or the last eight.
 fn same_long(a: &[u8], b: &[u8]) -> bool
     requires { ⌜ (length (now a) ≡ length (now b)) × (8 ≤ length (now a)) ⌝ }
     ensures { λ r. ⌜ (r ≡ true → now (a .entry) ≡ now (b .entry)) × (now (a .entry) ≡ now (b .entry) → r ≡ true) ⌝ }
+{
+    let at = first_other(a, b);
+    eight_bytes(a, at) == eight_bytes(b, at)
+}
+
+// Where the first eight bytes stand that are not equal, of those one behind another and the last eight; the place of the last eight if none of
+// those before is.
+pub fn first_other(a: &[u8], b: &[u8]) -> usize
+    requires { ⌜ (length (now a) ≡ length (now b)) × (8 ≤ length (now a)) ⌝ }
+    ensures { λ r. ⌜ FirstOther (now (a .entry)) (now (b .entry)) r ⌝ }
 {
     let last = a.len() - 8;
     let mut i = 0;
     while i < last {
         if eight_bytes(a, i) != eight_bytes(b, i) {
-            return false;
+            return i;
         }
         i += 8;
     }
-    eight_bytes(a, last) == eight_bytes(b, last)
+    last
 }
 
 // Eight bytes as one little-endian number, joined from halves, these from halves again: the compiler makes one load of it.

@@ -9,7 +9,6 @@ use cases::buffer::Space;
 pub fn rows(buf: &mut Space) {
     let at = first_book(buf);
     table(buf, at);
-    short_buffers(buf, at);
     other_refusals(buf, at);
     let at = second_book(buf);
     answers(
@@ -19,8 +18,9 @@ pub fn rows(buf: &mut Space) {
     );
 }
 
-// The paper's table in capitals, and with small letters among them.
-fn table(buf: &Space, at: usize) {
+// The paper's table in capitals, and with small letters among them. 16 comes with the number that small letters give, and goes at the same
+// length.
+fn table(buf: &mut Space, at: usize) {
     answers(
         buf,
         at,
@@ -31,16 +31,12 @@ fn table(buf: &Space, at: usize) {
           go-Urgently-URGENTLY:go Urgently URGENTLY;PLEASE-go-urgentlY:PLEASE go urgentlY;aDMIT-wARD7:aDMIT wARD7;\
           Admit-Site:Admit Site;Go-gO:Go gO;FETCH-site:FETCH site;",
     );
-}
-
-// 16 comes with the number that small letters give, and goes at the same length.
-fn short_buffers(buf: &Space, at: usize) {
     against(buf, at, b"FETCH-BED4:FETCH BED4;", 6, Show::Buffer);
     against(buf, at, b"FETCH-BED4:FETCH BED4;", 7, Show::Buffer);
 }
 
 // Capitals with the highest bit set, and signs that are 32 less than G and O. Words of 32 and of 31 capitals, 25 and 24 words, and an unknown one.
-fn other_refusals(buf: &Space, at: usize) {
+fn other_refusals(buf: &mut Space, at: usize) {
     answers(
         buf,
         at,

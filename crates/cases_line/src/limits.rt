@@ -4,89 +4,49 @@ use crate::rows::against;
 use crate::rows::answers;
 use cases::buffer::ROOM;
 use cases::buffer::Space;
-use cases::items::put_items;
 
-// A line with a bad byte against books that are refused: one too long, one without a target, and one cut short. The buffer is all zeros at
-// first.
+// A line with a bad byte against books that are refused: one too long, one without a target, one cut short, and an empty one. The buffer is
+// all zeros at first.
 pub fn refused_books(buf: &mut Space) {
-    against(buf, ROOM, b"book-of-65536:\x7f;", 4, Show::Buffer);
-    let at = put_items(buf, 0, b"1 a");
-    against(buf, at, b"book-without-a-target:\x7f;", 4, Show::Buffer);
-    against(buf, 3, b"book-cut-short:\x7f;", 4, Show::Buffer);
-    against(buf, 0, b"empty-book-and-line:;", 4, Show::Buffer);
-}
-
-pub fn rows(buf: &mut Space) {
-    let at = limits_book(buf);
-    words(buf, at);
-    bytes(buf, at);
-    sums(buf, at);
-    faults(buf, at);
-    kept(buf, at);
+    against(
+        buf,
+        ROOM,
+        b"book-of-65536:\x7f;=1 a;book-without-a-target:\x7f;=3=;book-cut-short:\x7f;=;empty-book-and-line:;",
+        4,
+        Show::Buffer,
+    );
 }
 
 // Types o, x; target o. Entries: w has 0 o o^l, 1 o, and 2 to 4 of 12, 12 and 5 x, 32 simple types in all; 5 go o; 6 e, empty; 7 a word of 31
 // bytes, o; 8 ~ o; 9 ! o^r o.
-fn limits_book(buf: &mut Space) -> usize {
-    put_items(
+//
+// Lines of 24 words and more, and words of 31 and 32 bytes; spaces, bytes beside the bounds, and words that are not in the book; 16 w, which
+// have 512 simple types. Each number is tried over the whole line before the next, and the earliest place is returned. At the end, each refusal
+// leaves the buffer as it was; the line of 14 has no reading either.
+pub fn rows(buf: &mut Space) {
+    let at = answers(
         buf,
         0,
-        b"1 o,1 x,4 \x00,3 \x01w\x00\x00\x00\xff,3 \x01w\x00\x00,\
+        b"=1 o,1 x,4 \x00,3 \x01w\x00\x00\x00\xff,3 \x01w\x00\x00,\
           3 \x01w\x01\x00\x01\x00\x01\x00\x01\x00\x01\x00\x01\x00\x01\x00\x01\x00\x01\x00\x01\x00\x01\x00\x01\x00,\
           3 \x01w\x01\x00\x01\x00\x01\x00\x01\x00\x01\x00\x01\x00\x01\x00\x01\x00\x01\x00\x01\x00\x01\x00\x01\x00,\
           3 \x01w\x01\x00\x01\x00\x01\x00\x01\x00\x01\x00,3 \x02go\x00\x00,3 \x01e,\
-          3 \x1fabcdefghijklmnopqrstuvwxyz01234\x00\x00,3 \x01~\x00\x00,3 \x01!\x00\x01\x00\x00",
-    )
-}
-
-// 24 words and more, and words of 31 and 32 bytes.
-fn words(buf: &Space, at: usize) {
-    answers(
-        buf,
-        at,
-        b"words-24:go ! ! ! ! ! ! ! ! ! ! ! ! ! ! ! ! ! ! ! ! ! ! !;\
+          3 \x1fabcdefghijklmnopqrstuvwxyz01234\x00\x00,3 \x01~\x00\x00,3 \x01!\x00\x01\x00\x00;\
+          words-24:go ! ! ! ! ! ! ! ! ! ! ! ! ! ! ! ! ! ! ! ! ! ! !;\
           words-24-of-them-23-empty:e e e e e e e e e e e e e e e e e e e e e e e go;\
           words-25:e e e e e e e e e e e e e e e e e e e e e e e e go;\
           words-26-two-spaces:go  go  go  go  go  go  go  go  go  go  go  go  go  go  go  go  go  go  go  go  go  go  go  go  go  go;\
-          word-of-31:abcdefghijklmnopqrstuvwxyz01234;word-of-32-second:go 0abcdefghijklmnopqrstuvwxyz01234;",
-    );
-}
-
-// Spaces, bytes beside the bounds, and words that are not in the book.
-fn bytes(buf: &Space, at: usize) {
-    answers(
-        buf,
-        at,
-        b"spaces:   ;spaces-around:  ~   ! ;byte-31:go\x1fgo;byte-33-and-126:~ !;byte-127:go\x7f;byte-10:go\x0a;\
-          part-of-a-word:g;more-than-a-word:goo;unknown-after-spaces:  go  nobody;",
-    );
-}
-
-// 16 w have 512 simple types.
-fn sums(buf: &Space, at: usize) {
-    answers(
-        buf,
-        at,
-        b"simple-types-512:w w w w w w w w w w w w w w w w;simple-types-513:w w w w w w w w w w w w w w w w go;",
-    );
-}
-
-// Each number is tried over the whole line before the next, and the earliest place is returned.
-fn faults(buf: &Space, at: usize) {
-    answers(
-        buf,
-        at,
-        b"two-bad-bytes:go \x7f \x1f;\
+          word-of-31:abcdefghijklmnopqrstuvwxyz01234;word-of-32-second:go 0abcdefghijklmnopqrstuvwxyz01234;\
+          spaces:   ;spaces-around:  ~   ! ;byte-31:go\x1fgo;byte-33-and-126:~ !;byte-127:go\x7f;byte-10:go\x0a;\
+          part-of-a-word:g;more-than-a-word:goo;unknown-after-spaces:  go  nobody;\
+          simple-types-512:w w w w w w w w w w w w w w w w;simple-types-513:w w w w w w w w w w w w w w w w go;\
+          two-bad-bytes:go \x7f \x1f;\
           byte-behind-all:nobody 0abcdefghijklmnopqrstuvwxyz01234 w w w w w w w w w w w w w w w w w go go go go go go go \x7f;\
           long-word-behind-an-unknown:nobody 0abcdefghijklmnopqrstuvwxyz01234;\
           word-25-before-a-long-one:e e e e e e e e e e e e e e e e e e e e e e e e e 0abcdefghijklmnopqrstuvwxyz01234;\
           long-word-before-word-25:e e 0abcdefghijklmnopqrstuvwxyz01234 e e e e e e e e e e e e e e e e e e e e e e e e;\
           two-unknown:go nobody none;unknown-behind-544:w w w w w w w w w w w w w w w w w nobody;",
     );
-}
-
-// Each refusal leaves the buffer as it was. The line of 14 has no reading either.
-fn kept(buf: &Space, at: usize) {
     against(
         buf,
         at,

@@ -1,5 +1,7 @@
-// Lines read against a book, with a row for each. A list of cases is written as text: for each case its name, a colon, its line, and a
-// semicolon; no name and no line holds one of the two.
+// Lines read against books, with a row for each. A list of cases is written as text, in parts that end with a semicolon, which no part holds:
+//
+//     =ITEMS       the book of the cases behind it, as `cases::items` reads it
+//     NAME:LINE    a case: its name, which holds no colon, and its line
 use cases::buffer::Space;
 use cases::items::put_items;
 use cases::text::find;
@@ -107,41 +109,50 @@ fn row_of_case(book: &[u8], case: &[u8], lent: usize, show: Show) {
     row(book, &case[0..colon], &case[line..], lent, show);
 }
 
-// Writes the rows of the cases of a list.
-fn rows(book: &[u8], cases: &[u8], lent: usize, show: Show) {
+// Writes the row of a case against the book that the first bytes of a slice are.
+fn row_against(bytes: &[u8], length: usize, case: &[u8], lent: usize, show: Show) {
+    if length <= bytes.len() {
+        row_of_case(&bytes[0..length], case, lent, show);
+    }
+}
+
+// Puts the book that a part gives, or writes the row of its case. The length of the book is given.
+fn take_part(buf: &mut Space, length: usize, part: &[u8], lent: usize, show: Show) -> usize {
+    if part.len() == 0 {
+        return length;
+    }
+    if part[0] == b'=' {
+        return put_items(buf, 0, &part[1..]);
+    }
+    row_against(buf, length, part, lent, show);
+    length
+}
+
+// The rows of a list. Cases before its first book are read against that of the length that the buffer holds. The length of the last book is
+// given.
+pub fn against(buf: &mut Space, length: usize, cases: &[u8], lent: usize, show: Show) -> usize {
+    let mut book = length;
     let mut from = 0;
     let mut i = 0;
     while i < cases.len() {
         if cases[i] == b';' {
-            row_of_case(book, &cases[from..i], lent, show);
+            book = take_part(buf, book, &cases[from..i], lent, show);
             i += 1;
             from = i;
         } else {
             i += 1;
         }
     }
-}
-
-// The rows of a list against the book that the first bytes of a slice are.
-pub fn against(bytes: &[u8], length: usize, cases: &[u8], lent: usize, show: Show) {
-    if length <= bytes.len() {
-        rows(&bytes[0..length], cases, lent, show);
-    }
+    book
 }
 
 // The rows of a list with the answers, and with more values lent than any answer takes.
-pub fn answers(buf: &Space, length: usize, cases: &[u8]) {
-    against(buf, length, cases, VALUES, Show::Answer);
-}
-
-// The same, against a book that is written as items.
-pub fn answers_with(buf: &mut Space, items: &[u8], cases: &[u8]) {
-    let length = put_items(buf, 0, items);
-    answers(buf, length, cases);
+pub fn answers(buf: &mut Space, length: usize, cases: &[u8]) -> usize {
+    against(buf, length, cases, VALUES, Show::Answer)
 }
 
 // The rows of a list with the buffer, for each number of values lent, from 0 to the last.
-pub fn lending(buf: &Space, length: usize, cases: &[u8], last: usize) {
+pub fn lending(buf: &mut Space, length: usize, cases: &[u8], last: usize) {
     let mut lent = 0;
     while lent < last {
         against(buf, length, cases, lent, Show::Buffer);

@@ -4,7 +4,7 @@ use Prim.Native.Nat.{ℕ, _+_, _≤_, _<_}
 use native.Mathlib.Omega.{arith}
 use native.Mathlib.Decide.{decLe}
 use mathlib.Core.Path.{_≡_, refl, sym, ap, ap₂, _∙_}
-use mathlib.Core.Bool.{Bool, true, false, cond, not, false≢true}
+use mathlib.Core.Bool.{true, not, false≢true}
 use mathlib.Core.Logic.{_↔_, _⊎_, inl, inr}
 use mathlib.Core.List.{[], _∷_}
 use lib.Dec.{eqb}
@@ -15,23 +15,6 @@ use Rattle.book.proofs.Bools.{both, inside, outside}
 use Rattle.book.proofs.Names.{same-equal, equal-same}
 use Rattle.line.specs.Capitals.{isCapital, small, smallBytes, sameWord}
 
--- What a byte is with capitals made small.
-data Lowered (b : ℕ) : ℕ → Type 0 where
-  lowered : 65 ≤ b → b ≤ 90 → Lowered b (b + 32)
-  kept : (65 ≤ b → b ≤ 90 → ⊥) → Lowered b b
-
-lower : (b : ℕ) → Lowered b (small b)
-unfolding small
-lower b = go (decLe 65 b) (decLe b 90)
-  where
-    stays : (65 ≤ b → b ≤ 90 → ⊥) → Lowered b (small b)
-    stays h = rw (outside 65 90 b h) (kept h)
-
-    go : Dec (65 ≤ b) → Dec (b ≤ 90) → Lowered b (small b)
-    go (yes l) (yes h) = rw (inside 65 90 b (l, h)) (lowered l h)
-    go (no l) d = stays (λ k m. l k)
-    go (yes l) (no h) = stays (λ k m. h m)
-
 pub small-capital : (b : ℕ) → 65 ≤ b → b ≤ 90 → small b ≡ b + 32
 unfolding small
 small-capital b l h = rw (inside 65 90 b (l, h))
@@ -40,7 +23,23 @@ pub small-other : (b : ℕ) → (65 ≤ b → b ≤ 90 → ⊥) → small b ≡ 
 unfolding small
 small-other b h = rw (outside 65 90 b h)
 
-pub small-twice : (b : ℕ) → small (small b) ≡ small b
+-- What a byte is with capitals made small.
+data Lowered (b : ℕ) : ℕ → Type 0 where
+  lowered : 65 ≤ b → b ≤ 90 → Lowered b (b + 32)
+  kept : (65 ≤ b → b ≤ 90 → ⊥) → Lowered b b
+
+lower : (b : ℕ) → Lowered b (small b)
+lower b = go (decLe 65 b) (decLe b 90)
+  where
+    stays : (65 ≤ b → b ≤ 90 → ⊥) → Lowered b (small b)
+    stays h = rw (small-other b h) (kept h)
+
+    go : Dec (65 ≤ b) → Dec (b ≤ 90) → Lowered b (small b)
+    go (yes l) (yes h) = rw (small-capital b l h) (lowered l h)
+    go (no l) d = stays (λ k m. l k)
+    go (yes l) (no h) = stays (λ k m. h m)
+
+small-twice : (b : ℕ) → small (small b) ≡ small b
 small-twice b = go (lower b)
   where
     go : {n : ℕ} → Lowered b n → small n ≡ n
@@ -133,15 +132,13 @@ abbrev pub NoCapital : Bytes → Type 0
 NoCapital a = every (λ (b : ℕ). not (isCapital b)) a ≡ true
 
 small-already : (a : Bytes) → NoCapital a → smallBytes a ≡ a
-unfolding every small
+unfolding every
 small-already [] h = refl
 small-already (x ∷ xs) h =
     let t = both (not (isCapital x)) (every (λ (b : ℕ). not (isCapital b)) xs) h in
-    ap₂ (λ (b : ℕ) (bs : Bytes). b ∷ bs) (go (isCapital x) (t .0)) (small-already xs (t .1))
-  where
-    go : (t : Bool) → not t ≡ true → cond t (x + 32) x ≡ x
-    go true e = absurd (false≢true e)
-    go false e = refl
+    ap₂ (λ (b : ℕ) (bs : Bytes). b ∷ bs)
+    (small-other x (λ l m. false≢true (ap not (sym (inside 65 90 x (l, m))) ∙ t .0)))
+    (small-already xs (t .1))
 
 -- Where neither word has a capital, only equal bytes are the same word.
 pub same-without-capitals : (a b : Bytes) → NoCapital a → NoCapital b → sameWord a b ≡ true → a ≡ b

@@ -10,11 +10,11 @@ use lib.Bits.{bitOr, or-block}
 use lib.ListN.{length, getD, length-map, List·getD-map}
 use lib.Seq.{ext-getD}
 use Rattle.book.specs.Format.{Bytes}
-use Rattle.book.specs.Compare.{littleEndian, ReadsNumber}
+use Rattle.book.specs.Compare.{littleEndian, ReadsNumber, FirstOther}
 use Rattle.book.proofs.Comparing.{Bytewise, equal-stretch, same-number}
 use Rattle.book.proofs.Names.{same-test}
 use Rattle.line.specs.Capitals.{small, smallBytes, sameWord}
-use Rattle.line.specs.Letters.{SameLetters, smallNumber, FirstOther}
+use Rattle.line.specs.Letters.{SameLetters, smallNumber}
 use Rattle.line.proofs.CapitalLaws.{CapitalOf, alike-exactly, small-below, same-length}
 use Rattle.line.proofs.EightLaws.{each, number-below}
 

@@ -1,29 +1,20 @@
--- Two books that differ only in the case of their entries' words: both are refused alike, or both are accepted and hold the same but for
--- that case, and then every line is checked alike.
+-- Two books that differ only in the case of their entries' words: both are refused alike, or both are accepted and hold the same but for that case.
 use Prim.Native.Nat.{ℕ, zero, suc, _+_}
 use native.Mathlib.Omega.{arith}
 use mathlib.Core.Path.{_≡_, refl, sym, ap, ap₂, subst, _∙_}
 use mathlib.Core.Bool.{Bool, true, false, cond, _||_}
-use mathlib.Core.List.{List, [], _∷_, _++_, map, map-append}
+use mathlib.Core.List.{List, [], _∷_, _++_, map-append}
 use lib.Dec.{eqb, ltb}
 use lib.ListN.{length, getD, drop, length-append, length-map}
 use Rattle.figures.specs.Limits.{maxBook}
 use Rattle.figures.specs.Refusals.{bookTooLong, cutShort, noTarget}
-use Rattle.linking.specs.Reading.{NumberedEntry, Words}
 use Rattle.book.specs.Format.{Bytes, Book, Entry, Draft, Parsed, accepted, refused, every, between, headLength, twoBytes, kindAt, bodyAt, nextAt, byKind, recordOf, entryBody, isEntry, entryOf, bodyRules, recordRules, firstBroken, add, nextRules, nextDraft, ended, recordsFrom, parse}
 use Rattle.book.proofs.RecordLaws.{size-first, kind-first, body-first, rest-first, size-at, kind-at, body-at, rest-at, word-part, type-part}
 use Rattle.line.specs.Capitals.{smallBytes, DifferInCase, same-rest, same-record, respelt}
-use Rattle.line.specs.LineWords.{Word, wordsOf}
-use Rattle.line.specs.LineFaults.{entriesFrom, entriesOf, entryFault, lineCheck}
-use Rattle.line.proofs.CapitalLaws.{small-every, same-exactly, same-length, small-bytes-twice, same-respelt}
+use Rattle.line.proofs.CapitalLaws.{small-every, same-exactly, same-length}
+use Rattle.line.proofs.SmallLines.{smallEntry, smallBook}
 
--- An entry, a book, and what a list of bytes is as a book, with the capitals of words made small.
-abbrev smallEntry : Entry → Entry
-smallEntry e = record { word = smallBytes (e .word); type = e .type }
-
-abbrev pub smallBook : Book → Book
-smallBook B = record { names = B .names; pairs = B .pairs; entries = map smallEntry (B .entries); target = B .target }
-
+-- What a list of bytes is as a book, with the capitals of words made small.
 abbrev pub smallParsed : Parsed → Parsed
 smallParsed (accepted B) = accepted (smallBook B)
 smallParsed (refused number value) = refused number value
@@ -194,26 +185,3 @@ parse-same a b r =
     go : (u : Bool) {p q : Parsed} → SameParsed p q → SameParsed (cond u (refused bookTooLong 0) p) (cond u (refused bookTooLong 0) q)
     go true s = record { small = refl }
     go false s = s
-
--- A word has the same entries in a book whose words have small letters ..
-entries-small : (n : ℕ) (entries : List Entry) (word : Bytes) → entriesFrom n (map smallEntry entries) word ≡ entriesFrom n entries word
-unfolding entriesFrom
-entries-small n [] word = refl
-entries-small n (e ∷ entries) word =
-    rw (same-respelt (smallBytes (e .word)) word (e .word) word (small-bytes-twice (e .word)) refl, entries-small (n + 1) entries word)
-
-module _ (B : Book) where
-  fault-small : (words : List Word) → entryFault (smallBook B) words ≡ entryFault B words
-  unfolding entryFault
-  fault-small [] = refl
-  fault-small (w ∷ words) = rw (entries-small 0 (B .entries) (w .bytes), fault-small words)
-
-  entries-of-small : (words : List Word) → map (entriesOf (smallBook B)) words ≡ map (entriesOf B) words
-  entries-of-small [] = refl
-  entries-of-small (w ∷ words) =
-      ap₂ (λ (es : List NumberedEntry) (rest : Words). es ∷ rest) (entries-small 0 (B .entries) (w .bytes)) (entries-of-small words)
-
-  -- .. and every line is checked alike.
-  pub book-small : (line : Bytes) → lineCheck (smallBook B) line ≡ lineCheck B line
-  unfolding lineCheck
-  book-small line = rw (fault-small (wordsOf line), entries-of-small (wordsOf line))

@@ -1,7 +1,7 @@
--- A line and the same line with its capitals made small: the same faults, and the same entries for each word.
+-- A line and a book with their capitals made small, either or both: the same faults, and the same entries for each word.
 use Prim.Native.Nat.{ℕ, _+_}
 use native.Mathlib.Omega.{arith}
-use mathlib.Core.Path.{_≡_, refl, ap₂}
+use mathlib.Core.Path.{_≡_, refl, sym, ap, ap₂, _∙_}
 use mathlib.Core.Bool.{Bool, true, false, cond}
 use mathlib.Core.List.{List, [], _∷_, map}
 use lib.Dec.{eqb}
@@ -12,6 +12,13 @@ use Rattle.line.specs.Capitals.{small, smallBytes}
 use Rattle.line.specs.LineWords.{Word, putBefore, wordsFrom, wordsOf}
 use Rattle.line.specs.LineFaults.{entriesFrom, entriesOf, byteFault, wordFault, entryFault, lineCheck}
 use Rattle.line.proofs.CapitalLaws.{small-space, small-between, small-bytes-twice, same-respelt}
+
+-- An entry, a book and a word of a line with capitals made small.
+abbrev pub smallEntry : Entry → Entry
+smallEntry e = record { word = smallBytes (e .word); type = e .type }
+
+abbrev pub smallBook : Book → Book
+smallBook B = record { names = B .names; pairs = B .pairs; entries = map smallEntry (B .entries); target = B .target }
 
 abbrev smallWord : Word → Word
 smallWord w = record { at = w .at; bytes = smallBytes (w .bytes) }
@@ -45,28 +52,35 @@ unfolding wordFault
 word-fault-small n [] = refl
 word-fault-small n (w ∷ words) = rw (length-map (w .bytes) small, word-fault-small (n + 1) words)
 
--- A word has the same entries however it is spelt ..
-pub entries-respelt : (n : ℕ) (entries : List Entry) (v w : Bytes) → smallBytes v ≡ smallBytes w → entriesFrom n entries v ≡ entriesFrom n entries w
+-- A word has the same entries however it is spelt, and also where the book's words have small letters ..
+pub entries-respelt : (n : ℕ) (entries : List Entry) (v w : Bytes) → smallBytes v ≡ smallBytes w → entriesFrom n (map smallEntry entries) v ≡ entriesFrom n entries w
 unfolding entriesFrom
 entries-respelt n [] v w h = refl
-entries-respelt n (e ∷ entries) v w h = rw (same-respelt (e .word) v (e .word) w refl h, entries-respelt (n + 1) entries v w h)
+entries-respelt n (e ∷ entries) v w h = rw (same-respelt (smallBytes (e .word)) v (e .word) w (small-bytes-twice (e .word)) h, entries-respelt (n + 1) entries v w h)
 
 module _ (B : Book) where
-  entries-small : (w : Word) → entriesOf B (smallWord w) ≡ entriesOf B w
+  entries-small : (w : Word) → entriesOf (smallBook B) (smallWord w) ≡ entriesOf B w
   entries-small w = entries-respelt 0 (B .entries) (smallBytes (w .bytes)) (w .bytes) (small-bytes-twice (w .bytes))
 
-  entry-fault-small : (words : List Word) → entryFault B (map smallWord words) ≡ entryFault B words
+  entry-fault-small : (words : List Word) → entryFault (smallBook B) (map smallWord words) ≡ entryFault B words
   unfolding entryFault
   entry-fault-small [] = refl
   entry-fault-small (w ∷ words) = rw (entries-small w, entry-fault-small words)
 
-  entries-of-small : (words : List Word) → map (entriesOf B) (map smallWord words) ≡ map (entriesOf B) words
+  entries-of-small : (words : List Word) → map (entriesOf (smallBook B)) (map smallWord words) ≡ map (entriesOf B) words
   entries-of-small [] = refl
   entries-of-small (w ∷ words) =
       ap₂ (λ (es : List NumberedEntry) (rest : Words). es ∷ rest) (entries-small w) (entries-of-small words)
 
-  -- .. and the check of the line comes to the same.
-  pub line-small : (line : Bytes) → lineCheck B (smallBytes line) ≡ lineCheck B line
+  -- .. and the check of the line comes to the same, with small letters in both ..
+  both-small : (line : Bytes) → lineCheck (smallBook B) (smallBytes line) ≡ lineCheck B line
   unfolding lineCheck
-  line-small line =
+  both-small line =
       rw (words-small 0 line, byte-fault-small 0 line, word-fault-small 0 (wordsOf line), entry-fault-small (wordsOf line), entries-of-small (wordsOf line))
+
+-- .. and so in the line alone, or in the book alone.
+pub line-small : (B : Book) (line : Bytes) → lineCheck B (smallBytes line) ≡ lineCheck B line
+line-small B line = sym (both-small B (smallBytes line)) ∙ ap (lineCheck (smallBook B)) (small-bytes-twice line) ∙ both-small B line
+
+pub book-small : (B : Book) (line : Bytes) → lineCheck (smallBook B) line ≡ lineCheck B line
+book-small B line = sym (line-small (smallBook B) line) ∙ both-small B line

@@ -1,9 +1,8 @@
--- What the comparison of two words looks at: a stretch of places at which both have the same letters.
+-- What the comparison of two words looks at: a stretch of places at which both have the same letters, and a number in small letters.
 use Prim.Native.Nat.{ℕ, zero, suc, _+_, _*_, _/_, _%_, _≤_, _<_}
 use mathlib.Core.Path.{_≡_}
-use lib.ListN.{length, getD}
+use lib.ListN.{getD}
 use Rattle.book.specs.Format.{Bytes}
-use Rattle.book.specs.Compare.{littleEndian}
 use Rattle.line.specs.Capitals.{small}
 
 -- From a place up to another, the bytes of two words are equal with capitals made small.
@@ -14,9 +13,3 @@ pub record SameLetters (a b : Bytes) (from to : ℕ) : Type 0 where
 unfoldable pub smallNumber : ℕ → ℕ → ℕ
 smallNumber zero x = 0
 smallNumber (suc n) x = small (x % 256) + 256 * smallNumber n (x / 256)
-
--- Two words have the same bytes up to a place, and eight bytes from there on. These are the last eight, or they differ.
-pub record FirstOther (a b : Bytes) (at : ℕ) : Type 0 where
-  pub inside : at + 8 ≤ length a
-  pub equal : (k : ℕ) → k < at → getD {A = ℕ} a k 0 ≡ getD {A = ℕ} b k 0
-  pub last : littleEndian 8 a at ≡ littleEndian 8 b at → at + 8 ≡ length a

@@ -1,13 +1,14 @@
 // Words compared where they stand, capitals as small letters. Most words differ in more than case, and eight bytes as one number tell so;
 // what may differ in case alone is compared in small letters, eight bytes at a time too.
 use book::compare::eight_bytes;
+use book::compare::first_other;
 ghost use mathlib.Core.Path.{_≡_};
 ghost use mathlib.Core.Bool.{true};
 ghost use mathlib.Core.Logic.{_↔_};
 ghost use Prim.Native.Nat.{_+_, _≤_};
 ghost use lib.ListN.{length};
 ghost use Rattle.line.specs.Capitals.{small, sameWord};
-ghost use Rattle.line.specs.Letters.{SameLetters, FirstOther, smallNumber};
+ghost use Rattle.line.specs.Letters.{SameLetters, smallNumber};
 
 // The bit by which a capital and its small letter differ, and the same in each of eight bytes.
 const CASE_BIT: u8 = 0x20;
@@ -51,23 +52,6 @@ fn same_long(a: &[u8], b: &[u8]) -> bool
         return false;
     }
     same_eights(a, b, at)
-}
-
-// Where the first eight bytes stand that are not equal, of those one behind another and the last eight; the place of the last eight if none of
-// those before is.
-fn first_other(a: &[u8], b: &[u8]) -> usize
-    requires { ⌜ (length (now a) ≡ length (now b)) × (8 ≤ length (now a)) ⌝ }
-    ensures { λ r. ⌜ FirstOther (now (a .entry)) (now (b .entry)) r ⌝ }
-{
-    let last = a.len() - 8;
-    let mut i = 0;
-    while i < last {
-        if eight_bytes(a, i) != eight_bytes(b, i) {
-            return i;
-        }
-        i += 8;
-    }
-    last
 }
 
 // Whether the letters from a place on are the same, eight at a time, and at the end the last eight.

@@ -5,8 +5,8 @@ use mathlib.Core.List.{List}
 use Rattle.book.specs.Format.{Bytes, Book, Parsed, accepted, refused, parse}
 use Rattle.line.specs.Capitals.{smallBytes, DifferInCase}
 use Rattle.line.specs.LineFaults.{LineCheck, passed, stopped, lineCheck}
-use Rattle.line.proofs.SmallLines.{line-small}
-use Rattle.line.proofs.SmallBooks.{smallBook, smallParsed, parse-same, book-small}
+use Rattle.line.proofs.SmallLines.{smallBook, line-small, book-small}
+use Rattle.line.proofs.SmallBooks.{smallParsed, parse-same}
 use Rattle.reader.specs.Outcome.{readAgainst, readParsed, outcome}
 
 module _ (line : Bytes) (buffer : List ℕ) where

@@ -5,10 +5,10 @@ use Rattle.cases_line.proofs.rows.lending.Statement.{statement}
 use Rattle.cases_line.proofs.rows.lending.Tie as tie
 
 abbrev Inv-loop : tie.InvT-loop
-Inv-loop buf length cases last lent₀ lent = lent ≤ last
+Inv-loop buf₀ length cases last lent₀ buf lent = lent ≤ last
 
 abbrev μ-loop : tie.MeasureT-loop
-μ-loop buf length cases last lent₀ lent = last - lent
+μ-loop buf₀ length cases last lent₀ buf lent = last - lent
 
 loop-holds : tie.Need-loop-holds Inv-loop μ-loop
 loop-holds c = omega arith

@@ -1,11 +1,11 @@
--- `line::letters::first_other` meets its contract: the words agree at every place passed.
+-- `book::compare::first_other` meets its contract: the lists agree at every place passed.
 use native.Mathlib.Omega.{arith}
 use Prim.Native.Nat.{_-_, _<_}
 use mathlib.Core.Path.{sym, _∙_}
 use lib.ListN.{length}
 use Rattle.book.proofs.Comparing.{Agree, agree-more}
-use Rattle.line.proofs.letters.first_other.Statement.{statement}
-use Rattle.line.proofs.letters.first_other.Tie as tie
+use Rattle.book.proofs.compare.first_other.Statement.{statement}
+use Rattle.book.proofs.compare.first_other.Tie as tie
 
 abbrev Inv-loop : tie.InvT-loop
 Inv-loop a b last i₀ i = (i < length a) × Agree a b i
@@ -41,7 +41,7 @@ loop-less c = omega arith
 loop-again : tie.Need-loop-again Inv-loop μ-loop
 loop-again c = (
   omega arith,
-  agree-more (c .before .before .eight-bytes .ensures) (c .before .eight-bytes2 .ensures) _ (omega arith) (c .before .before .before .before .loop .inv .1) (c .if1 .left),
+  agree-more (c .before .before .eight-bytes .ensures) (c .before .eight-bytes2 .ensures) (c .before .before .before .before .loop .inv .1) (c .if1 .left),
 )
 
 returns-2 : tie.Need-returns-2 Inv-loop μ-loop
