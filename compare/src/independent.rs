@@ -1,6 +1,6 @@
-//! The book check and the line reader of document 01 with request 2.1 of
-//! document 02, straight from their definitions: a second implementation, to be
-//! compared with the first.
+//! The book check and the line reader of document 01 with requests 2.1 and 2.2
+//! of document 02, straight from their definitions: a second implementation, to
+//! be compared with the first.
 
 use crate::types::{Counts, Refusal};
 
@@ -11,6 +11,8 @@ const MOST_WORD_BYTES: usize = 31;
 const MOST_ENTRY_TYPES: usize = 12;
 const MOST_WORDS: usize = 24;
 const MOST_LINE_TYPES: usize = 512;
+const MOST_BATCH_BYTES: usize = 65_535;
+const MOST_BATCH_LINES: usize = 32;
 
 /// Checks a book alone.
 pub fn check_book(book: &[u8]) -> Result<Counts, Refusal> {
@@ -25,18 +27,48 @@ pub fn check_book(book: &[u8]) -> Result<Counts, Refusal> {
 /// Reads a line against a book: the number of values written, or a refusal
 /// with the answer untouched.
 pub fn read_line(book: &[u8], line: &[u8], answer: &mut [u16]) -> Result<u64, Refusal> {
-    let book = parse_book(book)?;
-    let words = words_of(line)?;
-    let places = look_up(&book, &words)?;
-    let choice = first_choice(&book, &places).ok_or((15, 0))?;
-    let string: Vec<SimpleType> = choice.iter().flat_map(|e| e.simple_types.clone()).collect();
-    let partners = first_linking(&book, &string).expect("the choice has a linking");
-    let values = answer_values(&choice, &partners);
-    if answer.len() < values.len() {
-        return Err((16, values.len() as u64));
-    }
-    answer[..values.len()].copy_from_slice(&values);
+    let values = answer_to(&parse_book(book)?, line)?;
+    write(&values, answer, 16)?;
     Ok(values.len() as u64)
+}
+
+/// Reads lines, each closed by byte 10, against a book: the number of lines, or
+/// a refusal with the answers untouched.
+pub fn read_batch(book: &[u8], lines: &[u8], answers: &mut [u16]) -> Result<u64, Refusal> {
+    let lines = closed_lines(lines).ok_or((17, 0))?;
+    let book = parse_book(book)?;
+    let values: Vec<u16> = lines.iter().flat_map(|line| part(&book, line)).collect();
+    write(&values, answers, 18)?;
+    Ok(lines.len() as u64)
+}
+
+/// Writes the values to the front of the buffer, or refuses with the number
+/// where they do not fit.
+fn write(values: &[u16], buffer: &mut [u16], number: u32) -> Result<(), Refusal> {
+    let needed = values.len();
+    let front = buffer.get_mut(..needed).ok_or((number, needed as u64))?;
+    front.copy_from_slice(values);
+    Ok(())
+}
+
+/// The answer of a line that is read, or a refusal from 11 to 15.
+fn answer_to(book: &Book, line: &[u8]) -> Result<Vec<u16>, Refusal> {
+    let words = words_of(line)?;
+    let places = look_up(book, &words)?;
+    let choice = first_choice(book, &places).ok_or((15, 0))?;
+    let string: Vec<SimpleType> = choice.iter().flat_map(|e| e.simple_types.clone()).collect();
+    let partners = first_linking(book, &string).expect("the choice has a linking");
+    Ok(answer_values(&choice, &partners))
+}
+
+/// What stands in the answers for one line: how many values follow, the number
+/// of its refusal or 0, and its answer or the value returned with the refusal.
+fn part(book: &Book, line: &[u8]) -> Vec<u16> {
+    let (number, values) = match answer_to(book, line) {
+        Ok(answer) => (0, answer),
+        Err((number, value)) => (number as u16, vec![value as u16]),
+    };
+    [vec![1 + values.len() as u16, number], values].concat()
 }
 
 /// n, the n entry numbers, m, the m partners counted from 1.
@@ -256,6 +288,17 @@ impl Book<'_> {
     fn may_be_unlinked(&self, simple: SimpleType) -> bool {
         simple.exponent == 0 && self.order.at_or_below[simple.basic][self.target]
     }
+}
+
+// The lines of a batch
+
+/// The lines without the bytes 10 that close them; none where there are too
+/// many bytes or lines, or the last line is not closed.
+fn closed_lines(bytes: &[u8]) -> Option<Vec<&[u8]>> {
+    let mut lines: Vec<&[u8]> = bytes.split(|byte| *byte == 10).collect();
+    let behind_the_last = lines.pop()?;
+    let few = bytes.len() <= MOST_BATCH_BYTES && lines.len() <= MOST_BATCH_LINES;
+    (few && behind_the_last.is_empty()).then_some(lines)
 }
 
 // The line

@@ -14,6 +14,8 @@ mod brute_force;
 mod cases;
 mod compare;
 #[cfg(test)]
+mod document_batches;
+#[cfg(test)]
 mod document_cases;
 mod independent;
 mod progress;
