@@ -83,7 +83,7 @@ pub fn run(cases: u64, seed: u64, readers: &[Reader]) -> bool {
     let tallies = progress::shown(cases, |done| {
         in_threads(|first| comparison.part(first, cases, done))
     });
-    print_tallies(&tallies, cases, start.elapsed());
+    print_tallies(&tallies, start.elapsed());
     let alike = !comparison.differ.into_inner();
     if alike {
         println!("no difference");
@@ -151,14 +151,14 @@ fn add<T: Tally>(tallies: &mut ByKind<T>, others: &ByKind<T>) {
     }
 }
 
-fn print_tallies(tallies: &Tallies, cases: u64, time: Duration) {
+fn print_tallies(tallies: &Tallies, time: Duration) {
     let lines = print_by_kind(&tallies.lines);
     let batches = print_by_kind(&tallies.batches);
     print_missing("lines", &lines.all, &[1..=16]);
     print_missing("batches", &batches.all, &[1..=10, 17..=18]);
     print_missing("lines of batches", &batches.lines, &[11..=15]);
     let seconds = time.as_secs_f64();
-    let rate = cases as f64 / seconds;
+    let rate = (lines.all.all + batches.all.all) as f64 / seconds;
     println!("{seconds:.2} seconds, {rate:.0} cases a second");
 }
 
@@ -304,7 +304,7 @@ mod tests {
         }
     }
 
-    /// A reader whose batches are right and whose lines alone are not, as wrong as the one that it is compared with.
+    /// Batches that are right do not hide lines that are wrong when they are read alone.
     #[test]
     fn lines_alone_are_compared() {
         let batch = Batch {

@@ -1,6 +1,7 @@
 //! Compares the proved library with an independent reader on random cases, and times it beside a twin in Rust.
 //!
-//! - `compare cases [CASES] [SEED]`: the comparison, on lines and on batches of lines; it ends with status 1 at the first difference. Standard error shows how far it has come.
+//! - `compare cases [CASES] [SEED]`: the comparison, on lines and on batches of lines; it ends with status 1 at the first difference.
+//!   Standard error shows how far it has come.
 //! - `compare bench`: the times.
 //! - `compare once library|twin SAMPLE`: one sample read once, for a tool that counts instructions.
 //! - `compare batch library|twin together|alone`: the benchmark's batch read once, in one call or line by line.

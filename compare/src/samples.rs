@@ -1,5 +1,5 @@
-//! Books and lines to time: a typical book with its lines, lines at the bounds where much contracts with much, books full of
-//! entries of one word, and the dearest line that a search has found. A sample's name ends with whether its line reads.
+//! Books and lines to time: a typical book with its lines and a batch of such, lines at the bounds where much contracts with much,
+//! books full of entries of one word, and the dearest line that a search has found. A sample's name ends with whether its line reads.
 mod dearest;
 mod full;
 mod hard;

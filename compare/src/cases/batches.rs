@@ -2,7 +2,7 @@
 
 use super::damaged_lines::{damage_bytes, damage_words};
 use super::spellings::respell;
-use super::{any, joined, Case};
+use super::{any, joined, Case, AMPLE};
 use crate::books::word_ranges;
 use crate::independent;
 use crate::random::Random;
@@ -18,8 +18,8 @@ pub struct Batch {
 const MOST_LINES: usize = 32;
 const MOST_BYTES: usize = 65_535;
 
-/// More values than the answers of any batch take: 32 times 2 + 314.
-const AMPLE: usize = 10_200;
+/// More values than the answers of any batch take.
+const AMPLE_FOR_ALL: usize = MOST_LINES * (2 + AMPLE);
 
 /// The byte that closes a line.
 const CLOSE: u8 = 10;
@@ -86,7 +86,7 @@ fn line(random: &mut Random, case: &Case) -> Vec<u8> {
     line
 }
 
-/// The words of a line with one left out or doubled, or damaged.
+/// The words of a line with one left out or doubled, in another order, or damaged.
 fn altered(random: &mut Random, line: &[u8]) -> Vec<u8> {
     let mut words: Vec<Vec<u8>> = line
         .split(|byte| *byte == b' ')
@@ -153,7 +153,7 @@ fn open_last(random: &mut Random, lines: &mut Vec<u8>) {
 fn lent(random: &mut Random, book: &[u8], lines: &[u8]) -> usize {
     let needed = needed(book, lines).map_or(5, |needed| needed.max(1));
     match random.below(10) {
-        0..=2 => AMPLE,
+        0..=2 => AMPLE_FOR_ALL,
         3 => needed + 1 + random.below(5),
         4..=6 => needed,
         7 => needed - 1,
@@ -229,10 +229,7 @@ mod tests {
         let answered = needed.is_ok_and(|needed| needed <= batch.lent);
         let count = count_closed(batch);
         let mut lines = batch.lines.split(|byte| *byte == CLOSE);
-        let read = |line: &[u8]| {
-            let mut answer = [0; super::super::AMPLE];
-            independent::read_line(&batch.book, line, &mut answer).is_ok()
-        };
+        let read = |line: &[u8]| independent::read_line(&batch.book, line, &mut [0; AMPLE]).is_ok();
         let long_line = lines.any(|line| line.len() > 4_096 && read(line));
         [
             ("no lines", answered && count == 0),

@@ -58,7 +58,7 @@ impl Compared for Batch {
             },
             refused => refused,
         };
-        (read, answers) == (outcome.read, outcome.answers.clone())
+        read == outcome.read && answers == outcome.answers
     }
 
     fn count(&self, tally: &mut BatchTally, ours: &Outcome, time: Duration) {
