@@ -11,8 +11,10 @@ const MOST_WORD_BYTES: usize = 31;
 const MOST_ENTRY_TYPES: usize = 12;
 const MOST_WORDS: usize = 24;
 const MOST_LINE_TYPES: usize = 512;
-const MOST_BATCH_BYTES: usize = 65_535;
+const MOST_ANSWER_VALUES: usize = 2 + MOST_WORDS + MOST_LINE_TYPES;
 const MOST_BATCH_LINES: usize = 32;
+const MOST_BATCH_BYTES: usize = 65_535;
+const LINE_END: u8 = 10;
 
 /// Checks a book alone.
 pub fn check_book(book: &[u8]) -> Result<Counts, Refusal> {
@@ -27,48 +29,69 @@ pub fn check_book(book: &[u8]) -> Result<Counts, Refusal> {
 /// Reads a line against a book: the number of values written, or a refusal
 /// with the answer untouched.
 pub fn read_line(book: &[u8], line: &[u8], answer: &mut [u16]) -> Result<u64, Refusal> {
-    let values = answer_to(&parse_book(book)?, line)?;
-    write(&values, answer, 16)?;
+    let book = parse_book(book)?;
+    let words = words_of(line)?;
+    let places = look_up(&book, &words)?;
+    let choice = first_choice(&book, &places).ok_or((15, 0))?;
+    let string: Vec<SimpleType> = choice.iter().flat_map(|e| e.simple_types.clone()).collect();
+    let partners = first_linking(&book, &string).expect("the choice has a linking");
+    let values = answer_values(&choice, &partners);
+    if answer.len() < values.len() {
+        return Err((16, values.len() as u64));
+    }
+    answer[..values.len()].copy_from_slice(&values);
     Ok(values.len() as u64)
 }
 
-/// Reads lines, each closed by byte 10, against a book: the number of lines, or
-/// a refusal with the answers untouched.
+/// Reads a batch of lines against a book: the number of lines, or a refusal
+/// with the answers untouched.
 pub fn read_batch(book: &[u8], lines: &[u8], answers: &mut [u16]) -> Result<u64, Refusal> {
-    let lines = closed_lines(lines).ok_or((17, 0))?;
-    let book = parse_book(book)?;
-    let values: Vec<u16> = lines.iter().flat_map(|line| part(&book, line)).collect();
-    write(&values, answers, 18)?;
-    Ok(lines.len() as u64)
+    let (closed, open) = cut_at_line_ends(lines);
+    if closed.len() > MOST_BATCH_LINES || lines.len() > MOST_BATCH_BYTES || !open.is_empty() {
+        return Err((17, 0));
+    }
+    check_book(book)?;
+    let mut values = vec![];
+    for line in &closed {
+        values.extend(batch_answer(book, line));
+    }
+    if values.len() > answers.len() {
+        return Err((18, values.len() as u64));
+    }
+    answers[..values.len()].copy_from_slice(&values);
+    Ok(closed.len() as u64)
 }
 
-/// Writes the values to the front of the buffer, or refuses with the number
-/// where they do not fit.
-fn write(values: &[u16], buffer: &mut [u16], number: u32) -> Result<(), Refusal> {
-    let needed = values.len();
-    let front = buffer.get_mut(..needed).ok_or((number, needed as u64))?;
-    front.copy_from_slice(values);
-    Ok(())
+/// The closed lines, without the bytes that close them, and what stands behind
+/// the last of these bytes.
+fn cut_at_line_ends(lines: &[u8]) -> (Vec<Vec<u8>>, Vec<u8>) {
+    let mut closed = vec![];
+    let mut open = vec![];
+    for byte in lines {
+        if *byte == LINE_END {
+            closed.push(open);
+            open = vec![];
+        } else {
+            open.push(*byte);
+        }
+    }
+    (closed, open)
 }
 
-/// The answer of a line that is read, or a refusal from 11 to 15.
-fn answer_to(book: &Book, line: &[u8]) -> Result<Vec<u16>, Refusal> {
-    let words = words_of(line)?;
-    let places = look_up(book, &words)?;
-    let choice = first_choice(book, &places).ok_or((15, 0))?;
-    let string: Vec<SimpleType> = choice.iter().flat_map(|e| e.simple_types.clone()).collect();
-    let partners = first_linking(book, &string).expect("the choice has a linking");
-    Ok(answer_values(&choice, &partners))
-}
-
-/// What stands in the answers for one line: how many values follow, the number
-/// of its refusal or 0, and its answer or the value returned with the refusal.
-fn part(book: &Book, line: &[u8]) -> Vec<u16> {
-    let (number, values) = match answer_to(book, line) {
-        Ok(answer) => (0, answer),
-        Err((number, value)) => (number as u16, vec![value as u16]),
+/// What the line alone gets with ample buffer, as it stands in a batch: a count
+/// of the values after it, the refusal number or 0, then the answer or the
+/// returned value.
+fn batch_answer(book: &[u8], line: &[u8]) -> Vec<u16> {
+    let mut answer = [0; MOST_ANSWER_VALUES];
+    let after = match read_line(book, line, &mut answer) {
+        Ok(length) => [&[0], &answer[..length as usize]].concat(),
+        Err((number, value)) => vec![value_of(number.into()), value_of(value)],
     };
-    [vec![1 + values.len() as u16, number], values].concat()
+    [vec![value_of(after.len() as u64)], after].concat()
+}
+
+fn value_of(number: u64) -> u16 {
+    number.try_into().expect("the number fits 16 bits")
 }
 
 /// n, the n entry numbers, m, the m partners counted from 1.
@@ -288,17 +311,6 @@ impl Book<'_> {
     fn may_be_unlinked(&self, simple: SimpleType) -> bool {
         simple.exponent == 0 && self.order.at_or_below[simple.basic][self.target]
     }
-}
-
-// The lines of a batch
-
-/// The lines without the bytes 10 that close them; none where there are too
-/// many bytes or lines, or the last line is not closed.
-fn closed_lines(bytes: &[u8]) -> Option<Vec<&[u8]>> {
-    let mut lines: Vec<&[u8]> = bytes.split(|byte| *byte == 10).collect();
-    let behind_the_last = lines.pop()?;
-    let few = bytes.len() <= MOST_BATCH_BYTES && lines.len() <= MOST_BATCH_LINES;
-    (few && behind_the_last.is_empty()).then_some(lines)
 }
 
 // The line
