@@ -1,7 +1,7 @@
 #!/usr/bin/env bash
-# Counts the instructions that the library and its twin take for each book checked alone and for each sample, with valgrind's
-# callgrind, and prints a row for each: library, twin, name. Needs valgrind and a built `compare`. The environment is emptied: where it
-# lies moves the stack, and with that the instructions with which a buffer is cleared, by some 200.
+# Counts the instructions that the library and its twin take for each book checked alone, for each sample and for a batch of lines,
+# with valgrind's callgrind, and prints a row for each: library, twin, name. Needs valgrind and a built `compare`. The environment is
+# emptied: where it lies moves the stack, and with that the instructions with which a buffer is cleared, by some 200.
 set -eu
 cd "$(dirname "$0")"
 valgrind=$(command -v valgrind)
@@ -22,3 +22,10 @@ target/release/compare samples | while read -r sample; do
   twin=$(count 'compare::twin::reader::read_line*' once twin "$sample")
   row "$library" "$twin" "$sample"
 done
+library_together=$(count vurzhelik_read_batch batch library together)
+twin_together=$(count 'compare::twin::batch::read_batch*' batch twin together)
+library_alone=$(count vurzhelik_read_line batch library alone)
+twin_alone=$(count 'compare::twin::reader::read_line*' batch twin alone)
+row "$library_together" "$twin_together" "32 typical lines, in one batch"
+row "$library_alone" "$twin_alone" "32 typical lines, one by one"
+awk "BEGIN { printf \"%12.3f %12.3f  %s\n\", $library_together / $library_alone, $twin_together / $twin_alone, \"ratio of the two\" }"

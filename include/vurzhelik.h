@@ -1,13 +1,15 @@
 /* Vurzhelik, the proved reader of order lines, for C and C++. Link libvurzhelik.a, which `rt staticlib vurzhelik` writes to
  * target/staticlib; it is for x86-64 Linux.
  *
- * Lists. A list is passed as a pointer to its values and their number. Any bytes may stand in a book and a line, of any length.
+ * Lists. A list is passed as a pointer to its values and their number. Any bytes may stand in a book, a line and a batch, of any length.
  * Pointers. None is null, not even that of an empty list: pass the address of any object there. What is written to (value, types, entries,
- * pairs, answer) overlaps nothing else that is passed. Nothing tests this.
+ * pairs, answer, answers) overlaps nothing else that is passed. Nothing tests this.
  * Threads. Nothing is kept between calls and nothing is allocated: several threads may call at once.
- * Stack. Reading a line takes up to 125 KiB of the caller's stack where it was measured, checking a book 4 KiB.
+ * Stack. Reading a line takes up to 125 KiB of the caller's stack where it was measured, checking a book 4 KiB. Reading a batch takes up to
+ * 150 KiB.
  * WARNING: a thread with a small stack overflows. Give one that reads lines 256 KiB or more (pthread_attr_setstacksize). With glibc 128 KiB
- * are too few; its default, the limit on the stack, commonly 8 MiB, is ample. musl's default of 128 KiB leaves a caller 3 KiB. */
+ * are too few; its default, the limit on the stack, commonly 8 MiB, is ample. musl's default of 128 KiB leaves a caller of
+ * vurzhelik_read_line 3 KiB, and is too small for a batch. */
 #ifndef VURZHELIK_H
 #define VURZHELIK_H
 
@@ -20,32 +22,41 @@ extern "C" {
 
 /* The version of this header. */
 #define VURZHELIK_VERSION_MAJOR 1
-#define VURZHELIK_VERSION_MINOR 1
+#define VURZHELIK_VERSION_MINOR 2
 #define VURZHELIK_VERSION_PATCH 0
 #define VURZHELIK_VERSION (10000 * VURZHELIK_VERSION_MAJOR + 100 * VURZHELIK_VERSION_MINOR + VURZHELIK_VERSION_PATCH)
 
 /* How many values hold any answer: n and m, an entry for each of 24 words, a partner for each of 12 simple types a word. */
 #define VURZHELIK_MAX_VALUES 314
 
+/* How many lines a batch has at most, and how many bytes, those that close its lines included. */
+#define VURZHELIK_MAX_LINES 32
+#define VURZHELIK_MAX_BATCH 65535
+
+/* How many values hold the answers of any batch: 32 answers, each with a count and a number before it. */
+#define VURZHELIK_MAX_BATCH_VALUES 10112
+
 /* What the functions return, and what *value holds then. */
 enum vurzhelik_result {
-    VURZHELIK_OK = 0,                /* success                                            see the function */
-    VURZHELIK_BOOK_TOO_LONG = 1,     /* book over 65,535 bytes                             0 */
-    VURZHELIK_CUT_SHORT = 2,         /* head or body of a record cut short                 the record's offset */
-    VURZHELIK_KIND_NOT_LISTED = 3,   /* kind not listed                                    the record's offset */
-    VURZHELIK_BAD_LAYOUT = 4,        /* body not of its kind's layout                      the record's offset */
-    VURZHELIK_UNDECLARED_TYPE = 5,   /* type number not declared by an earlier record      the record's offset */
-    VURZHELIK_EXPONENT_OUTSIDE = 6,  /* exponent outside -8 to 8                           the record's offset */
-    VURZHELIK_NAME_USED = 7,         /* type name used before                              the record's offset */
-    VURZHELIK_SECOND_TARGET = 8,     /* second target                                      the record's offset */
-    VURZHELIK_TOO_MANY_RECORDS = 9,  /* 65th basic type or 1,025th entry                   the record's offset */
-    VURZHELIK_NO_TARGET = 10,        /* book ends without a target                         the book's length */
-    VURZHELIK_BAD_LINE_BYTE = 11,    /* line byte outside 32 to 126                        the byte's offset */
-    VURZHELIK_BAD_WORD = 12,         /* word over 31 bytes, or a 25th word                 the word's offset */
-    VURZHELIK_UNKNOWN_WORD = 13,     /* word without an entry                              the word's offset */
-    VURZHELIK_TOO_MANY_SIMPLES = 14, /* over 512 simple types in all entries of all words  0 */
-    VURZHELIK_NO_READING = 15,       /* no reading                                         0 */
-    VURZHELIK_BUFFER_TOO_SHORT = 16  /* answer buffer too short                            the number of values needed */
+    VURZHELIK_OK = 0,                /* success                                                      see the function */
+    VURZHELIK_BOOK_TOO_LONG = 1,     /* book over 65,535 bytes                                       0 */
+    VURZHELIK_CUT_SHORT = 2,         /* head or body of a record cut short                           the record's offset */
+    VURZHELIK_KIND_NOT_LISTED = 3,   /* kind not listed                                              the record's offset */
+    VURZHELIK_BAD_LAYOUT = 4,        /* body not of its kind's layout                                the record's offset */
+    VURZHELIK_UNDECLARED_TYPE = 5,   /* type number not declared by an earlier record                the record's offset */
+    VURZHELIK_EXPONENT_OUTSIDE = 6,  /* exponent outside -8 to 8                                     the record's offset */
+    VURZHELIK_NAME_USED = 7,         /* type name used before                                        the record's offset */
+    VURZHELIK_SECOND_TARGET = 8,     /* second target                                                the record's offset */
+    VURZHELIK_TOO_MANY_RECORDS = 9,  /* 65th basic type or 1,025th entry                             the record's offset */
+    VURZHELIK_NO_TARGET = 10,        /* book ends without a target                                   the book's length */
+    VURZHELIK_BAD_LINE_BYTE = 11,    /* line byte outside 32 to 126                                  the byte's offset */
+    VURZHELIK_BAD_WORD = 12,         /* word over 31 bytes, or a 25th word                           the word's offset */
+    VURZHELIK_UNKNOWN_WORD = 13,     /* word without an entry                                        the word's offset */
+    VURZHELIK_TOO_MANY_SIMPLES = 14, /* over 512 simple types in all entries of all words            0 */
+    VURZHELIK_NO_READING = 15,       /* no reading                                                   0 */
+    VURZHELIK_BUFFER_TOO_SHORT = 16, /* answer buffer too short                                      the number of values needed */
+    VURZHELIK_BAD_BATCH = 17,        /* over 32 lines, over 65,535 bytes, or a last line not closed  0 */
+    VURZHELIK_ANSWERS_TOO_LONG = 18  /* the answers of a batch do not fit                            the number of values needed */
 };
 
 /* The version of the library. It belongs to this header where it is VURZHELIK_VERSION. */
@@ -65,6 +76,14 @@ uint32_t vurzhelik_check_book(const uint8_t *book, size_t book_length, uint64_t 
  * 1 to 16: book or line is refused; *value is as listed above, and answer is as it was. */
 uint32_t vurzhelik_read_line(const uint8_t *book, size_t book_length, const uint8_t *line, size_t line_length, uint16_t *answer,
                              size_t answer_length, uint64_t *value);
+
+/* Reads up to 32 lines against a book. They stand one behind another in lines, each closed by byte 10, which is no part of it.
+ * VURZHELIK_OK: *value holds how many lines there are, and answers has a part for each, one behind another: how many values follow, the
+ * number of the line's refusal or 0, and the refusal's value or the answer, each as vurzhelik_read_line gives it for the line alone where
+ * VURZHELIK_MAX_VALUES are lent. Values behind the last part are as they were.
+ * 1 to 10, 17, 18: book or batch is refused; *value is as listed above, and answers is as it was. */
+uint32_t vurzhelik_read_batch(const uint8_t *book, size_t book_length, const uint8_t *lines, size_t lines_length, uint16_t *answers,
+                              size_t answers_length, uint64_t *value);
 
 #ifdef __cplusplus
 }

@@ -1,7 +1,7 @@
 //! Times the library and its twin side by side: each round runs both, one behind the other, and the smallest time of each over all rounds
 //! counts.
 use crate::readers::{Reader, LIBRARY, TWIN};
-use crate::samples::{self, Growth, Sample};
+use crate::samples::{self, BatchSample, Growth, Sample};
 use std::hint::black_box;
 use std::time::{Duration, Instant};
 
@@ -178,6 +178,55 @@ fn lines(title: &str, samples: &[Sample]) {
     }
 }
 
+/// Reads by a reader into a buffer.
+type Call<'a> = &'a dyn Fn(Reader, &mut [u16]);
+
+/// Times lines that are read in one batch and one by one, and prints their table.
+fn batch(title: &str, sample: &BatchSample) {
+    let lines = sample.together();
+    let together = |reader: Reader, answers: &mut [u16]| {
+        let result = (reader.read_batch)(black_box(&sample.book), black_box(&lines), answers);
+        black_box(result).expect("the batch is answered");
+    };
+    let alone = |reader: Reader, answers: &mut [u16]| {
+        for line in &sample.lines {
+            let result = (reader.read_line)(black_box(&sample.book), black_box(line), answers);
+            let _ = black_box(result);
+        }
+    };
+    let ways: [(&str, Call); 2] = [("in one batch", &together), ("one by one", &alone)];
+    head(title);
+    let [one_batch, one_by_one] = ways.map(|(name, call)| {
+        let rounds = time_batch(call);
+        row(name, &rounds);
+        rounds.smallest()
+    });
+    println!(
+        "{:56} {:>12.2} {:>12.2}",
+        "ratio of the two",
+        one_batch.0 / one_by_one.0,
+        one_batch.1 / one_by_one.1
+    );
+}
+
+/// Times both on a batch, which they must answer alike.
+fn time_batch(call: Call) -> Rounds {
+    let mut ours = [0; vurzhelik::MAX_BATCH_VALUES];
+    let mut theirs = [0; vurzhelik::MAX_BATCH_VALUES];
+    call(LIBRARY, &mut ours);
+    call(TWIN, &mut theirs);
+    assert_eq!(ours, theirs);
+    let mut rounds = Rounds::default();
+    for _ in 0..PASSES {
+        pair(
+            &mut rounds,
+            || call(LIBRARY, &mut ours),
+            || call(TWIN, &mut theirs),
+        );
+    }
+    rounds
+}
+
 /// Times one kind of line for several numbers of simple types and prints how its cost grows from each to the next.
 fn growth(growth: &Growth) {
     let all: Vec<&Sample> = growth.steps.iter().map(|(_, sample)| sample).collect();
@@ -204,10 +253,11 @@ fn growth(growth: &Growth) {
     }
 }
 
-/// Times books and lines of all kinds and prints their tables.
+/// Times books, lines of all kinds and a batch, and prints their tables.
 pub fn tables() {
     books("Books checked alone", &samples::books());
     lines("Typical lines", &samples::typical());
+    batch("32 typical lines", &samples::batch());
     lines("Hard lines", &samples::hard());
     lines("Full books", &samples::full());
     for kind in samples::growth() {

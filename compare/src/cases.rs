@@ -1,6 +1,7 @@
-//! Test cases: a book, a line and the number of values lent, of several kinds.
+//! Test cases: a book, a line or a batch of lines, and the number of values lent, of several kinds.
 
 mod ambiguous;
+mod batches;
 mod borders;
 mod damaged_books;
 mod damaged_lines;
@@ -10,6 +11,7 @@ mod spellings;
 use crate::independent;
 use crate::random::Random;
 pub use ambiguous::ambiguous;
+pub use batches::{batch, Batch};
 pub use spellings::spellings;
 
 pub struct Case {

@@ -1,265 +1,323 @@
 //! Runs cases through the independent reader and through others, compares what
-//! they return and what they leave in the answer buffer, and counts the outcomes.
+//! they return and what they leave in the lent buffer, and counts the outcomes.
 
-use crate::books::word_ranges;
-use crate::cases::{self, Case};
+mod batches;
+mod lines;
+mod outcomes;
+
+use crate::cases;
 use crate::progress;
 use crate::random::Random;
 use crate::readers::{Reader, INDEPENDENT};
-use crate::types::{Counts, Refusal};
+use batches::BatchTally;
+use lines::LineTally;
+use outcomes::Outcomes;
 use std::collections::BTreeMap;
-use std::panic::catch_unwind;
+use std::ops::RangeInclusive;
+use std::panic::{catch_unwind, RefUnwindSafe};
 use std::sync::atomic::{AtomicBool, AtomicU64, Ordering};
 use std::time::{Duration, Instant};
 
 const THREADS: u64 = 2;
 
-/// How many cases there were, and how many of each outcome.
+/// One case of so many is a batch; the others are lines.
+const CASES_TO_A_BATCH: u64 = 8;
+
+/// A case that readers are compared on.
+trait Compared: RefUnwindSafe {
+    /// What one reader makes of it.
+    type Outcome: PartialEq;
+    type Tally: Tally;
+
+    fn kind(&self) -> &'static str;
+
+    fn outcome(&self, reader: &Reader) -> Self::Outcome;
+
+    /// Whether the parts of an outcome agree with each other.
+    fn consistent(&self, _outcome: &Self::Outcome) -> bool {
+        true
+    }
+
+    fn count(&self, tally: &mut Self::Tally, ours: &Self::Outcome, time: Duration);
+
+    fn print(&self);
+
+    fn print_outcome(name: &str, outcome: &Self::Outcome);
+}
+
+/// What is counted of the cases of one kind.
+trait Tally: Default {
+    fn add(&mut self, other: &Self);
+
+    fn print(&self, kind: &str);
+}
+
+type ByKind<T> = BTreeMap<&'static str, T>;
+
 #[derive(Default)]
-struct Outcomes {
-    cases: u64,
-    accepted: u64,
-    read: u64,
-    refused: [u64; 17],
+struct Tallies {
+    lines: ByKind<LineTally>,
+    batches: ByKind<BatchTally>,
 }
 
-impl Outcomes {
-    fn count(&mut self, outcome: &Outcome) {
-        self.cases += 1;
-        self.accepted += u64::from(outcome.checked.is_ok());
-        match outcome.read {
-            Ok(_) => self.read += 1,
-            Err((number, _)) => self.refused[number as usize] += 1,
-        }
-    }
-
-    fn add(&mut self, other: &Outcomes) {
-        self.cases += other.cases;
-        self.accepted += other.accepted;
-        self.read += other.read;
-        for (mine, more) in self.refused.iter_mut().zip(other.refused) {
-            *mine += more;
-        }
-    }
-
-    /// The refusals that occurred, each with how often.
-    fn refusals(&self) -> String {
-        let refused: Vec<String> = (1..=16)
-            .filter(|number| self.refused[*number] > 0)
-            .map(|number| format!("{number}: {}", self.refused[number]))
-            .collect();
-        format!("refusals {}", refused.join(", "))
-    }
-}
-
-/// Outcomes of one kind of case, those with capitals on both sides, and the time the independent implementation took.
-#[derive(Default)]
-struct Tally {
-    all: Outcomes,
-    capitals: Outcomes,
-    time: Duration,
-    slowest: Duration,
-}
-
-impl Tally {
-    fn add(&mut self, other: &Tally) {
-        self.all.add(&other.all);
-        self.capitals.add(&other.capitals);
-        self.time += other.time;
-        self.slowest = self.slowest.max(other.slowest);
-    }
-}
-
-type Tallies = BTreeMap<&'static str, Tally>;
-
-/// What one implementation makes of a case.
-#[derive(PartialEq, Eq)]
-struct Outcome {
-    checked: Result<Counts, Refusal>,
-    read: Result<u64, Refusal>,
-    answer: Vec<u16>,
-}
-
-/// What an answer buffer holds before it is lent.
+/// What a buffer holds before it is lent.
 fn prefilled(lent: usize) -> Vec<u16> {
     (0..lent).map(|place| 0xa5c3 ^ place as u16).collect()
 }
 
-fn outcome(case: &Case, reader: &Reader) -> Outcome {
-    let mut answer = prefilled(case.lent);
-    Outcome {
-        checked: (reader.check_book)(&case.book),
-        read: (reader.read_line)(&case.book, &case.line, &mut answer),
-        answer,
-    }
+/// A comparison of readers with the independent one.
+struct Comparison<'a> {
+    seed: u64,
+    readers: &'a [Reader],
+    differ: AtomicBool,
 }
 
 /// Compares readers with the independent one on the given number of cases; false after the first difference.
 pub fn run(cases: u64, seed: u64, readers: &[Reader]) -> bool {
     let start = Instant::now();
-    let differ = AtomicBool::new(false);
-    let part = |first: u64, done: &AtomicU64| {
-        let mut tallies = Tallies::new();
-        for number in (first..cases).step_by(THREADS as usize) {
-            if differ.load(Ordering::Relaxed) {
-                break;
-            }
-            let case = cases::any(&mut Random::for_case(seed, number));
-            let begun = Instant::now();
-            let expected = outcome(&case, &INDEPENDENT);
-            count(&mut tallies, &case, &expected, begun.elapsed());
-            for reader in readers {
-                let other = catch_unwind(|| outcome(&case, reader)).ok();
-                if other.as_ref() != Some(&expected) && !differ.swap(true, Ordering::Relaxed) {
-                    println!("DIFFERENCE in case {number} of seed {seed}");
-                    print_difference(&case, &expected, reader, other.as_ref());
-                }
-            }
-            done.fetch_add(1, Ordering::Relaxed);
-        }
-        tallies
+    let comparison = Comparison {
+        seed,
+        readers,
+        differ: AtomicBool::new(false),
     };
-    let tallies = progress::shown(cases, |done| in_threads(|first| part(first, done)));
+    let tallies = progress::shown(cases, |done| {
+        in_threads(|first| comparison.part(first, cases, done))
+    });
     print_tallies(&tallies, start.elapsed());
-    let alike = !differ.into_inner();
+    let alike = !comparison.differ.into_inner();
     if alike {
         println!("no difference");
     }
     alike
 }
 
+impl Comparison<'_> {
+    /// The cases of one thread, up to the first difference in any.
+    fn part(&self, first: u64, cases: u64, done: &AtomicU64) -> Tallies {
+        let mut tallies = Tallies::default();
+        for number in (first..cases).step_by(THREADS as usize) {
+            if self.differ.load(Ordering::Relaxed) {
+                break;
+            }
+            let random = &mut Random::for_case(self.seed, number);
+            // Divided by the threads first, so that each thread has its share of batches.
+            match number / THREADS % CASES_TO_A_BATCH {
+                0 => self.compare(number, &cases::batch(random), &mut tallies.batches),
+                _ => self.compare(number, &cases::any(random), &mut tallies.lines),
+            }
+            done.fetch_add(1, Ordering::Relaxed);
+        }
+        tallies
+    }
+
+    /// Compares one case and counts it.
+    fn compare<C: Compared>(&self, number: u64, case: &C, tallies: &mut ByKind<C::Tally>) {
+        let begun = Instant::now();
+        let expected = case.outcome(&INDEPENDENT);
+        let tally = tallies.entry(case.kind()).or_default();
+        case.count(tally, &expected, begun.elapsed());
+        let consistent = case.consistent(&expected);
+        for reader in self.readers {
+            let other = catch_unwind(|| case.outcome(reader)).ok();
+            let alike = consistent && other.as_ref() == Some(&expected);
+            if !alike && !self.differ.swap(true, Ordering::Relaxed) {
+                println!("DIFFERENCE in case {number} of seed {}", self.seed);
+                print_difference(case, &expected, reader, other.as_ref());
+            }
+        }
+    }
+}
+
 /// Runs each thread's part and puts the tallies together.
 fn in_threads(part: impl Fn(u64) -> Tallies + Sync) -> Tallies {
-    let mut tallies = Tallies::new();
+    let mut tallies = Tallies::default();
     std::thread::scope(|scope| {
         let part = &part;
         let threads: Vec<_> = (0..THREADS)
             .map(|first| scope.spawn(move || part(first)))
             .collect();
         for thread in threads {
-            for (kind, tally) in thread.join().expect("a thread ends well") {
-                tallies.entry(kind).or_default().add(&tally);
-            }
+            let other = thread.join().expect("a thread ends well");
+            add(&mut tallies.lines, &other.lines);
+            add(&mut tallies.batches, &other.batches);
         }
     });
     tallies
 }
 
-/// Whether the book is accepted, and capitals stand both in words of its entries and in the line.
-fn capitals_on_both_sides(case: &Case, ours: &Outcome) -> bool {
-    let capitals = |bytes: &[u8]| bytes.iter().any(u8::is_ascii_uppercase);
-    let mut words = word_ranges(&case.book).into_iter();
-    ours.checked.is_ok() && capitals(&case.line) && words.any(|word| capitals(&case.book[word]))
-}
-
-fn count(tallies: &mut Tallies, case: &Case, ours: &Outcome, time: Duration) {
-    let tally = tallies.entry(case.kind).or_default();
-    tally.all.count(ours);
-    if capitals_on_both_sides(case, ours) {
-        tally.capitals.count(ours);
+fn add<T: Tally>(tallies: &mut ByKind<T>, others: &ByKind<T>) {
+    for (kind, other) in others {
+        tallies.entry(kind).or_default().add(other);
     }
-    tally.time += time;
-    tally.slowest = tally.slowest.max(time);
 }
 
 fn print_tallies(tallies: &Tallies, time: Duration) {
-    let mut all = Tally::default();
-    for (kind, tally) in tallies {
-        print_tally(kind, tally);
-        all.add(tally);
-    }
-    print_tally("all", &all);
-    for (number, count) in all.all.refused.iter().enumerate().skip(1) {
-        if *count == 0 {
-            println!("refusal {number} did not occur");
-        }
-    }
+    let lines = print_by_kind(&tallies.lines);
+    let batches = print_by_kind(&tallies.batches);
+    print_missing("lines", &lines.all, &[1..=16]);
+    print_missing("batches", &batches.all, &[1..=10, 17..=18]);
+    print_missing("lines of batches", &batches.lines, &[11..=15]);
     let seconds = time.as_secs_f64();
-    let rate = all.all.cases as f64 / seconds;
+    let rate = (lines.all.all + batches.all.all) as f64 / seconds;
     println!("{seconds:.2} seconds, {rate:.0} cases a second");
 }
 
-fn print_tally(kind: &str, tally: &Tally) {
-    let (all, capitals) = (&tally.all, &tally.capitals);
-    println!(
-        "{kind}: {} cases, {} books accepted, {} lines read",
-        all.cases, all.accepted, all.read
-    );
-    println!("    {}", all.refusals());
-    println!(
-        "    with capitals on both sides {} cases, {} lines read, {}",
-        capitals.cases,
-        capitals.read,
-        capitals.refusals()
-    );
-    let mean = tally.time / all.cases.max(1) as u32;
-    println!("    time mean {mean:?}, most {:?}", tally.slowest);
+/// Prints the tally of each kind and that of all of them, which is returned.
+fn print_by_kind<T: Tally>(tallies: &ByKind<T>) -> T {
+    let mut all = T::default();
+    for (kind, tally) in tallies {
+        tally.print(kind);
+        all.add(tally);
+    }
+    all.print("all");
+    all
 }
 
-fn print_difference(case: &Case, expected: &Outcome, reader: &Reader, other: Option<&Outcome>) {
-    println!("kind: {}", case.kind);
-    println!("book in hex: {}", hex(&case.book));
-    println!("line in hex: {}", hex(&case.line));
-    println!("line: {}", case.line.escape_ascii());
-    println!("values lent: {}", case.lent);
-    print_outcome(INDEPENDENT.name, expected);
-    match other {
-        Some(other) => print_outcome(reader.name, other),
-        None => println!("{}: did not return", reader.name),
+/// Prints which refusals of those that could have occurred did not.
+fn print_missing(what: &str, outcomes: &Outcomes, numbers: &[RangeInclusive<usize>]) {
+    for number in numbers.iter().cloned().flatten() {
+        if outcomes.refused[number] == 0 {
+            println!("{what}: refusal {number} did not occur");
+        }
     }
 }
 
-fn print_outcome(name: &str, outcome: &Outcome) {
-    println!("{name}, book check: {:?}", outcome.checked);
-    println!("{name}, line: {:?}", outcome.read);
-    println!("{name}, answer: {:?}", outcome.answer);
+fn print_difference<C: Compared>(
+    case: &C,
+    expected: &C::Outcome,
+    reader: &Reader,
+    other: Option<&C::Outcome>,
+) {
+    case.print();
+    C::print_outcome(INDEPENDENT.name, expected);
+    match other {
+        Some(other) => C::print_outcome(reader.name, other),
+        None => println!("{}: did not return", reader.name),
+    }
 }
 
 fn hex(bytes: &[u8]) -> String {
     bytes.iter().map(|byte| format!("{byte:02x}")).collect()
 }
 
-/// The independent reader, but with one bit set in every byte from 64 to 94 of words on both sides, so that `[` is `{`.
 #[cfg(test)]
-fn one_bit_masked(book: &[u8], line: &[u8], answer: &mut [u16]) -> Result<u64, Refusal> {
-    let mask = |byte: &mut u8| {
-        if (64..=94).contains(byte) {
-            *byte |= 32;
-        }
-    };
-    let (mut book, mut line) = (book.to_vec(), line.to_vec());
-    for word in word_ranges(&book) {
-        book[word].iter_mut().for_each(mask);
-    }
-    line.iter_mut().for_each(mask);
-    (INDEPENDENT.read_line)(&book, &line, answer)
-}
+mod tests {
+    use super::*;
+    use crate::books::{first_book, word_ranges};
+    use crate::cases::Batch;
+    use crate::readers::ReadBatch;
+    use crate::types::Refusal;
 
-#[test]
-fn differences_are_found() {
-    let one_too_many = |book: &[u8], line: &[u8], answer: &mut [u16]| {
-        let written = (INDEPENDENT.read_line)(book, line, answer)?;
-        if let Some(behind) = answer.get_mut(written as usize) {
-            *behind = 0;
+    /// The independent reader, but with one bit set in every byte from 64 to 94 of words on both sides, so that `[` is `{`.
+    fn one_bit_masked(book: &[u8], line: &[u8], answer: &mut [u16]) -> Result<u64, Refusal> {
+        let mask = |byte: &mut u8| {
+            if (64..=94).contains(byte) {
+                *byte |= 32;
+            }
+        };
+        let (mut book, mut line) = (book.to_vec(), line.to_vec());
+        for word in word_ranges(&book) {
+            book[word].iter_mut().for_each(mask);
         }
-        Ok(written)
-    };
-    let alike = |reader: Reader| run(200, 3, &[INDEPENDENT, reader]);
-    assert!(alike(INDEPENDENT));
-    assert!(!alike(Reader {
-        read_line: one_too_many,
-        ..INDEPENDENT
-    }));
-    assert!(!alike(Reader {
-        read_line: one_bit_masked,
-        ..INDEPENDENT
-    }));
-    assert!(!alike(Reader {
-        check_book: |_| Err((10, 0)),
-        ..INDEPENDENT
-    }));
-    assert!(!alike(Reader {
-        check_book: |_| panic!("on purpose"),
-        ..INDEPENDENT
-    }));
+        line.iter_mut().for_each(mask);
+        (INDEPENDENT.read_line)(&book, &line, answer)
+    }
+
+    /// Whether a reader comes through without a difference.
+    fn alike(reader: Reader) -> bool {
+        run(800, 3, &[INDEPENDENT, reader])
+    }
+
+    #[test]
+    fn differences_are_found() {
+        let one_too_many = |book: &[u8], line: &[u8], answer: &mut [u16]| {
+            let written = (INDEPENDENT.read_line)(book, line, answer)?;
+            if let Some(behind) = answer.get_mut(written as usize) {
+                *behind = 0;
+            }
+            Ok(written)
+        };
+        assert!(alike(INDEPENDENT));
+        assert!(!alike(Reader {
+            read_line: one_too_many,
+            ..INDEPENDENT
+        }));
+        assert!(!alike(Reader {
+            read_line: one_bit_masked,
+            ..INDEPENDENT
+        }));
+        assert!(!alike(Reader {
+            check_book: |_| Err((10, 0)),
+            ..INDEPENDENT
+        }));
+        assert!(!alike(Reader {
+            check_book: |_| panic!("on purpose"),
+            ..INDEPENDENT
+        }));
+    }
+
+    #[test]
+    fn differences_in_batches_are_found() {
+        let wrong: [ReadBatch; 5] = [
+            // The book before the lines.
+            |book, lines, answers| {
+                (INDEPENDENT.check_book)(book)?;
+                (INDEPENDENT.read_batch)(book, lines, answers)
+            },
+            // What a refusal must leave is written to.
+            |book, lines, answers| {
+                let read = (INDEPENDENT.read_batch)(book, lines, answers);
+                if let (Err((17 | 18, _)), Some(first)) = (read, answers.first_mut()) {
+                    *first = 0;
+                }
+                read
+            },
+            // The last value of the buffer is cleared.
+            |book, lines, answers| {
+                let lines = (INDEPENDENT.read_batch)(book, lines, answers)?;
+                if let Some(last) = answers.last_mut() {
+                    *last = 0;
+                }
+                Ok(lines)
+            },
+            // The last line need not be closed.
+            |book, lines, answers| match lines.last() {
+                Some(last) if *last != 10 => {
+                    let closed = [lines, &[10]].concat();
+                    (INDEPENDENT.read_batch)(book, &closed, answers)
+                }
+                _ => (INDEPENDENT.read_batch)(book, lines, answers),
+            },
+            // Empty lines are no lines.
+            |book, lines, answers| {
+                let full = |line: &&[u8]| **line != [10];
+                let lines = lines.split_inclusive(|byte| *byte == 10).filter(full);
+                let lines: Vec<u8> = lines.flatten().copied().collect();
+                (INDEPENDENT.read_batch)(book, &lines, answers)
+            },
+        ];
+        for read_batch in wrong {
+            assert!(!alike(Reader {
+                read_batch,
+                ..INDEPENDENT
+            }));
+        }
+    }
+
+    /// Batches that are right do not hide lines that are wrong when they are read alone.
+    #[test]
+    fn lines_alone_are_compared() {
+        let batch = Batch {
+            kind: "",
+            book: first_book().bytes(),
+            lines: b"go\nadmit site\n".to_vec(),
+            lent: 20,
+        };
+        assert!(batch.consistent(&batch.outcome(&INDEPENDENT)));
+        let other = Reader {
+            read_line: |_, _, _| Err((15, 0)),
+            ..INDEPENDENT
+        };
+        assert!(!batch.consistent(&batch.outcome(&other)));
+    }
 }

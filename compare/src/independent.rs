@@ -1,6 +1,6 @@
-//! The book check and the line reader of document 01 with request 2.1 of
-//! document 02, straight from their definitions: a second implementation, to be
-//! compared with the first.
+//! The book check and the line reader of document 01 with requests 2.1 and 2.2
+//! of document 02, straight from their definitions: a second implementation, to
+//! be compared with the first.
 
 use crate::types::{Counts, Refusal};
 
@@ -11,6 +11,10 @@ const MOST_WORD_BYTES: usize = 31;
 const MOST_ENTRY_TYPES: usize = 12;
 const MOST_WORDS: usize = 24;
 const MOST_LINE_TYPES: usize = 512;
+const MOST_ANSWER_VALUES: usize = 2 + MOST_WORDS + MOST_LINE_TYPES;
+const MOST_BATCH_LINES: usize = 32;
+const MOST_BATCH_BYTES: usize = 65_535;
+const LINE_END: u8 = 10;
 
 /// Checks a book alone.
 pub fn check_book(book: &[u8]) -> Result<Counts, Refusal> {
@@ -37,6 +41,57 @@ pub fn read_line(book: &[u8], line: &[u8], answer: &mut [u16]) -> Result<u64, Re
     }
     answer[..values.len()].copy_from_slice(&values);
     Ok(values.len() as u64)
+}
+
+/// Reads a batch of lines against a book: the number of lines, or a refusal
+/// with the answers untouched.
+pub fn read_batch(book: &[u8], lines: &[u8], answers: &mut [u16]) -> Result<u64, Refusal> {
+    let (closed, open) = cut_at_line_ends(lines);
+    if closed.len() > MOST_BATCH_LINES || lines.len() > MOST_BATCH_BYTES || !open.is_empty() {
+        return Err((17, 0));
+    }
+    check_book(book)?;
+    let mut values = vec![];
+    for line in &closed {
+        values.extend(batch_answer(book, line));
+    }
+    if values.len() > answers.len() {
+        return Err((18, values.len() as u64));
+    }
+    answers[..values.len()].copy_from_slice(&values);
+    Ok(closed.len() as u64)
+}
+
+/// The closed lines, without the bytes that close them, and what stands behind
+/// the last of these bytes.
+fn cut_at_line_ends(lines: &[u8]) -> (Vec<Vec<u8>>, Vec<u8>) {
+    let mut closed = vec![];
+    let mut open = vec![];
+    for byte in lines {
+        if *byte == LINE_END {
+            closed.push(open);
+            open = vec![];
+        } else {
+            open.push(*byte);
+        }
+    }
+    (closed, open)
+}
+
+/// What the line alone gets with ample buffer, as it stands in a batch: a count
+/// of the values after it, the refusal number or 0, then the answer or the
+/// returned value.
+fn batch_answer(book: &[u8], line: &[u8]) -> Vec<u16> {
+    let mut answer = [0; MOST_ANSWER_VALUES];
+    let after = match read_line(book, line, &mut answer) {
+        Ok(length) => [&[0], &answer[..length as usize]].concat(),
+        Err((number, value)) => vec![value_of(number.into()), value_of(value)],
+    };
+    [vec![value_of(after.len() as u64)], after].concat()
+}
+
+fn value_of(number: u64) -> u16 {
+    number.try_into().expect("the number fits 16 bits")
 }
 
 /// n, the n entry numbers, m, the m partners counted from 1.

@@ -1,8 +1,10 @@
 //! Compares the proved library with an independent reader on random cases, and times it beside a twin in Rust.
 //!
-//! - `compare cases [CASES] [SEED]`: the comparison; it ends with status 1 at the first difference. Standard error shows how far it has come.
+//! - `compare cases [CASES] [SEED]`: the comparison, on lines and on batches of lines; it ends with status 1 at the first difference.
+//!   Standard error shows how far it has come.
 //! - `compare bench`: the times.
 //! - `compare once library|twin SAMPLE`: one sample read once, for a tool that counts instructions.
+//! - `compare batch library|twin together|alone`: the benchmark's batch read once, in one call or line by line.
 //! - `compare check library|twin BOOK`: one of the benchmark's books checked once.
 //! - `compare samples`, `compare books`: their names.
 //! - `compare search [STEPS] [SEED]`: a search for the dearest line.
@@ -13,6 +15,8 @@ mod books;
 mod brute_force;
 mod cases;
 mod compare;
+#[cfg(test)]
+mod document_batches;
 #[cfg(test)]
 mod document_cases;
 mod independent;
@@ -27,8 +31,8 @@ mod types;
 use readers::{LIBRARY, TWIN};
 use std::process::ExitCode;
 
-const USAGE: &str = "compare cases [CASES] [SEED] | bench | once library|twin SAMPLE | samples | check library|twin BOOK | books \
-    | search [STEPS] [SEED]";
+const USAGE: &str = "compare cases [CASES] [SEED] | bench | once library|twin SAMPLE | samples | batch library|twin together|alone \
+    | check library|twin BOOK | books | search [STEPS] [SEED]";
 
 fn main() -> ExitCode {
     let arguments: Vec<String> = std::env::args().skip(1).collect();
@@ -49,6 +53,10 @@ fn main() -> ExitCode {
             }
             true
         }
+        ["batch", "library", "together"] => together(&LIBRARY),
+        ["batch", "twin", "together"] => together(&TWIN),
+        ["batch", "library", "alone"] => alone(&LIBRARY),
+        ["batch", "twin", "alone"] => alone(&TWIN),
         ["check", "library", book] => check(&LIBRARY, book),
         ["check", "twin", book] => check(&TWIN, book),
         ["books"] => {
@@ -88,6 +96,25 @@ fn once(reader: &readers::Reader, name: &str) -> bool {
     };
     let outcome = (reader.read_line)(&sample.book, &sample.line, &mut [0; 512]);
     println!("{outcome:?}");
+    true
+}
+
+/// Reads the benchmark's batch once and prints what comes back.
+fn together(reader: &readers::Reader) -> bool {
+    let sample = samples::batch();
+    let mut answers = [0; vurzhelik::MAX_BATCH_VALUES];
+    let outcome = (reader.read_batch)(&sample.book, &sample.together(), &mut answers);
+    println!("{outcome:?}");
+    true
+}
+
+/// Reads the lines of the benchmark's batch one by one and prints what comes back.
+fn alone(reader: &readers::Reader) -> bool {
+    let sample = samples::batch();
+    for line in &sample.lines {
+        let outcome = (reader.read_line)(&sample.book, line, &mut [0; 512]);
+        println!("{outcome:?}");
+    }
     true
 }
 

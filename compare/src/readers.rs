@@ -8,12 +8,16 @@ type CheckBook = fn(&[u8]) -> Result<Counts, Refusal>;
 /// Reads a line against a book: the number of values written to the answer, or a refusal with the answer untouched.
 type ReadLine = fn(&[u8], &[u8], &mut [u16]) -> Result<u64, Refusal>;
 
-/// A reader by its two entries.
+/// Reads a batch of lines against a book: the number of lines, or a refusal with the answers untouched.
+pub type ReadBatch = fn(&[u8], &[u8], &mut [u16]) -> Result<u64, Refusal>;
+
+/// A reader by its entries.
 #[derive(Clone, Copy)]
 pub struct Reader {
     pub name: &'static str,
     pub check_book: CheckBook,
     pub read_line: ReadLine,
+    pub read_batch: ReadBatch,
 }
 
 pub const LIBRARY: Reader = Reader {
@@ -30,16 +34,22 @@ pub const LIBRARY: Reader = Reader {
         Ok(values) => Ok(values as u64),
         Err(refusal) => Err((refusal.number, refusal.value)),
     },
+    read_batch: |book, lines, answers| match vurzhelik::read_batch(book, lines, answers) {
+        Ok(count) => Ok(count as u64),
+        Err(refusal) => Err((refusal.number, refusal.value)),
+    },
 };
 
 pub const INDEPENDENT: Reader = Reader {
     name: "independent",
     check_book: independent::check_book,
     read_line: independent::read_line,
+    read_batch: independent::read_batch,
 };
 
 pub const TWIN: Reader = Reader {
     name: "twin",
     check_book: twin::check_book,
     read_line: twin::read_line,
+    read_batch: twin::read_batch,
 };

@@ -1,5 +1,5 @@
-//! Books and lines to time: a typical book with its lines, lines at the bounds where much contracts with much, books full of
-//! entries of one word, and the dearest line that a search has found. A sample's name ends with whether its line reads.
+//! Books and lines to time: a typical book with its lines and a batch of such, lines at the bounds where much contracts with much,
+//! books full of entries of one word, and the dearest line that a search has found. A sample's name ends with whether its line reads.
 mod dearest;
 mod full;
 mod hard;
@@ -7,7 +7,7 @@ mod typical;
 
 pub use full::full;
 pub use hard::{growth, hard};
-pub use typical::typical;
+pub use typical::{batch, typical};
 
 /// A simple type: a basic type's number and an exponent.
 type Simple = (u8, i8);
@@ -17,6 +17,20 @@ pub struct Sample {
     pub name: String,
     pub book: Vec<u8>,
     pub line: Vec<u8>,
+}
+
+/// A book and lines to read against it, together or one by one.
+pub struct BatchSample {
+    pub book: Vec<u8>,
+    pub lines: Vec<Vec<u8>>,
+}
+
+impl BatchSample {
+    /// The lines in one buffer, each closed.
+    pub fn together(&self) -> Vec<u8> {
+        let closed = self.lines.iter().flat_map(|line| [line, &b"\n"[..]]);
+        closed.flatten().copied().collect()
+    }
 }
 
 /// The same kind of line for several numbers of simple types.
@@ -71,6 +85,14 @@ mod tests {
         for sample in all() {
             as_named(&sample);
         }
+    }
+
+    #[test]
+    fn batch_has_32_lines_of_which_24_read() {
+        let batch = batch();
+        assert_eq!(batch.lines.len(), 32);
+        let read = |line: &&Vec<u8>| (TWIN.read_line)(&batch.book, line, &mut [0; 512]).is_ok();
+        assert_eq!(batch.lines.iter().filter(read).count(), 24);
     }
 
     #[test]

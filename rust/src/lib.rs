@@ -1,7 +1,8 @@
 //! The proved reader of order lines, behind safe functions.
 //!
 //! A *book* gives words their types, and a *line* is read against it: the first reading comes out, or a refusal. Any bytes may stand in
-//! both, of any length. Nothing is kept between calls, so several threads may call at once.
+//! both, of any length. A *batch* is several lines in one buffer, read in one call. Nothing is kept between calls, so several threads may
+//! call at once.
 //!
 //! ```
 //! // One basic type, `o`, the word `go` of that type, and `o` as the target.
@@ -47,11 +48,30 @@ mod c {
             answer_length: usize,
             value: *mut u64,
         ) -> u32;
+
+        pub fn vurzhelik_read_batch(
+            book: *const u8,
+            book_length: usize,
+            lines: *const u8,
+            lines_length: usize,
+            answers: *mut u16,
+            answers_length: usize,
+            value: *mut u64,
+        ) -> u32;
     }
 }
 
 /// How many values hold any answer: n and m, an entry for each of 24 words, a partner for each of 12 simple types a word.
 pub const MAX_VALUES: usize = 2 + 24 + 24 * 12;
+
+/// How many lines a batch has at most.
+pub const MAX_LINES: usize = 32;
+
+/// How many bytes a batch has at most, those that close its lines included.
+pub const MAX_BATCH: usize = 65_535;
+
+/// How many values hold the answers of any batch: before each answer stand a count and a number.
+pub const MAX_BATCH_VALUES: usize = MAX_LINES * (2 + MAX_VALUES);
 
 /// What the check of an accepted book returns.
 #[derive(Clone, Copy, Debug, PartialEq, Eq)]
@@ -64,10 +84,10 @@ pub struct Counts {
     pub pairs: u64,
 }
 
-/// Why a book or a line is refused.
+/// Why a book, a line or a batch is refused.
 #[derive(Clone, Copy, Debug, PartialEq, Eq)]
 pub struct Refusal {
-    /// The number of the cause, 1 to 16, as listed in [`refusals`].
+    /// The number of the cause, 1 to 18, as listed in [`refusals`].
     pub number: u32,
     /// The value returned with it: an offset, a length, a number of values, or 0.
     pub value: u64,
@@ -142,6 +162,55 @@ pub fn read_line(book: &[u8], line: &[u8], answer: &mut [u16]) -> Result<usize, 
     }
 }
 
+/// Reads up to 32 lines, each closed by byte 10, against a book, and returns how many there are. The answers then begin with a part for
+/// each line: how many values follow, the number of the line's refusal or 0, and the refusal's value or the answer, each as [`read_line`]
+/// gives it where [`MAX_VALUES`] are lent. [`parts`] takes them apart. Values behind them are as they were. A refusal of the batch or of
+/// the book leaves all answers as they were.
+///
+/// ```
+/// # let book = b"\x01\0\x01\0o\x05\0\x03\0\x02go\0\0\x01\0\x04\0\0";
+/// let mut answers = [0; vurzhelik::MAX_BATCH_VALUES];
+/// let lines = vurzhelik::read_batch(book, b"go\ngo home\n", &mut answers)?;
+/// assert_eq!(lines, 2);
+/// assert_eq!(answers[..9], [5, 0, 1, 0, 1, 1, 2, 13, 3]);
+/// # Ok::<(), vurzhelik::Refusal>(())
+/// ```
+pub fn read_batch(book: &[u8], lines: &[u8], answers: &mut [u16]) -> Result<usize, Refusal> {
+    let mut value = 0;
+    // Safety: as in `check_book`.
+    let number = unsafe {
+        c::vurzhelik_read_batch(
+            book.as_ptr(),
+            book.len(),
+            lines.as_ptr(),
+            lines.len(),
+            answers.as_mut_ptr(),
+            answers.len(),
+            &mut value,
+        )
+    };
+    match number {
+        0 => Ok(value as usize),
+        _ => Err(Refusal { number, value }),
+    }
+}
+
+/// The answer or the refusal of each of so many lines, from the answers that [`read_batch`] gave. Panics on other values.
+pub fn parts(answers: &[u16], lines: usize) -> impl Iterator<Item = Result<&[u16], Refusal>> {
+    let mut rest = answers;
+    (0..lines).map(move |_| {
+        let (part, behind) = rest[1..].split_at(rest[0].into());
+        rest = behind;
+        match part[0] {
+            0 => Ok(&part[1..]),
+            number => Err(Refusal {
+                number: number.into(),
+                value: part[1].into(),
+            }),
+        }
+    })
+}
+
 #[cfg(test)]
 mod tests {
     use super::*;
@@ -187,11 +256,45 @@ mod tests {
     }
 
     #[test]
+    fn batch_is_read() {
+        let mut answers = [7; MAX_BATCH_VALUES];
+        let lines = b"fetch bed4\n\ngo nobody\nGO\n";
+        assert_eq!(read_batch(BOOK, lines, &mut answers), Ok(4));
+        let parts: Vec<_> = parts(&answers, 4).collect();
+        let expected: [Result<&[u16], Refusal>; 4] = [
+            Ok(&[2, 0, 2, 3, 1, 3, 2]),
+            refused(refusals::NO_READING, 0),
+            refused(refusals::UNKNOWN_WORD, 3),
+            Ok(&[1, 7, 1, 1]),
+        ];
+        assert_eq!(parts, expected);
+        assert!(answers[21..].iter().all(|value| *value == 7));
+    }
+
+    #[test]
+    fn refused_batch_leaves_the_answers() {
+        let mut answers = [7; 8];
+        let bad = refused(refusals::BAD_BATCH, 0);
+        assert_eq!(read_batch(BOOK, b"go\ngo", &mut answers), bad);
+        let many = [b'\n'; MAX_LINES + 1];
+        assert_eq!(read_batch(BOOK, &many, &mut answers), bad);
+        let long = [b' '; MAX_BATCH + 1];
+        assert_eq!(read_batch(BOOK, &long, &mut answers), bad);
+        let no_target = refused(refusals::NO_TARGET, 0);
+        assert_eq!(read_batch(&[], b"go\n", &mut answers), no_target);
+        let short = refused(refusals::ANSWERS_TOO_LONG, 9);
+        assert_eq!(read_batch(BOOK, b"fetch bed4\n", &mut answers), short);
+        assert_eq!(answers, [7; 8]);
+    }
+
+    #[test]
     fn all_lists_may_be_empty() {
         let no_target = refused(refusals::NO_TARGET, 0);
         assert_eq!(read_line(&[], &[], &mut []), no_target);
         let none = refused(refusals::NO_READING, 0);
         assert_eq!(read_line(BOOK, &[], &mut []), none);
+        assert_eq!(read_batch(&[], &[], &mut []), no_target);
+        assert_eq!(read_batch(BOOK, &[], &mut []), Ok(0));
     }
 
     #[test]
@@ -249,7 +352,14 @@ mod tests {
         for (number, name, _) in refusals::LIST {
             assert_eq!(in_header(name), u64::from(number), "{name}");
         }
-        assert_eq!(in_header("MAX_VALUES"), MAX_VALUES as u64);
+        for (name, number) in [
+            ("MAX_VALUES", MAX_VALUES),
+            ("MAX_LINES", MAX_LINES),
+            ("MAX_BATCH", MAX_BATCH),
+            ("MAX_BATCH_VALUES", MAX_BATCH_VALUES),
+        ] {
+            assert_eq!(in_header(name), number as u64, "{name}");
+        }
     }
 
     #[test]

@@ -9,7 +9,7 @@ macro_rules! refusals {
         )*
 
         /// Each refusal by number, name and cause.
-        pub(crate) const LIST: [(u32, &str, &str); 16] = [$(($number, stringify!($name), $cause)),*];
+        pub(crate) const LIST: [(u32, &str, &str); 18] = [$(($number, stringify!($name), $cause)),*];
     };
 }
 
@@ -30,6 +30,8 @@ refusals! {
     TOO_MANY_SIMPLES = 14, "over 512 simple types in all entries of all words", "0";
     NO_READING = 15, "no reading", "0";
     BUFFER_TOO_SHORT = 16, "answer buffer too short", "the number of values needed";
+    BAD_BATCH = 17, "over 32 lines, over 65,535 bytes, or a last line not closed", "0";
+    ANSWERS_TOO_LONG = 18, "the answers of a batch do not fit", "the number of values needed";
 }
 
 /// The cause of a refusal in words.

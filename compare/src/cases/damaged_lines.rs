@@ -39,7 +39,7 @@ fn insert(random: &mut Random, words: &mut Vec<Vec<u8>>, word: Vec<u8>) {
 }
 
 /// A change to the list of words.
-fn damage_words(random: &mut Random, words: &mut Vec<Vec<u8>>) {
+pub fn damage_words(random: &mut Random, words: &mut Vec<Vec<u8>>) {
     match random.below(5) {
         0 => {
             let length = 31 + random.below(10);

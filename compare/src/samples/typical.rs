@@ -1,5 +1,5 @@
 //! A typical book of 1,000 entries, and lines of 6 to 12 words of which some read.
-use super::{Sample, Simple};
+use super::{BatchSample, Sample, Simple};
 use crate::books::Records;
 use crate::random::Random;
 
@@ -212,33 +212,37 @@ fn reading_line(random: &mut Random, length: usize) -> Vec<Class> {
     }
 }
 
-/// Lines of 6 to 12 words against the typical book, and one of 12 in capitals. Those without a reading end with a determiner, of which
-/// every entry wants something behind it.
+/// A line of so many words. One without a reading ends with a determiner, of which every entry wants something behind it.
+fn line(random: &mut Random, words: &[(String, Class)], length: usize, reads: bool) -> Vec<u8> {
+    let mut classes = reading_line(random, length);
+    if !reads {
+        classes[length - 1] = Determiner;
+    }
+    let line: Vec<&str> = classes
+        .iter()
+        .map(|class| {
+            let fitting: Vec<&str> = words
+                .iter()
+                .filter(|(_, other)| other == class)
+                .map(|(word, _)| word.as_str())
+                .collect();
+            *random.pick(&fitting)
+        })
+        .collect();
+    line.join(" ").into_bytes()
+}
+
+/// Lines of 6 to 12 words against the typical book, and one of 12 in capitals.
 pub fn typical() -> Vec<Sample> {
     let mut random = Random::new(1);
     let (book, words) = typical_book(&mut random);
     let mut samples = Vec::new();
     for length in 6..=12 {
         for reads in [true, false] {
-            let mut classes = reading_line(&mut random, length);
-            if !reads {
-                classes[length - 1] = Determiner;
-            }
-            let line: Vec<&str> = classes
-                .iter()
-                .map(|class| {
-                    let fitting: Vec<&str> = words
-                        .iter()
-                        .filter(|(_, other)| other == class)
-                        .map(|(word, _)| word.as_str())
-                        .collect();
-                    *random.pick(&fitting)
-                })
-                .collect();
             samples.push(Sample {
                 name: format!("typical, {length} words, {}", outcome(reads)),
                 book: book.clone(),
-                line: line.join(" ").into_bytes(),
+                line: line(&mut random, &words, length, reads),
             });
         }
     }
@@ -250,6 +254,17 @@ pub fn typical() -> Vec<Sample> {
         line: capitals,
     });
     samples
+}
+
+/// 32 lines of 6 to 12 words for the typical book, of which every fourth has no reading.
+pub fn batch() -> BatchSample {
+    let mut random = Random::new(1);
+    let (book, words) = typical_book(&mut random);
+    let lines = (0..32).map(|k| line(&mut random, &words, 6 + k % 7, k % 4 != 3));
+    BatchSample {
+        lines: lines.collect(),
+        book,
+    }
 }
 
 fn outcome(reads: bool) -> &'static str {

@@ -1,7 +1,7 @@
-//! The paper's figures, each in one place: the limits of books and lines with the sizes that follow from them, and the numbers of the
-//! refusals.
+//! The paper's figures, each in one place: the limits of books, lines and batches with the sizes that follow from them, and the numbers
+//! of the refusals.
 
-/// The limits of books and lines, and the sizes of lists that follow from them.
+/// The limits of books, lines and batches, and the sizes of lists that follow from them.
 pub mod limits {
     /// How many bytes a book has at most, and how many basic types and entries.
     pub const MAX_BOOK: usize = 65535;
@@ -35,6 +35,14 @@ pub mod limits {
     /// How many words the rows of all nodes take, and those of all places of a string and of the one behind the last.
     pub const CHART_WORDS: usize = MAX_NODES * ROW_WORDS;
     pub const TABLE_WORDS: usize = (MAX_PLACES + 1) * ROW_WORDS;
+
+    /// How many lines a batch has at most, and how many bytes.
+    pub const MAX_LINES: usize = 32;
+    pub const MAX_BATCH: usize = 65535;
+
+    /// How many values hold any answer, and the answers of any batch: before each stand a count and a number.
+    pub const MAX_VALUES: usize = 2 + MAX_WORDS + MAX_STRING;
+    pub const MAX_BATCH_VALUES: usize = MAX_LINES * (2 + MAX_VALUES);
 }
 
 /// The numbers of the refusals, each with its cause.
@@ -86,4 +94,10 @@ pub mod refusals {
 
     /// Answer buffer too short.
     pub const BUFFER_TOO_SHORT: u32 = 16;
+
+    /// Over 32 lines, over 65,535 bytes, or a last line not closed.
+    pub const BAD_BATCH: u32 = 17;
+
+    /// The answers of a batch do not fit.
+    pub const ANSWERS_TOO_LONG: u32 = 18;
 }

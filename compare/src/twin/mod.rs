@@ -2,6 +2,7 @@
 #![allow(clippy::too_many_arguments)]
 
 mod answer;
+mod batch;
 mod bits;
 mod book;
 mod chart;
@@ -39,8 +40,17 @@ pub fn check_book(book: &[u8]) -> Result<Counts, Refusal> {
 
 /// Reads a line against a book.
 pub fn read_line(book: &[u8], line: &[u8], answer: &mut [u16]) -> Result<u64, Refusal> {
-    match reader::read_line(book, line, answer) {
-        Ok(values) => Ok(values as u64),
+    wide(reader::read_line(book, line, answer))
+}
+
+/// Reads a batch of lines against a book.
+pub fn read_batch(book: &[u8], lines: &[u8], answers: &mut [u16]) -> Result<u64, Refusal> {
+    wide(batch::read_batch(book, lines, answers))
+}
+
+fn wide(answer: reader::Answer) -> Result<u64, Refusal> {
+    match answer {
+        Ok(count) => Ok(count as u64),
         Err((number, value)) => Err((number, value as u64)),
     }
 }

@@ -10,23 +10,29 @@ use super::figures::limits::{
 use super::figures::refusals::{BUFFER_TOO_SHORT, NO_READING};
 use super::graph::lay_out;
 use super::line::{check_line, CheckedLine};
-use super::order;
+use super::order::{close, Order};
 use super::rows::member;
 
 /// What reading a line answers: how many values of the buffer are the answer's, or the number of the refusal and the value returned
 /// with it; the buffer is then as it was.
-type LineAnswer = Result<usize, (u32, usize)>;
+pub type Answer = Result<usize, (u32, usize)>;
+
+/// What is kept of an accepted book beside where its entries stand: how many there are, the order and the target.
+pub struct Open {
+    entries: usize,
+    order: Order,
+    target: u8,
+}
 
 /// Reads a line against a book whose entries and order are kept.
-fn read_open(
+pub fn read_open(
     book: &[u8],
     offsets: &[u16],
-    count: usize,
-    order: &[u64],
-    target: u8,
+    open: &Open,
     line: &[u8],
     answer: &mut [u16],
-) -> LineAnswer {
+) -> Answer {
+    let (count, order, target) = (open.entries, &open.order.rows, open.target);
     let mut starts = [0usize; MAX_WORDS];
     let mut ends = [0usize; MAX_WORDS];
     let words = match check_line(book, offsets, count, line, &mut starts, &mut ends) {
@@ -93,21 +99,28 @@ fn read_open(
     Ok(needed)
 }
 
-/// Reads a line against a book: any bytes, of any length, and any lent buffer.
-#[inline(never)]
-pub fn read_line(book: &[u8], line: &[u8], answer: &mut [u16]) -> LineAnswer {
+/// Scans a book and closes its order; where the entries stand is kept in `offsets`.
+pub fn open(book: &[u8], offsets: &mut [u16]) -> Result<Open, (u32, usize)> {
     let mut names = [0u16; MAX_TYPES];
-    let mut entries = [0u16; MAX_ENTRIES];
     let mut direct = [0u64; MAX_TYPES];
-    match scan_book(book, &mut names, &mut entries, &mut direct) {
+    match scan_book(book, &mut names, offsets, &mut direct) {
         Scan::Refused { number, value } => Err((number, value)),
         Scan::Accepted {
             types,
-            entries: count,
+            entries,
             target,
-        } => {
-            let order = order::close(&direct, types);
-            read_open(book, &entries, count, &order.rows, target, line, answer)
-        }
+        } => Ok(Open {
+            entries,
+            order: close(&direct, types),
+            target,
+        }),
     }
+}
+
+/// Reads a line against a book: any bytes, of any length, and any lent buffer.
+#[inline(never)]
+pub fn read_line(book: &[u8], line: &[u8], answer: &mut [u16]) -> Answer {
+    let mut offsets = [0u16; MAX_ENTRIES];
+    let open = open(book, &mut offsets)?;
+    read_open(book, &offsets, &open, line, answer)
 }
