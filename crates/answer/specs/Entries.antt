@@ -2,10 +2,7 @@
 use Prim.Native.Nat.{ℕ, _≤_, _<_}
 use mathlib.Core.List.{List, map}
 use lib.ListN.{getD, length, take}
-
--- A value of the answer is a number of 16 bits.
-abbrev pub valueBound : ℕ
-valueBound = 65536
+use Rattle.figures.specs.Limits.{valueBound}
 
 -- The numbers of the first n slots' entries.
 unfoldable pub entryNumbers : List ℕ → List ℕ → ℕ → List ℕ

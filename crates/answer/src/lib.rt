@@ -7,7 +7,8 @@ ghost use mathlib.Core.Path.{_≡_};
 ghost use mathlib.Core.List.{_∷_, _++_};
 ghost use lib.ListN.{length, drop, set};
 ghost use Rattle.pregroup.specs.Held.{InRows};
-ghost use Rattle.answer.specs.Entries.{valueBound, entryNumbers, Enterable};
+ghost use Rattle.figures.specs.Limits.{valueBound};
+ghost use Rattle.answer.specs.Entries.{entryNumbers, Enterable};
 ghost use Rattle.answer.specs.Written.{Linkable, Writable, WroteAnswer};
 
 // Writes the number of words and the number of each word's entry: value 0 is n, value 1 + i is the number of slot i of the choice.

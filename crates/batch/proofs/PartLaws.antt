@@ -6,10 +6,9 @@ use mathlib.Core.Path.{_≡_, refl, sym, ap, subst, _∙_}
 use mathlib.Core.List.{List, [], _∷_, _++_, append-assoc}
 use lib.ListN.{length, getD, set, take, drop, replicate, length-append, length-take, length-drop, length-replicate}
 use lib.Seq.{drop-cons, take-suc, set-at, append-snoc, sets, sets-eq, take-at, drop-at, take-append-le, take-append-add, take-take, length-take-le}
-use Rattle.figures.specs.Limits.{maxValues, maxBatch, maxPart}
+use Rattle.figures.specs.Limits.{maxValues, maxBatch, maxPart, valueBound}
 use Rattle.figures.specs.Refusals.{Reply, refusal, bufferTooShort}
 use Rattle.book.specs.Format.{Bytes, Book, accepted, refused, parse}
-use Rattle.answer.specs.Entries.{valueBound}
 use Rattle.reader.specs.declared.LineAnswer.{LineAnswer}
 use Rattle.reader.specs.declared.LineAnswer.the-variants.{Read, Refused}
 use Rattle.reader.specs.Outcome.{lineReply, outcomeReply, outcome, Gives}

@@ -43,6 +43,10 @@ maxPlaces = maxString + 1
 abbrev pub maxValues : ℕ
 maxValues = 2 + maxWords + maxString
 
+-- A value of an answer has 16 bits: it is below this.
+abbrev pub valueBound : ℕ
+valueBound = 65536
+
 -- Bytes and lines of a batch (document 02, 2.2).
 abbrev pub maxBatch : ℕ
 maxBatch = 65535

@@ -2,6 +2,7 @@
 use Prim.Native.Nat.{ℕ}
 use native.Mathlib.Omega.{arith}
 use mathlib.Core.Path.{_≡_, refl, sym, subst}
+use mathlib.Core.Logic.{⊎-elim}
 use mathlib.Core.List.{List, [], _∷_}
 use borrow.Author.Tests.{ne-eqb}
 use Rattle.book.specs.Format.{Bytes, Parsed, accepted, refused, parse}
@@ -12,7 +13,10 @@ use Rattle.reader.specs.declared.LineAnswer.the-variants.{Refused as RefusedLin
 use Rattle.reader.specs.Outcome.{outcome}
 use Rattle.reader.proofs.Refusals.{NamedParse, parse-named}
 use Rattle.reader.proofs.Promises.{refusals-within}
-use Rattle.vurzhelik.specs.Calls.{Checks, answerOf}
+use Rattle.batch.specs.declared.BatchAnswer.the-variants.{Refused as RefusedBatch}
+use Rattle.batch.specs.Batch.{batchOutcome}
+use Rattle.batch.proofs.BatchPromises.{batch-refusals}
+use Rattle.vurzhelik.specs.Calls.{Checks, answerOf, batchAnswerOf}
 
 abbrev NamedCheck : BookCheck → Type 0
 NamedCheck (Accepted types entries pairs) = Unit {0}
@@ -25,7 +29,7 @@ check-named bytes = go (parse bytes) (parse-named bytes)
     go (accepted B) named = tt
     go (refused number value) named = λ z. omega (arith, named .0)
 
--- The laws that the two functions use.
+-- The laws that the functions use.
 
 pub refused-checks : (bytes : Bytes) (before : List ℕ) (number value : ℕ) → Refused number value ≡ bookCheck bytes → Checks (checkReply (bookCheck bytes)) before number value before
 refused-checks bytes before number value e =
@@ -40,3 +44,8 @@ accepted-checks bytes before types entries pairs e =
 
 pub refused-answers : (book line : Bytes) (buffer : List ℕ) (number value : ℕ) → RefusedLine number value ≡ outcome book line buffer .answer → RefusedLine number value ≡ answerOf number value
 refused-answers book line buffer number value e = rw (ne-eqb number 0 (λ z. omega (arith, refusals-within book line buffer number value (sym e) .0)))
+
+pub refused-batch : (book batch : Bytes) (buffer : List ℕ) (number value : ℕ) → RefusedBatch number value ≡ batchOutcome book batch buffer .answer
+    → RefusedBatch number value ≡ batchAnswerOf number value
+refused-batch book batch buffer number value e =
+    rw (ne-eqb number 0 (λ z. ⊎-elim (λ named. omega (arith, named .0)) (λ late. ⊎-elim (λ q. omega arith) (λ q. omega arith) late) (batch-refusals book batch buffer number value (sym e))))

@@ -7,6 +7,8 @@ use lib.Dec.{eqb}
 use Rattle.figures.specs.Refusals.{Reply}
 use Rattle.reader.specs.declared.LineAnswer.{LineAnswer}
 use Rattle.reader.specs.declared.LineAnswer.the-variants.{Read, Refused}
+use Rattle.batch.specs.declared.BatchAnswer.{BatchAnswer}
+use Rattle.batch.specs.declared.BatchAnswer.the-variants.{Answered, Refused as RefusedBatch}
 
 -- A book check's reply as a number, a value and three lent numbers. An accepted book's value is 0; a refusal leaves the three as they were.
 pub record Checks (reply : Reply) (before : List ℕ) (number value : ℕ) (after : List ℕ) : Type 0 where
@@ -14,6 +16,10 @@ pub record Checks (reply : Reply) (before : List ℕ) (number value : ℕ) (afte
   pub accepted : number ≡ 0 → (value ≡ 0) × (after ≡ reply .values)
   pub refused : (number ≡ 0 → ⊥) → (value ∷ [] ≡ reply .values) × (after ≡ before)
 
--- The answer that a number and a value stand for.
+-- The answer to a line that a number and a value stand for.
 abbrev pub answerOf : ℕ → ℕ → LineAnswer
 answerOf number value = cond (eqb number 0) (Read value) (Refused number value)
+
+-- The answer to a batch that they stand for.
+abbrev pub batchAnswerOf : ℕ → ℕ → BatchAnswer
+batchAnswerOf number value = cond (eqb number 0) (Answered value) (RefusedBatch number value)

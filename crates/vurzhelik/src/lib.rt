@@ -1,5 +1,7 @@
 // The reader for callers in C and other languages: one function for each entry, with numbers in the place of its enum, and one for the
 // version. A slice is passed as a pointer and a length. What the numbers mean is defined in specs/Calls.
+use batch::BatchAnswer;
+use batch::read_batch;
 use book::BookCheck;
 use book::check_book;
 use reader::LineAnswer;
@@ -9,13 +11,15 @@ ghost use mathlib.Core.List.{[], _∷_};
 ghost use Rattle.book.specs.Check.{bookCheck, checkReply};
 ghost use Rattle.reader.specs.Outcome.{outcome, Gives};
 ghost use Rattle.reader.specs.Demands.{Promised};
-ghost use Rattle.vurzhelik.specs.Calls.{answerOf, Checks};
+ghost use Rattle.batch.specs.Batch.{batchOutcome};
+ghost use Rattle.batch.specs.BatchDemands.{BatchPromised};
+ghost use Rattle.vurzhelik.specs.Calls.{answerOf, batchAnswerOf, Checks};
 ghost use Rattle.vurzhelik.specs.Version.{version};
 
 // The version of the interface. `specs/Version` has the same numbers for the contract, and `include/vurzhelik.h` for callers.
 const MAJOR: u32 = 1;
 
-const MINOR: u32 = 1;
+const MINOR: u32 = 2;
 
 const PATCH: u32 = 0;
 
@@ -86,6 +90,34 @@ pub extern "C" fn vurzhelik_read_line(
         }
         LineAnswer::Read { values } => {
             *value = values as u64;
+            0
+        }
+    }
+}
+
+// Reads a batch of lines, each closed by byte 10, against a book: any bytes, of any length, and any lent buffer. 0: the buffer holds the answers, and
+// `value` holds how many lines there are. Else it is refused: the number of the refusal is returned, `value` holds the value returned with it, and the
+// buffer is as it was. Book and lines are not written to.
+#[no_mangle]
+pub extern "C" fn vurzhelik_read_batch(
+    book: &[u8],
+    lines: &[u8],
+    answers: &mut [u16],
+    value: &mut u64,
+) -> u32
+    ensures { λ r. ⌜ Gives (batchOutcome (now (book .entry)) (now (lines .entry)) (now (answers .entry))) (batchAnswerOf r (now (value .exit))) (now (answers .exit)) ⌝ }
+    ensures { λ r. ⌜ BatchPromised (now (book .entry)) (now (lines .entry)) (now (answers .entry)) (batchAnswerOf r (now (value .exit))) (now (answers .exit)) ⌝ }
+{
+    match read_batch(book, lines, answers) {
+        BatchAnswer::Refused {
+            number,
+            value: with,
+        } => {
+            *value = with as u64;
+            number
+        }
+        BatchAnswer::Answered { lines: answered } => {
+            *value = answered as u64;
             0
         }
     }
