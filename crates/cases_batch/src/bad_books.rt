@@ -1,5 +1,5 @@
-// Books that are refused, each with a batch, without lines, with answers that would not fit, and with a batch that is refused itself, before the book.
-// Then accepted books with no lines and no values.
+// Books that are refused with each number from 1 to 10: beside a batch whose answer would take 6 values, beside no lines, and beside a batch that is refused
+// itself, which comes first. Then accepted books beside no lines and with no values lent.
 use crate::rows::rows_of;
 use cases::buffer::Space;
 
@@ -8,20 +8,19 @@ pub fn rows(book: &mut Space, lines: &mut Space) {
         book,
         0,
         lines,
-        b":65536=;refused-1:9:'go\n;refused-1-and-no-lines:0:;refused-1-and-none-lent:0:'go\n\x7f\n;refused-1-and-an-open-line:9:'go;\
-          :1/1;refused-2:9:'go\n;refused-2-and-no-lines:0:;refused-2-and-none-lent:0:'go\n\x7f\n;refused-2-and-an-open-line:9:'go;\
-          :0/9;refused-3:9:'go\n;refused-3-and-no-lines:0:;refused-3-and-none-lent:0:'go\n\x7f\n;refused-3-and-an-open-line:9:'go;\
-          :1 A;refused-4:9:'go\n;refused-4-and-no-lines:0:;refused-4-and-none-lent:0:'go\n\x7f\n;refused-4-and-an-open-line:9:'go;\
-          :1 o,3 \x02go\x01\x00;refused-5:9:'go\n;refused-5-and-no-lines:0:;refused-5-and-none-lent:0:'go\n\x7f\n;refused-5-and-an-open-line:9:'go;\
-          :1 o,3 \x02go\x00\x09;refused-6:9:'go\n;refused-6-and-no-lines:0:;refused-6-and-none-lent:0:'go\n\x7f\n;refused-6-and-an-open-line:9:'go;\
-          :1 o,1 o;refused-7:9:'go\n;refused-7-and-no-lines:0:;refused-7-and-none-lent:0:'go\n\x7f\n;refused-7-and-an-open-line:9:'go;\
-          :1 o,4 \x00,4 \x00;refused-8:9:'go\n;refused-8-and-no-lines:0:;refused-8-and-none-lent:0:'go\n\x7f\n;refused-8-and-an-open-line:9:'go;\
-          :65#;refused-9:9:'go\n;refused-9-and-no-lines:0:;refused-9-and-none-lent:0:'go\n\x7f\n;refused-9-and-an-open-line:9:'go;\
-          :1 o,3 \x02go\x00\x00;refused-10:9:'go\n;refused-10-and-no-lines:0:;refused-10-and-none-lent:0:'go\n\x7f\n;refused-10-and-an-open-line:9:'go;\
-          :;empty-book:9:'go\n;empty-book-and-no-lines:0:;empty-book-and-33-lines:9:33*'\n;empty-book-and-an-open-line:0:'\n ;\
-          empty-book-and-65536-bytes:9:6553*'          ,'     \n;:65536=;\
-          refused-1-and-65536-bytes:9:6553*'          ,'     \n;:1 o,4 \x00;accepted-and-no-lines:0:;accepted-and-no-lines:9:;\
-          accepted-and-none-lent:0:'\n;accepted-without-entries:9:'go\n\n;\
-          :1 o,3 \x02go\x00\x00,4 \x00;accepted-and-none-lent:0:'go\n\x7f\n;accepted:9:'go\n\x7f\n;",
+        b":65536=;book-1:5-6:'go\n;book-1-no-lines:0:;book-1-open-line:9:'go;\
+          :1/1;book-2:5-6:'go\n;book-2-no-lines:0:;book-2-open-line:9:'go;\
+          :0/9;book-3:5-6:'go\n;book-3-no-lines:0:;book-3-open-line:9:'go;\
+          :1 A;book-4:5-6:'go\n;book-4-no-lines:0:;book-4-open-line:9:'go;\
+          :1 o,3 \x02go\x01\x00;book-5:5-6:'go\n;book-5-no-lines:0:;book-5-open-line:9:'go;\
+          :1 o,3 \x02go\x00\x09;book-6:5-6:'go\n;book-6-no-lines:0:;book-6-open-line:9:'go;\
+          :1 o,1 o;book-7:5-6:'go\n;book-7-no-lines:0:;book-7-open-line:9:'go;\
+          :1 o,4 \x00,4 \x00;book-8:5-6:'go\n;book-8-no-lines:0:;book-8-open-line:9:'go;\
+          :65#;book-9:5-6:'go\n;book-9-no-lines:0:;book-9-open-line:9:'go;\
+          :1 o,3 \x02go\x00\x00;book-10:5-6:'go\n;book-10-no-lines:0:;book-10-open-line:9:'go;\
+          :;empty-book:5-6:'go\n;empty-book-no-lines:0:;empty-book-33-lines:9:33*'\n;empty-book-65536-bytes:9:6553*'          ,'     \n;\
+          :65536=;book-1-65536-bytes:9:6553*'          ,'     \n;\
+          :1 o,4 \x00;no-entries-no-lines:0:;no-entries:5-6:'go\n\n;\
+          :1 o,3 \x02go\x00\x00,4 \x00;accepted-no-lines:0:;accepted:0:'\n;accepted:8-9:'go\n\x7f\n;",
     );
 }

@@ -89,18 +89,7 @@ fn list(values: &Values, from: usize, to: usize) {
     }
 }
 
-// Writes the first and the last of many values, how many there are and their sum.
-fn list_many(values: &Values, count: usize) {
-    if count > LAST {
-        list(values, 0, FIRST);
-        io::write_all(1, b" ..");
-        list(values, count - LAST, count);
-        counted(b", values ", count);
-        counted(b", sum ", sum(values, count));
-    }
-}
-
-// Writes the values up to the last one that was written, or that none was.
+// Writes the values up to the last one that is not its mark, or that there is none. Of many it writes the first and the last, their number and their sum.
 fn show(values: &Values) {
     let count = changed(values);
     if count == 0 {
@@ -112,7 +101,11 @@ fn show(values: &Values) {
         list(values, 0, count);
         return;
     }
-    list_many(values, count);
+    list(values, 0, FIRST);
+    io::write_all(1, b" ..");
+    list(values, count - LAST, count);
+    counted(b", values ", count);
+    counted(b", sum ", sum(values, count));
 }
 
 // Writes what came back.
@@ -143,18 +136,8 @@ fn row(label: &[u8], book: &[u8], lines: &[u8], lent: usize) {
     }
 }
 
-// Writes the rows of a batch, for each number of values lent from the first to the last.
-fn lending(label: &[u8], book: &[u8], lines: &[u8], first: usize, last: usize) {
-    let mut lent = first;
-    while lent < last {
-        row(label, book, lines, lent);
-        lent += 1;
-    }
-    row(label, book, lines, last);
-}
-
-// The same for the book and the batch that the first bytes of two slices are.
-fn against(
+// Writes the rows of the book and the batch that the first bytes of two slices are, for each number of values lent from the first to the last.
+fn lending(
     label: &[u8],
     book: &[u8],
     length: usize,
@@ -169,7 +152,14 @@ fn against(
     if lines.len() < end {
         return;
     }
-    lending(label, &book[0..length], &lines[0..end], first, last);
+    let mut lent = first;
+    while lent <= last {
+        row(label, &book[0..length], &lines[0..end], lent);
+        if lent == last {
+            return;
+        }
+        lent += 1;
+    }
 }
 
 // The number behind a dash; the number that the text starts with, where it has no dash.
@@ -191,7 +181,7 @@ fn rows_of_batch(label: &[u8], book: &[u8], length: usize, lines: &mut Space, re
     let items = colon + 1;
     let end = put_items(lines, 0, &rest[items..]);
     let last = last_number(&rest[0..colon]);
-    against(label, book, length, lines, end, number(rest), last);
+    lending(label, book, length, lines, end, number(rest), last);
 }
 
 // Puts the book of a case, or writes its rows. Gives the length of the book.
