@@ -1,4 +1,5 @@
-// Batches of lines read against books: a row for each, with its name and what comes back.
+// Batches of lines read against books: a row for each, with its name, how many values are lent, what comes back, and the values that were written. All others
+// of the buffer are as they were.
 mod bad_books;
 mod batches;
 mod limits;

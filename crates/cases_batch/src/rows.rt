@@ -16,6 +16,9 @@ const VALUES: usize = 10240;
 
 type Values = [u16; VALUES];
 
+// What stands in each value before a batch is read.
+const MARK: u16 = 9999;
+
 // How many values a row shows whole, and how many of the first and of the last it shows where there are more.
 const WHOLE: usize = 160;
 
@@ -23,26 +26,12 @@ const FIRST: usize = 16;
 
 const LAST: usize = 8;
 
-// What stands at a place before a batch is read.
-fn mark(place: usize) -> u16 {
-    (40000 + place % 20000) as u16
-}
-
-// Puts the marks.
-fn put_marks(values: &mut [u16]) {
-    let mut i = 0;
-    while i < values.len() {
-        values[i] = mark(i);
-        i += 1;
-    }
-}
-
-// How many values there are up to the last one that is not its mark.
+// How many values there are up to the last one that is not the mark.
 fn changed(values: &Values) -> usize {
     let mut i = VALUES;
     while i > 0 {
         let last = i - 1;
-        if values[last] != mark(last) {
+        if values[last] != MARK {
             return i;
         }
         i = last;
@@ -89,7 +78,7 @@ fn list(values: &Values, from: usize, to: usize) {
     }
 }
 
-// Writes the values up to the last one that is not its mark, or that there is none. Of many it writes the first and the last, their number and their sum.
+// Writes the values up to the last one that is not the mark, or that there is none. Of many it writes the first and the last, their number and their sum.
 fn show(values: &Values) {
     let count = changed(values);
     if count == 0 {
@@ -125,8 +114,7 @@ fn outcome(result: BatchAnswer) {
 // Writes the row of a batch, with so many values lent.
 fn row(label: &[u8], book: &[u8], lines: &[u8], lent: usize) {
     if lent <= VALUES {
-        let mut values = [0u16; VALUES];
-        put_marks(&mut values);
+        let mut values = [MARK; VALUES];
         let result = batch::read_batch(book, lines, &mut values[..lent]);
         io::write_all(1, label);
         counted(b" lent ", lent);

@@ -22,9 +22,6 @@ mul-if1 c = omega arith
 element-copy-out-if1 : tie.Need-element-copy-out-if1 Inv-loop μ-loop
 element-copy-out-if1 c = omega arith
 
-mark-requires : tie.Need-mark-requires Inv-loop μ-loop
-mark-requires c κs = omega arith
-
 returns : tie.Need-returns Inv-loop μ-loop
 returns c = omega arith
 
@@ -47,7 +44,6 @@ changed-spec =
     sub-last
     mul-if1
     element-copy-out-if1
-    mark-requires
     returns
     loop-less
     loop-again

@@ -6,17 +6,11 @@ use native.Mathlib.Omega.{arith}
 use Rattle.cases_batch.proofs.rows.row.Statement.{statement}
 use Rattle.cases_batch.proofs.rows.row.Tie as tie
 
-slice-aggregate-put-marks : tie.Need-slice-aggregate-put-marks
-slice-aggregate-put-marks c = search needs
-
-put-marks-requires : tie.Need-put-marks-requires
-put-marks-requires c κs = search needs
-
 array-borrow-prefix-values : tie.Need-array-borrow-prefix-values
 array-borrow-prefix-values c = search needs
 
 slice-aggregate-read-batch : tie.Need-slice-aggregate-read-batch
-slice-aggregate-read-batch c = sym (length-take-le _ _ (omega (arith, c .before .before .put-marks .kept .0)))
+slice-aggregate-read-batch c = sym (length-take-le _ _ (omega arith))
 
 read-batch-requires : tie.Need-read-batch-requires
 read-batch-requires c κs = search needs
@@ -52,8 +46,6 @@ pub row-spec : {M : Type 1} → statement M
 row-spec =
     tie.close
     (tie.spec
-    slice-aggregate-put-marks
-    put-marks-requires
     array-borrow-prefix-values
     slice-aggregate-read-batch
     read-batch-requires
