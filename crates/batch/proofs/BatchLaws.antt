@@ -1,5 +1,5 @@
 -- From what the steps of reading a batch give to its outcome.
-use Prim.Native.Nat.{ℕ, _*_, _≤_, _<_}
+use Prim.Native.Nat.{ℕ, _≤_, _<_}
 use native.Mathlib.Omega.{arith}
 use mathlib.Core.Path.{_≡_, refl, sym, ap, subst, _∙_}
 use mathlib.Core.List.{List, _++_}
@@ -7,17 +7,17 @@ use mathlib.Core.Option.{some, none}
 use lib.ListN.{length, take, drop, replicate, length-replicate}
 use lib.Seq.{length-take-le}
 use borrow.Author.Tests.{lt-ltb, le-ltb}
-use Rattle.figures.specs.Limits.{maxPart, maxParts}
+use Rattle.figures.specs.Limits.{maxParts}
 use Rattle.figures.specs.Refusals.{badBatch, answersTooLong}
 use Rattle.book.specs.Format.{Bytes, Book, accepted, refused, parse}
 use Rattle.reader.specs.Outcome.{Outcome, Gives}
 use Rattle.batch.specs.declared.BatchAnswer.{BatchAnswer}
 use Rattle.batch.specs.declared.BatchAnswer.the-variants.{Answered, Refused}
-use Rattle.batch.specs.Lines.{linesOf, batchLines}
+use Rattle.batch.specs.Lines.{batchLines}
 use Rattle.batch.specs.Batch.{partsOf, givenParts, readLines, readBatch, batchOutcome}
 use Rattle.batch.specs.Splits.{Readying, StoredParts}
 use Rattle.batch.proofs.LinesLaws.{lines-found}
-use Rattle.batch.proofs.BatchPromises.{Fine, batch-fine}
+use Rattle.batch.proofs.BatchPromises.{batch-fine}
 
 -- A bad batch.
 pub gives-bad-batch : (book batch : Bytes) (before : List ℕ) → batchLines batch ≡ none → Gives (batchOutcome book batch before) (Refused badBatch 0) before

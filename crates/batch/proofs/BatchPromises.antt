@@ -10,11 +10,12 @@ use lib.Dec.{ltb}
 use lib.ListN.{length, drop, replicate, length-replicate}
 use borrow.Author.Tests.{ltb-true, ltb-false}
 use Rattle.figures.specs.Limits.{maxBatch, maxLines, maxValues}
-use Rattle.figures.specs.Refusals.{Reply, refusal, noTarget, badBatch, answersTooLong}
+use Rattle.figures.specs.Refusals.{Reply, refusal, noTarget, noReading, badBatch, answersTooLong}
+use Rattle.bits.proofs.Cases.{some-same, none-some}
 use Rattle.book.specs.Format.{Bytes, Book, Parsed, accepted, refused, parse}
 use Rattle.linking.specs.Reading.{Words}
-use Rattle.reader.specs.Outcome.{Outcome, outcomeReply, outcome, Gives}
-use Rattle.reader.specs.Demands.{Readable, TooShort}
+use Rattle.reader.specs.Outcome.{Outcome, outcome, Gives}
+use Rattle.reader.specs.Demands.{Readable, TooShort, NoChain}
 use Rattle.reader.proofs.Refusals.{NamedParse, parse-named}
 use Rattle.reader.proofs.Promises.{outcome-promised, other-number, same-value}
 use Rattle.reader.proofs.Ample.{below-short, reading-within}
@@ -23,7 +24,7 @@ use Rattle.batch.specs.declared.BatchAnswer.the-variants.{Answered, Refu
 use Rattle.batch.specs.Lines.{linesOf, upTo, batchLines, IsLines, BadBatch, more-bytes, more-lines, not-closed}
 use Rattle.batch.specs.Batch.{batchReply, aloneReply, partOf, partsOf, givenParts, readLines, readBatch, batchOutcome}
 use Rattle.batch.specs.BatchDemands.{LineGets, Parts, no-part, part, GoodBatch, BatchWritten, BatchTooLong, BatchPromised}
-use Rattle.batch.proofs.LinesLaws.{some-same, none-some, lines-found, lines-are, not-closed-none, none-not-closed}
+use Rattle.batch.proofs.LinesLaws.{lines-found, lines-are, not-closed-none, none-not-closed}
 use Rattle.batch.proofs.PartLaws.{alone-ample, alone-is}
 
 -- What a line alone gets where any answer fits is what a line of a batch gets.
@@ -45,6 +46,16 @@ line-gets book line =
       found = λ B words r entries partners reads. ⊎-elim (λ e. e) (λ t. absurd (never-lent r zeros-long (t .1))) (promised .found B words r entries partners reads);
       unread = promised .unread;
     }
+
+-- A part tells its reply.
+part-tells : {one other : Reply} → partOf one ≡ partOf other → one ≡ other
+part-tells {one} {other} e =
+    let numbers : one .number ≡ other .number = cc in
+    let values : one .values ≡ other .values = cc in
+    ap (λ (n : ℕ). record { number = n; values = one .values }) numbers ∙ ap (λ (v : List ℕ). record { number = other .number; values = v }) values
+
+pub part-unread : (book line : Bytes) (B : Book) (words : Words) → Readable book line B words → (partOf (aloneReply book line) ≡ partOf (refusal noReading 0)) ↔ NoChain B words
+part-unread book line B words r = let unread = line-gets book line .unread B words r in (λ e. unread .0 (part-tells e), λ h. ap partOf (unread .1 h))
 
 pub parts-are : (book : Bytes) (lines : List Bytes) → Parts book lines (partsOf book lines)
 unfolding partsOf

@@ -4,3 +4,5 @@ pub mod PartLaws
 pub mod StoreLaws
 pub mod BatchPromises
 pub mod BatchLaws
+pub mod Examples
+pub mod Theorems

@@ -1,28 +1,22 @@
 -- The lines of a buffer: `linesOf` gives those that the paper means, as many as there are bytes 10, and none exactly where the last is not closed.
-use Prim.Native.Nat.{ℕ, zero, suc, _+_, _-_, _≤_, _<_}
+use Prim.Native.Nat.{ℕ, zero, suc, _+_, _≤_, _<_}
 use native.Mathlib.Omega.{arith}
 use native.Mathlib.Numerals.{add-one}
 use mathlib.Core.Path.{_≡_, refl, sym, ap, subst, _∙_}
 use mathlib.Core.Bool.{Bool, true, false, cond}
-use mathlib.Core.Logic.{_↔_, ⊎-elim}
-use mathlib.Core.List.{List, [], _∷_, _++_, append-nil, List·Memᴰ, List·Memᴰ·not-nil, List·Memᴰ·head, List·Memᴰ·tail, List·Memᴰ·cases-cons}
+use mathlib.Core.Logic.{⊎-elim}
+use mathlib.Core.List.{List, [], _∷_, _++_, List·Memᴰ, List·Memᴰ·not-nil, List·Memᴰ·head, List·Memᴰ·tail, List·Memᴰ·cases-cons}
 use mathlib.Core.Option.{Option, none, some}
 use lib.Dec.{eqb}
-use lib.ListN.{length, getD, take, drop, length-drop, length-take, take-append-drop, drop-of-length-le}
-use lib.Seq.{drop-cons, drop-drop, getD-take, getD-drop, split-at, take-all, length-take-le}
-use borrow.Author.Tests.{eqb-true, eqb-false, eq-eqb, ne-eqb, lt-ltb, le-ltb, ltb-false}
+use lib.ListN.{length, getD, take, drop, drop-of-length-le}
+use lib.Seq.{drop-cons, split-at}
+use borrow.Author.Tests.{eqb-true, eqb-false, eq-eqb, ne-eqb, lt-ltb, le-ltb}
 use Rattle.figures.specs.Limits.{maxBatch, maxLines}
-use Rattle.bits.proofs.Cases.{less-or-not}
+use Rattle.bits.proofs.Cases.{less-or-not, some-same, none-some}
 use Rattle.book.specs.Format.{Bytes}
 use Rattle.batch.specs.declared.LineCount.the-variants.{Lines}
 use Rattle.batch.specs.Lines.{lineBreak, putLine, putByte, linesOf, upTo, batchLines, Unbroken, closeEach, IsLines, NotClosed}
 use Rattle.batch.specs.Splits.{breaks, ClosedSays, CountSays}
-
-pub some-same : {A : Type 0} {x y : A} → _≡_ {A = Option A} (some x) (some y) → x ≡ y
-some-same e = cc
-
-pub none-some : {A C : Type 0} {x : A} → _≡_ {A = Option A} none (some x) → C
-none-some e = let z : _≡_ {A = ℕ} 0 1 = cc in absurd (omega arith)
 
 -- One more byte in front.
 
@@ -214,7 +208,7 @@ module _ (batch : Bytes) where
   batch-long h = rw (lt-ltb maxBatch (length batch) h)
 
   module _ (short : length batch ≤ maxBatch) where
-    batch-short : batchLines batch ≡ upTo maxLines (linesOf batch)
+    pub batch-short : batchLines batch ≡ upTo maxLines (linesOf batch)
     unfolding batchLines
     batch-short = rw (le-ltb maxBatch (length batch) short)
 

@@ -7,14 +7,14 @@ use mathlib.Core.List.{List, [], _∷_, _++_, append-assoc}
 use lib.ListN.{length, getD, set, take, drop, replicate, length-append, length-take, length-drop, length-replicate}
 use lib.Seq.{drop-cons, take-suc, set-at, append-snoc, sets, sets-eq, take-at, drop-at, take-append-le, take-append-add, take-take, length-take-le}
 use Rattle.figures.specs.Limits.{maxValues, maxBatch, maxPart, valueBound}
-use Rattle.figures.specs.Refusals.{Reply, refusal, bufferTooShort}
+use Rattle.figures.specs.Refusals.{Reply, refusal}
 use Rattle.book.specs.Format.{Bytes, Book, accepted, refused, parse}
 use Rattle.reader.specs.declared.LineAnswer.{LineAnswer}
 use Rattle.reader.specs.declared.LineAnswer.the-variants.{Read, Refused}
 use Rattle.reader.specs.Outcome.{lineReply, outcomeReply, outcome, Gives}
 use Rattle.reader.proofs.Promises.{refusals-within}
 use Rattle.reader.proofs.OpeningLaws.{gives-promised}
-use Rattle.reader.proofs.Ample.{Ample, of-book, of-line, of-reading, ample, ampleReply, ample-reply}
+use Rattle.reader.proofs.Ample.{Ample, of-book, of-line, of-reading, ample, ample-reply}
 use Rattle.batch.specs.Batch.{aloneReply, partOf}
 use Rattle.batch.specs.Splits.{Put}
 

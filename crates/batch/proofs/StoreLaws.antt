@@ -1,5 +1,5 @@
 -- Reading the lines of a batch one after another: what is stored are the parts of the lines passed, and there is room for those ahead.
-use Prim.Native.Nat.{ℕ, suc, _+_, _-_, _*_, _≤_, _<_}
+use Prim.Native.Nat.{ℕ, _+_, _-_, _*_, _≤_, _<_}
 use native.Mathlib.Omega.{arith}
 use native.Mathlib.Numerals.{add-one}
 use mathlib.Core.Path.{_≡_, refl, sym, ap, subst, _∙_}
@@ -9,12 +9,12 @@ use mathlib.Core.Option.{Option, none, some}
 use lib.ListN.{length, getD, take, drop, length-drop, length-take, take-append-drop, drop-of-length-le}
 use lib.Seq.{drop-cons, drop-drop, getD-take, getD-drop, take-all}
 use Rattle.figures.specs.Limits.{maxPart}
-use Rattle.bits.proofs.Cases.{less-or-not}
+use Rattle.bits.proofs.Cases.{less-or-not, some-same, none-some}
 use Rattle.book.specs.Format.{Bytes}
 use Rattle.batch.specs.Lines.{lineBreak, putLine, linesOf, Unbroken}
 use Rattle.batch.specs.Batch.{aloneReply, partOf, partsOf}
 use Rattle.batch.specs.Splits.{LineEnd, Put, Readying, StoredParts}
-use Rattle.batch.proofs.LinesLaws.{some-same, none-some, lines-first, lines-open}
+use Rattle.batch.proofs.LinesLaws.{lines-first, lines-open}
 
 -- The bytes from one place up to another.
 abbrev pub between : Bytes → ℕ → ℕ → Bytes
@@ -80,9 +80,6 @@ reading-starts book batch store r = record {
 module _ (book batch store : List ℕ) (at used end : ℕ) (more : at < length batch) (r : Reading book batch store at used) (e : LineEnd batch at end) where
   here : FirstLine batch at end (r .rest)
   here = first-line batch at end e (r .rest) more (r .split)
-
-  pub line-closed : end < length batch
-  line-closed = here .closed
 
   pub part-room : used + maxPart ≤ length store
   part-room = omega (arith, r .room, ap length (here .first))

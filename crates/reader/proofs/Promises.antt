@@ -4,13 +4,14 @@ use native.Mathlib.Omega.{arith}
 use mathlib.Core.Path.{_≡_, refl, sym, ap, subst, _∙_}
 use mathlib.Core.Logic.{_↔_, _⊎_, inl, inr, Iff·trans}
 use mathlib.Core.Bool.{Bool, true, false, cond}
-use mathlib.Core.List.{List, [], _∷_, _++_}
+use mathlib.Core.List.{List, _∷_, _++_}
 use mathlib.Core.Option.{Option, none, some}
 use lib.Dec.{ltb}
 use lib.ListN.{length, getD, drop, length-append}
 use lib.Seq.{take-append-seam}
 use borrow.Author.Tests.{ltb-true, ltb-false}
 use Rattle.figures.specs.Refusals.{Reply, refusal, noReading, bufferTooShort}
+use Rattle.bits.proofs.Cases.{some-same, none-some}
 use Rattle.pregroup.specs.Tests.{Decides}
 use Rattle.order.specs.Closed.{below, DeclaredPairs}
 use Rattle.order.proofs.Decision.{below-decides}
@@ -52,12 +53,6 @@ given-is buffer (some a) = go (ltb (length buffer) (length (valuesOf a))) refl
     go : (b : Bool) → ltb (length buffer) (length (valuesOf a)) ≡ b → Given buffer (some a) (cond b short full .answer) (cond b short full .buffer)
     go true q = too-short (ltb-true (length buffer) (length (valuesOf a)) q)
     go false q = enough (ltb-false (length buffer) (length (valuesOf a)) q)
-
-some-same : {a b : Answer} → _≡_ {A = Option Answer} (some a) (some b) → a ≡ b
-some-same e = cc
-
-pub none-some : {C : Type 0} {a : Answer} → _≡_ {A = Option Answer} none (some a) → C
-none-some e = let z : _≡_ {A = ℕ} 0 1 = cc in absurd (omega arith)
 
 read-refused : {C : Type 0} {n number value : ℕ} → Read n ≡ Refused number value → C
 read-refused e = let z : _≡_ {A = ℕ} 0 1 = cc in absurd (omega arith)

@@ -60,6 +60,12 @@ read-parts-requires c κs =
     let s = k .before .before .before .before .before .before .before in
     (rw (c .before .before .before .before .scan2 .given .1) at (c .before .before .before .before .before .before .before .before .open-book .ensures), can-store (s .args .book .now) (s .args .lines .now) (s .args .answers .now) (split k .0) (split k .1))
 
+slice-aggregate-copy-front : tie.Need-slice-aggregate-copy-front
+slice-aggregate-copy-front c = search needs
+
+copy-front-requires : tie.Need-copy-front-requires
+copy-front-requires c κs = search needs
+
 returns-2 : tie.Need-returns-2
 returns-2 c =
     let k = c .before .before .before .before .before .before .before .before .before .before .before .before .before in
@@ -68,12 +74,6 @@ returns-2 c =
     let read = c .before .before .read-parts in
     let g = gives-too-long (s .args .book .now) (s .args .lines .now) (s .args .answers .now) (split k .0) (split k .1) (opened .1 .parsed) (read .result) _ (read .ensures) (omega arith) in
     (g, gives-batch-promised _ _ _ g)
-
-slice-aggregate-copy-front : tie.Need-slice-aggregate-copy-front
-slice-aggregate-copy-front c = search needs
-
-copy-front-requires : tie.Need-copy-front-requires
-copy-front-requires c κs = search needs
 
 returns-3 : tie.Need-returns-3
 returns-3 c =

@@ -1,4 +1,4 @@
-use borrow.Author.Needs.{needs}
+-- `batch::lines::count_breaks` meets its contract: what is counted and what is left add up to all of them.
 use native.Mathlib.Omega.{arith}
 use Prim.Native.Nat.{_+_, _-_, _≤_}
 use mathlib.Core.Path.{_≡_}
@@ -8,8 +8,6 @@ use Rattle.batch.specs.Splits.{breaks}
 use Rattle.batch.proofs.LinesLaws.{breaks-more, breaks-same, breaks-end}
 use Rattle.batch.proofs.lines.count_breaks.Statement.{statement}
 use Rattle.batch.proofs.lines.count_breaks.Tie as tie
-use Rattle.batch.proofs.lines.count_breaks.Reads as reads
-use Rattle.batch.proofs.lines.count_breaks.Lts as lts
 
 abbrev Inv-loop : tie.InvT-loop
 Inv-loop batch count₀ i₀ count i = (i ≤ length batch) × (count ≤ i) × (count + breaks (drop i batch) ≡ breaks batch)

@@ -1,3 +1,4 @@
+-- `batch::lines::count_lines` meets its contract: each test is one of those that `batchLines` makes.
 use borrow.Author.Needs.{needs}
 use native.Mathlib.Omega.{arith}
 use mathlib.Core.Path.{subst}
@@ -6,10 +7,6 @@ use Rattle.batch.specs.Splits.{ClosedSays}
 use Rattle.batch.proofs.LinesLaws.{batch-long, batch-open, batch-many, batch-counted}
 use Rattle.batch.proofs.lines.count_lines.Statement.{statement}
 use Rattle.batch.proofs.lines.count_lines.Tie as tie
-use Rattle.batch.proofs.lines.count_lines.Reads as reads
-use Rattle.batch.proofs.lines.count_lines.Lts as lts
-use Rattle.batch.proofs.lines.count_breaks.Reads as count-breaks-reads
-use Rattle.batch.proofs.lines.is_closed.Reads as is-closed-reads
 
 returns : tie.Need-returns
 returns c = batch-long (c .before .before .args .batch .now) (omega arith)

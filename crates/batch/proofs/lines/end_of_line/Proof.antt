@@ -1,4 +1,4 @@
-use borrow.Author.Needs.{needs}
+-- `batch::lines::end_of_line` meets its contract: no byte that was passed closes the line.
 use native.Mathlib.Omega.{arith}
 use Prim.Native.Nat.{ℕ, _-_, _≤_, _<_}
 use mathlib.Core.Path.{_≡_}
@@ -7,8 +7,6 @@ use Rattle.batch.specs.Lines.{lineBreak}
 use Rattle.batch.proofs.LinesLaws.{passed-more}
 use Rattle.batch.proofs.lines.end_of_line.Statement.{statement}
 use Rattle.batch.proofs.lines.end_of_line.Tie as tie
-use Rattle.batch.proofs.lines.end_of_line.Reads as reads
-use Rattle.batch.proofs.lines.end_of_line.Lts as lts
 
 abbrev Inv-loop : tie.InvT-loop
 Inv-loop batch at i₀ i = (at ≤ i) × (i ≤ length batch) × ((k : ℕ) → at ≤ k → k < i → getD batch k 0 ≡ lineBreak → ⊥)

@@ -1,3 +1,4 @@
+-- `batch::lines::is_closed` meets its contract: the last byte tells.
 use borrow.Author.Needs.{needs}
 use native.Mathlib.Omega.{arith}
 use Prim.Native.Nat.{_-_}
@@ -5,8 +6,6 @@ use lib.ListN.{length}
 use Rattle.batch.proofs.LinesLaws.{closed-nothing, closed-by-last}
 use Rattle.batch.proofs.lines.is_closed.Statement.{statement}
 use Rattle.batch.proofs.lines.is_closed.Tie as tie
-use Rattle.batch.proofs.lines.is_closed.Reads as reads
-use Rattle.batch.proofs.lines.is_closed.Lts as lts
 
 returns : tie.Need-returns
 returns c = closed-nothing (c .before .args .batch .now) (omega arith)

@@ -1,4 +1,4 @@
-use borrow.Author.Needs.{needs}
+-- `batch::parts::copy_front` meets its contract: the first i values are the store's, and those behind them as they were.
 use native.Mathlib.Omega.{arith}
 use Prim.Native.Nat.{ℕ, _+_, _-_, _≤_}
 use mathlib.Core.Path.{_≡_, refl, ap, _∙_}
@@ -7,8 +7,6 @@ use lib.ListN.{length, getD, set, take, drop, length-set}
 use Rattle.batch.proofs.PartLaws.{copy-more}
 use Rattle.batch.proofs.parts.copy_front.Statement.{statement}
 use Rattle.batch.proofs.parts.copy_front.Tie as tie
-use Rattle.batch.proofs.parts.copy_front.Reads as reads
-use Rattle.batch.proofs.parts.copy_front.Lts as lts
 
 abbrev Inv-loop : tie.InvT-loop
 Inv-loop store n answers₀ i₀ answers i = (i ≤ n) × (length answers ≡ length answers₀) × (answers ≡ take i store ++ drop i answers₀)

@@ -1,3 +1,4 @@
+-- `batch::parts::put_head` meets its contract: two stores, one behind the other.
 use borrow.Author.Needs.{needs}
 use native.Mathlib.Omega.{arith}
 use native.Mathlib.Numerals.{unary-clauses}
@@ -5,8 +6,6 @@ use mathlib.Core.Path.{refl}
 use lib.ListN.{length-set}
 use Rattle.batch.proofs.parts.put_head.Statement.{statement}
 use Rattle.batch.proofs.parts.put_head.Tie as tie
-use Rattle.batch.proofs.parts.put_head.Reads as reads
-use Rattle.batch.proofs.parts.put_head.Lts as lts
 
 add-store : tie.Need-add-store
 add-store c = search needs

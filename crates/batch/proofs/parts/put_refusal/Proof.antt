@@ -1,3 +1,4 @@
+-- `batch::parts::put_refusal` meets its contract: three stores, one behind the other.
 use borrow.Author.Needs.{needs}
 use native.Mathlib.Omega.{arith}
 use native.Mathlib.Numerals.{unary-clauses}
@@ -5,8 +6,6 @@ use mathlib.Core.Path.{refl}
 use lib.ListN.{length-set}
 use Rattle.batch.proofs.parts.put_refusal.Statement.{statement}
 use Rattle.batch.proofs.parts.put_refusal.Tie as tie
-use Rattle.batch.proofs.parts.put_refusal.Reads as reads
-use Rattle.batch.proofs.parts.put_refusal.Lts as lts
 
 mul-store : tie.Need-mul-store
 mul-store c = search needs

@@ -1,3 +1,4 @@
+-- `batch::parts::read_part` meets its contract: the rest of the store is an ample buffer, so that what is put before the answer makes it the line's part.
 use borrow.Author.Needs.{needs}
 use native.Mathlib.Omega.{arith}
 use Prim.Native.Nat.{_+_, _-_}
@@ -5,11 +6,6 @@ use lib.ListN.{length, drop}
 use Rattle.batch.proofs.PartLaws.{lent-room, refusal-small, read-counted, put-refused, put-read}
 use Rattle.batch.proofs.parts.read_part.Statement.{statement}
 use Rattle.batch.proofs.parts.read_part.Tie as tie
-use Rattle.batch.proofs.parts.read_part.Reads as reads
-use Rattle.batch.proofs.parts.read_part.Lts as lts
-use Rattle.batch.proofs.parts.put_head.Reads as put-head-reads
-use Rattle.batch.proofs.parts.put_refusal.Reads as put-refusal-reads
-use Rattle.reader.proofs.read_open.Reads as read-open-reads
 
 add-read-open : tie.Need-add-read-open
 add-read-open c = search needs

@@ -1,15 +1,11 @@
-use borrow.Author.Needs.{needs}
+-- `batch::parts::read_parts` meets its contract: the lines passed have their parts in the store, and there is room for those ahead.
 use native.Mathlib.Omega.{arith}
 use Prim.Native.Nat.{_-_}
 use mathlib.Core.Path.{_≡_, refl}
 use lib.ListN.{length, drop, length-take, length-drop}
-use Rattle.batch.proofs.StoreLaws.{Reading, reading-starts, part-room, line-closed, reading-turns, reading-ends}
+use Rattle.batch.proofs.StoreLaws.{Reading, reading-starts, part-room, reading-turns, reading-ends}
 use Rattle.batch.proofs.parts.read_parts.Statement.{statement}
 use Rattle.batch.proofs.parts.read_parts.Tie as tie
-use Rattle.batch.proofs.parts.read_parts.Reads as reads
-use Rattle.batch.proofs.parts.read_parts.Lts as lts
-use Rattle.batch.proofs.lines.end_of_line.Reads as end-of-line-reads
-use Rattle.batch.proofs.parts.read_part.Reads as read-part-reads
 
 abbrev Inv-loop : tie.InvT-loop
 Inv-loop book offsets count order target batch store₀ at₀ used₀ store at used = (length store ≡ length store₀) × Reading book batch store at used
