@@ -7,7 +7,7 @@ use mathlib.Core.Option.{some, none}
 use lib.ListN.{length, take, drop, replicate, length-replicate}
 use lib.Seq.{length-take-le}
 use borrow.Author.Tests.{lt-ltb, le-ltb}
-use Rattle.figures.specs.Limits.{maxParts}
+use Rattle.figures.specs.Limits.{maxBatchValues}
 use Rattle.figures.specs.Refusals.{badBatch, answersTooLong}
 use Rattle.book.specs.Format.{Bytes, Book, accepted, refused, parse}
 use Rattle.reader.specs.Outcome.{Outcome, Gives}
@@ -31,10 +31,10 @@ module _ (book batch : Bytes) (before : List ℕ) (lines : List Bytes) (split : 
   gives-bad-book e = record { returned = rw (split, e); left = rw (split, e) }
 
   -- The store has room for all parts.
-  pub can-store : Readying batch (replicate maxParts 0)
+  pub can-store : Readying batch (replicate maxBatchValues 0)
   can-store =
       let f = batch-fine batch split in
-      record { short = f .short; lines = lines; split = lines-found (f .are-lines); room = omega (arith, f .few, length-replicate {A = ℕ} maxParts 0) }
+      record { short = f .short; lines = lines; split = lines-found (f .are-lines); room = omega (arith, f .few, length-replicate {A = ℕ} maxBatchValues 0) }
 
   module _ {B : Book} (parsed : parse book ≡ accepted B) (used : ℕ) (store : List ℕ) (stored : StoredParts book batch used store) where
     outcome-is : batchOutcome book batch before ≡ givenParts (partsOf book lines) (length lines) before

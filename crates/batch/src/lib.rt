@@ -3,7 +3,7 @@
 // specs/Batch, and what is promised of it in specs/BatchDemands.
 use book::Scan;
 use figures::limits::MAX_ENTRIES;
-use figures::limits::MAX_PARTS;
+use figures::limits::MAX_BATCH_VALUES;
 use figures::refusals::ANSWERS_TOO_LONG;
 use figures::refusals::BAD_BATCH;
 use reader::open_book;
@@ -50,7 +50,7 @@ pub fn read_batch(book: &[u8], lines: &[u8], answers: &mut [u16]) -> BatchAnswer
             entries: count,
             target,
         } => {
-            let mut store = [0u16; MAX_PARTS];
+            let mut store = [0u16; MAX_BATCH_VALUES];
             let used = parts::read_parts(book, &entries, count, &rows, target, lines, &mut store);
             if answers.len() < used {
                 return BatchAnswer::Refused {

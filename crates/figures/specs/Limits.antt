@@ -58,8 +58,8 @@ maxLines = 32
 abbrev pub maxPart : ℕ
 maxPart = 2 + maxValues
 
-abbrev pub maxParts : ℕ
-maxParts = maxLines * maxPart
+abbrev pub maxBatchValues : ℕ
+maxBatchValues = maxLines * maxPart
 
 -- Nodes of a line's graph: a boundary for each word and one behind the last, the simple types, the target and the end.
 abbrev pub maxNodes : ℕ

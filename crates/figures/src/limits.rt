@@ -38,7 +38,7 @@ pub const MAX_LINES: usize = 32;
 // How many values a line of a batch takes at most, with the two before its answer, and how many all of its lines.
 pub const MAX_PART: usize = 2 + MAX_VALUES;
 
-pub const MAX_PARTS: usize = MAX_LINES * MAX_PART;
+pub const MAX_BATCH_VALUES: usize = MAX_LINES * MAX_PART;
 
 // How many nodes a line's graph has at most: a boundary for each word and one behind the last, the simple types, the target and the end.
 pub const MAX_NODES: usize = MAX_WORDS + MAX_LINE_SIMPLES + 3;
