@@ -2,8 +2,8 @@
 // of this call's own, and the answers are copied to the lent buffer when it is known that they fit. What reading any bytes comes to is defined in
 // specs/Batch, and what is promised of it in specs/BatchDemands.
 use book::Scan;
-use figures::limits::MAX_ENTRIES;
 use figures::limits::MAX_BATCH_VALUES;
+use figures::limits::MAX_ENTRIES;
 use figures::refusals::ANSWERS_TOO_LONG;
 use figures::refusals::BAD_BATCH;
 use reader::open_book;
@@ -14,8 +14,8 @@ ghost use Rattle.batch.specs.BatchDemands.{BatchPromised};
 mod lines;
 mod parts;
 
-// What reading a batch answers. `Answered`: the buffer holds the answers of all lines, of which there are `lines`, refused ones included. `Refused`:
-// the number of the refusal and the value returned with it; the buffer is as it was.
+// What reading a batch answers. `Answered`: the buffer holds a part for each of the `lines`, refused ones included: how many values follow, the number of
+// the line's refusal or 0, then its value or the answer. `Refused`: 17, a refusal of the book or 18, with the value returned with it; the buffer is as it was.
 pub enum BatchAnswer {
     Answered { lines: usize },
     Refused { number: u32, value: usize },
