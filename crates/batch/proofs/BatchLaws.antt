@@ -15,9 +15,9 @@ use Rattle.batch.specs.declared.BatchAnswer.{BatchAnswer}
 use Rattle.batch.specs.declared.BatchAnswer.the-variants.{Answered, Refused}
 use Rattle.batch.specs.Lines.{batchLines}
 use Rattle.batch.specs.Batch.{partsOf, givenParts, readLines, readBatch, batchOutcome}
-use Rattle.batch.specs.Splits.{Readying, StoredParts}
+use Rattle.batch.specs.Runs.{Readying, StoredParts}
 use Rattle.batch.proofs.LinesLaws.{lines-found}
-use Rattle.batch.proofs.BatchPromises.{batch-fine}
+use Rattle.batch.proofs.BatchPromises.{batch-is}
 
 -- A bad batch.
 pub gives-bad-batch : (book batch : Bytes) (before : List ℕ) → batchLines batch ≡ none → Gives (batchOutcome book batch before) (Refused badBatch 0) before
@@ -33,8 +33,8 @@ module _ (book batch : Bytes) (before : List ℕ) (lines : List Bytes) (split : 
   -- The store has room for all parts.
   pub can-store : Readying batch (replicate maxBatchValues 0)
   can-store =
-      let f = batch-fine batch split in
-      record { short = f .short; lines = lines; split = lines-found (f .are-lines); room = omega (arith, f .few, length-replicate {A = ℕ} maxBatchValues 0) }
+      let i = batch-is batch split in
+      record { short = i .short; lines = lines; split = lines-found (i .are-lines); room = omega (arith, i .few, length-replicate {A = ℕ} maxBatchValues 0) }
 
   module _ {B : Book} (parsed : parse book ≡ accepted B) (used : ℕ) (store : List ℕ) (stored : StoredParts book batch used store) where
     outcome-is : batchOutcome book batch before ≡ givenParts (partsOf book lines) (length lines) before
@@ -42,7 +42,7 @@ module _ (book batch : Bytes) (before : List ℕ) (lines : List Bytes) (split : 
     outcome-is = rw (split, parsed)
 
     parts : take used store ≡ partsOf book lines
-    parts = stored .stored lines (lines-found (batch-fine batch split .are-lines))
+    parts = stored .stored lines (lines-found (batch-is batch split .are-lines))
 
     needed : length (partsOf book lines) ≡ used
     needed = ap length (sym parts) ∙ length-take-le used store (stored .within)

@@ -7,7 +7,7 @@ use mathlib.Core.Logic.{_↔_, _⊎_, inl, inr, ⊎-elim}
 use mathlib.Core.List.{List, [], _∷_, _++_}
 use mathlib.Core.Option.{Option, none, some}
 use lib.Dec.{ltb}
-use lib.ListN.{length, drop, replicate, length-replicate}
+use lib.ListN.{length, drop, replicate}
 use borrow.Author.Tests.{ltb-true, ltb-false}
 use Rattle.figures.specs.Limits.{maxBatch, maxLines, maxValues}
 use Rattle.figures.specs.Refusals.{Reply, refusal, noTarget, noReading, badBatch, answersTooLong}
@@ -21,16 +21,13 @@ use Rattle.reader.proofs.Promises.{outcome-promised, other-number, same-value}
 use Rattle.reader.proofs.Ample.{below-short, reading-within}
 use Rattle.batch.specs.declared.BatchAnswer.{BatchAnswer}
 use Rattle.batch.specs.declared.BatchAnswer.the-variants.{Answered, Refused}
-use Rattle.batch.specs.Lines.{linesOf, upTo, batchLines, IsLines, BadBatch, more-bytes, more-lines, not-closed}
+use Rattle.batch.specs.Lines.{linesOf, upTo, batchLines, IsLines, IsBatch, BadBatch, more-bytes, more-lines, not-closed}
 use Rattle.batch.specs.Batch.{batchReply, aloneReply, partOf, partsOf, givenParts, readLines, readBatch, batchOutcome}
 use Rattle.batch.specs.BatchDemands.{LineGets, Parts, no-part, part, GoodBatch, BatchWritten, BatchTooLong, BatchPromised}
 use Rattle.batch.proofs.LinesLaws.{lines-found, lines-are, not-closed-none, none-not-closed}
-use Rattle.batch.proofs.PartLaws.{alone-ample, alone-is}
+use Rattle.batch.proofs.PartLaws.{zeros-long, alone-ample, alone-is}
 
 -- What a line alone gets where any answer fits is what a line of a batch gets.
-
-zeros-long : maxValues ≤ length (replicate {A = ℕ} maxValues 0)
-zeros-long = omega (arith, length-replicate {A = ℕ} maxValues 0)
 
 -- A first reading is never too long for them.
 never-lent : {book line : Bytes} {B : Book} {words : Words} {lent : List ℕ} {v : ℕ} → Readable book line B words → maxValues ≤ length lent → TooShort B words lent v → ⊥
@@ -69,45 +66,47 @@ parts-same no-part = refl
 parts-same {book} (part {line} {lines} {reply} {values} g p) =
     ap (λ (r : Reply). partOf r ++ values) (sym (g .alone (replicate maxValues 0) zeros-long)) ∙ ap (λ (l : List ℕ). partOf (aloneReply book line) ++ l) (parts-same p)
 
--- A batch that is no cause for 17.
-pub record Fine (batch : Bytes) (lines : List Bytes) : Type 0 where
-  pub short : length batch ≤ maxBatch
-  pub are-lines : IsLines batch lines
-  pub few : length lines ≤ maxLines
-
+-- A buffer is bad, or these are its lines.
 data Split (batch : Bytes) : Option (List Bytes) → Type 0 where
-  bad : BadBatch batch → Split batch none
-  fine : {lines : List Bytes} → Fine batch lines → Split batch (some lines)
+  bad-one : BadBatch batch → Split batch none
+  good-one : {lines : List Bytes} → IsBatch batch lines → Split batch (some lines)
 
 split-few : (batch : Bytes) → length batch ≤ maxBatch → (o : Option (List Bytes)) → linesOf batch ≡ o → Split batch (upTo maxLines o)
-split-few batch h none e = bad (not-closed (none-not-closed batch e))
+split-few batch h none e = bad-one (not-closed (none-not-closed batch e))
 split-few batch h (some lines) e = go (ltb maxLines (length lines)) refl
   where
     go : (t : Bool) → ltb maxLines (length lines) ≡ t → Split batch (cond t none (some lines))
-    go true q = bad (more-lines (lines-are batch lines e) (ltb-true _ _ q))
-    go false q = fine (record { short = h; are-lines = lines-are batch lines e; few = ltb-false _ _ q })
+    go true q = bad-one (more-lines (lines-are batch lines e) (ltb-true _ _ q))
+    go false q = good-one (record { short = h; are-lines = lines-are batch lines e; few = ltb-false _ _ q })
 
 split-batch : (batch : Bytes) → Split batch (batchLines batch)
 unfolding batchLines
 split-batch batch = go (ltb maxBatch (length batch)) refl
   where
     go : (t : Bool) → ltb maxBatch (length batch) ≡ t → Split batch (cond t none (upTo maxLines (linesOf batch)))
-    go true q = bad (more-bytes (ltb-true _ _ q))
+    go true q = bad-one (more-bytes (ltb-true _ _ q))
     go false q = split-few batch (ltb-false _ _ q) (linesOf batch) refl
 
-fine-of : {batch : Bytes} {lines : List Bytes} → Split batch (some lines) → Fine batch lines
-fine-of (fine f) = f
+good-of : {batch : Bytes} {lines : List Bytes} → Split batch (some lines) → IsBatch batch lines
+good-of (good-one i) = i
 
-pub batch-fine : (batch : Bytes) {lines : List Bytes} → batchLines batch ≡ some lines → Fine batch lines
-batch-fine batch e = fine-of (subst (Split batch) e (split-batch batch))
+pub batch-is : (batch : Bytes) {lines : List Bytes} → batchLines batch ≡ some lines → IsBatch batch lines
+batch-is batch e = good-of (subst (Split batch) e (split-batch batch))
+
+pub is-or-bad : (batch : Bytes) → ((lines : List Bytes) × IsBatch batch lines) ⊎ BadBatch batch
+is-or-bad batch = of (split-batch batch)
+  where
+    of : {o : Option (List Bytes)} → Split batch o → ((lines : List Bytes) × IsBatch batch lines) ⊎ BadBatch batch
+    of (bad-one b) = inr b
+    of (good-one {lines} i) = inl (lines, i)
 
 lines-same : {batch : Bytes} {one other : List Bytes} → IsLines batch one → IsLines batch other → one ≡ other
 lines-same i j = some-same (sym (lines-found i) ∙ lines-found j)
 
-not-bad : {batch : Bytes} {lines : List Bytes} → length batch ≤ maxBatch → IsLines batch lines → length lines ≤ maxLines → BadBatch batch → ⊥
-not-bad h i k (more-bytes l) = omega arith
-not-bad h i k (more-lines j l) = let same = ap length (lines-same i j) in omega arith
-not-bad h i k (not-closed n) = none-some (sym (not-closed-none n) ∙ lines-found i)
+pub not-bad : {batch : Bytes} {lines : List Bytes} → IsBatch batch lines → BadBatch batch → ⊥
+not-bad i (more-bytes l) = omega (arith, i .short)
+not-bad i (more-lines j l) = let same = ap length (lines-same (i .are-lines) j) in omega (arith, i .few)
+not-bad i (not-closed n) = none-some (sym (not-closed-none n) ∙ lines-found (i .are-lines))
 
 accepted-refused : {C : Type 0} {p : Parsed} {B : Book} {number value : ℕ} → p ≡ accepted B → p ≡ refused number value → C
 accepted-refused e f = let z : _≡_ {A = ℕ} 0 1 = cc in absurd (omega arith)
@@ -116,7 +115,7 @@ module _ (book batch : Bytes) (buffer : List ℕ) where
   -- What the outcome came to, with its cause.
   data BatchCame : BatchAnswer → List ℕ → Type 0 where
     refused-batch : BadBatch batch → BatchCame (Refused badBatch 0) buffer
-    refused-book : {lines : List Bytes} {number value : ℕ} → Fine batch lines → parse book ≡ refused number value → (0 < number) × (number ≤ noTarget)
+    refused-book : {lines : List Bytes} {number value : ℕ} → IsBatch batch lines → parse book ≡ refused number value → (0 < number) × (number ≤ noTarget)
         → BatchCame (Refused number value) buffer
     too-many : {lines : List Bytes} {values : List ℕ} → GoodBatch book batch lines values → length buffer < length values → BatchCame (Refused answersTooLong (length values)) buffer
     all-answered : {lines : List Bytes} {values : List ℕ} → GoodBatch book batch lines values → length values ≤ length buffer
@@ -137,48 +136,44 @@ module _ (book batch : Bytes) (buffer : List ℕ) where
       go true q = too-many good (ltb-true _ _ q)
       go false q = all-answered good (ltb-false _ _ q)
 
-  came-by-book : {lines : List Bytes} → Fine batch lines → (p : Parsed) → parse book ≡ p → NamedParse p
+  came-by-book : {lines : List Bytes} → IsBatch batch lines → (p : Parsed) → parse book ≡ p → NamedParse p
       → BatchCame (readLines p book lines buffer .answer) (readLines p book lines buffer .buffer)
   unfolding readLines
-  came-by-book f (refused number value) e named = refused-book f e named
-  came-by-book {lines} f (accepted B) e named =
-      came-given (partsOf book lines)
-      (record { short = f .short; are-lines = f .are-lines; few = f .few; contents = B; book-accepted = e; parts = parts-are book lines })
+  came-by-book i (refused number value) e named = refused-book i e named
+  came-by-book {lines} i (accepted B) e named =
+      came-given (partsOf book lines) (record { is-batch = i; contents = B; book-accepted = e; parts = parts-are book lines })
 
   came-by-batch : {o : Option (List Bytes)} → Split batch o → BatchCame (readBatch o book buffer .answer) (readBatch o book buffer .buffer)
   unfolding readBatch
-  came-by-batch (bad b) = refused-batch b
-  came-by-batch (fine f) = came-by-book f (parse book) refl (parse-named book)
+  came-by-batch (bad-one b) = refused-batch b
+  came-by-batch (good-one i) = came-by-book i (parse book) refl (parse-named book)
 
   came : BatchCame (batchOutcome book batch buffer .answer) (batchOutcome book batch buffer .buffer)
   came = came-by-batch (split-batch batch)
 
   good-not-bad : {lines : List Bytes} {values : List ℕ} → GoodBatch book batch lines values → BadBatch batch → ⊥
-  good-not-bad g = not-bad (g .short) (g .are-lines) (g .few)
-
-  fine-not-bad : {lines : List Bytes} → Fine batch lines → BadBatch batch → ⊥
-  fine-not-bad f = not-bad (f .short) (f .are-lines) (f .few)
+  good-not-bad g = not-bad (g .is-batch)
 
   -- The values of a batch are determined.
   good-same : {lines others : List Bytes} {values more : List ℕ} → GoodBatch book batch lines values → GoodBatch book batch others more → length values ≡ length more
   good-same g h =
-      ap length (parts-same (g .parts) ∙ ap (partsOf book) (lines-same (g .are-lines) (h .are-lines)) ∙ sym (parts-same (h .parts)))
+      ap length (parts-same (g .parts) ∙ ap (partsOf book) (lines-same (g .is-batch .are-lines) (h .is-batch .are-lines)) ∙ sym (parts-same (h .parts)))
 
   untouched-of : {answer : BatchAnswer} {after : List ℕ} → BatchCame answer after → (batchReply answer .number ≡ 0 → ⊥) → after ≡ buffer
   untouched-of (refused-batch b) h = refl
-  untouched-of (refused-book f e named) h = refl
+  untouched-of (refused-book i e named) h = refl
   untouched-of (too-many g l) h = refl
   untouched-of (all-answered g l) h = absurd (h refl)
 
   bad-batch-of : {answer : BatchAnswer} {after : List ℕ} → BatchCame answer after → (batchReply answer ≡ refusal badBatch 0) ↔ BadBatch batch
   bad-batch-of (refused-batch b) = (λ h. b, λ c. refl)
-  bad-batch-of (refused-book {number = n} f e named) = (λ h. other-number {r = batchReply (Refused n _)} (omega arith) h, λ c. absurd (fine-not-bad f c))
+  bad-batch-of (refused-book {number = n} i e named) = (λ h. other-number {r = batchReply (Refused n _)} (omega arith) h, λ c. absurd (not-bad i c))
   bad-batch-of (too-many g l) = (λ h. other-number (omega arith) h, λ c. absurd (good-not-bad g c))
   bad-batch-of (all-answered g l) = (λ h. other-number (omega arith) h, λ c. absurd (good-not-bad g c))
 
   bad-book-of : {answer : BatchAnswer} {after : List ℕ} → BatchCame answer after → (BadBatch batch → ⊥) → (number value : ℕ) → parse book ≡ refused number value → batchReply answer ≡ refusal number value
   bad-book-of (refused-batch b) h number value q = absurd (h b)
-  bad-book-of (refused-book {number = n} {value = v} f e named) h number value q =
+  bad-book-of (refused-book {number = n} {value = v} i e named) h number value q =
       let numbers : n ≡ number = cc in
       let values : v ≡ value = cc in
       cc
@@ -187,19 +182,19 @@ module _ (book batch : Bytes) (buffer : List ℕ) where
 
   written-of : {answer : BatchAnswer} {after : List ℕ} → BatchCame answer after → batchReply answer .number ≡ 0 → BatchWritten book batch buffer answer after
   written-of (refused-batch b) h = absurd (omega arith)
-  written-of (refused-book f e named) h = absurd (omega arith)
+  written-of (refused-book i e named) h = absurd (omega arith)
   written-of (too-many g l) h = absurd (omega arith)
   written-of (all-answered {lines} {values} g l) h = record { lines = lines; values = values; good = g; counted = refl; room = l; behind = refl }
 
   found-of : {answer : BatchAnswer} {after : List ℕ} → BatchCame answer after → (lines : List Bytes) (values : List ℕ) → GoodBatch book batch lines values → length values ≤ length buffer → batchReply answer .number ≡ 0
   found-of (refused-batch b) lines values good h = absurd (good-not-bad good b)
-  found-of (refused-book f e named) lines values good h = accepted-refused (good .book-accepted) e
+  found-of (refused-book i e named) lines values good h = accepted-refused (good .book-accepted) e
   found-of (too-many g l) lines values good h = let same = good-same g good in absurd (omega arith)
   found-of (all-answered g l) lines values good h = refl
 
   too-long-of : {answer : BatchAnswer} {after : List ℕ} → BatchCame answer after → (v : ℕ) → (batchReply answer ≡ refusal answersTooLong v) ↔ BatchTooLong book batch buffer v
   too-long-of (refused-batch b) v = (λ h. other-number (omega arith) h, λ t. absurd (good-not-bad (t .good) b))
-  too-long-of (refused-book {number = n} f e named) v = (λ h. other-number {r = batchReply (Refused n _)} (omega arith) h, λ t. accepted-refused (t .good .book-accepted) e)
+  too-long-of (refused-book {number = n} i e named) v = (λ h. other-number {r = batchReply (Refused n _)} (omega arith) h, λ t. accepted-refused (t .good .book-accepted) e)
   too-long-of (too-many {lines} {values} g l) v = (
     λ h. let q : length values ≡ v = same-value h in record { lines = lines; values = values; good = g; needed = sym q; lent = omega arith },
     λ t. ap (refusal answersTooLong) (good-same g (t .good) ∙ sym (t .needed)),
@@ -211,7 +206,7 @@ module _ (book batch : Bytes) (buffer : List ℕ) where
 
   named-of : {answer : BatchAnswer} {after : List ℕ} → BatchCame answer after → (number value : ℕ) → answer ≡ Refused number value → ((0 < number) × (number ≤ noTarget)) ⊎ ((number ≡ badBatch) ⊎ (number ≡ answersTooLong))
   named-of (refused-batch b) number value h = inr (inl cc)
-  named-of (refused-book {number = n} f e named) number value h = let same : n ≡ number = cc in inl (omega arith)
+  named-of (refused-book {number = n} i e named) number value h = let same : n ≡ number = cc in inl (omega arith)
   named-of (too-many g l) number value h = inr (inr cc)
   named-of (all-answered g l) number value h = let z : _≡_ {A = ℕ} 0 1 = cc in absurd (omega arith)
 

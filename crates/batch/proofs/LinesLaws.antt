@@ -16,7 +16,7 @@ use Rattle.bits.proofs.Cases.{less-or-not, some-same, none-some}
 use Rattle.book.specs.Format.{Bytes}
 use Rattle.batch.specs.declared.LineCount.the-variants.{Lines}
 use Rattle.batch.specs.Lines.{lineBreak, putLine, putByte, linesOf, upTo, batchLines, Unbroken, closeEach, IsLines, NotClosed}
-use Rattle.batch.specs.Splits.{breaks, ClosedSays, CountSays}
+use Rattle.batch.specs.Runs.{breaks, ClosedSays, CountSays}
 
 -- One more byte in front.
 

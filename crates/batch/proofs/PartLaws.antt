@@ -16,17 +16,22 @@ use Rattle.reader.proofs.Promises.{refusals-within}
 use Rattle.reader.proofs.OpeningLaws.{gives-promised}
 use Rattle.reader.proofs.Ample.{Ample, of-book, of-line, of-reading, ample, ample-reply}
 use Rattle.batch.specs.Batch.{aloneReply, partOf}
-use Rattle.batch.specs.Splits.{Put}
+use Rattle.batch.specs.Runs.{Put}
+
+-- The zeros that are lent for a line alone are ample.
+pub zeros-long : maxValues ≤ length (replicate {A = ℕ} maxValues 0)
+zeros-long = omega (arith, length-replicate {A = ℕ} maxValues 0)
 
 module _ (book line : Bytes) where
   -- A line alone gets the same with every ample buffer.
   pub alone-ample : (lent : List ℕ) → maxValues ≤ length lent → outcomeReply (outcome book line lent) ≡ aloneReply book line
-  alone-ample lent h = ample-reply book line lent h ∙ sym (ample-reply book line (replicate maxValues 0) (omega (arith, length-replicate {A = ℕ} maxValues 0)))
+  alone-ample lent h = ample-reply book line lent h ∙ sym (ample-reply book line (replicate maxValues 0) zeros-long)
 
   -- What it gets is a reply where any answer fits.
   pub alone-is : Ample book line (aloneReply book line)
-  alone-is = subst (Ample book line) (sym (ample-reply book line (replicate maxValues 0) (omega (arith, length-replicate {A = ℕ} maxValues 0)))) (ample book line)
+  alone-is = subst (Ample book line) (sym (ample-reply book line (replicate maxValues 0) zeros-long)) (ample book line)
 
+-- It has few values, and one that comes with a refusal of the line is within the line.
 values-of : {book line : Bytes} {reply : Reply} → Ample book line reply → length (reply .values) ≤ maxValues
 values-of (of-book e h) = omega arith
 values-of (of-line h k) = omega arith
@@ -68,6 +73,7 @@ take-sets vs l i h =
     ap (take (i + length vs)) (sets-eq vs l i h) ∙ take-at (take i l ++ vs) (drop (i + length vs) l) (i + length vs) front
 
 module _ (book line : Bytes) (lent : List ℕ) (enough : maxValues ≤ length lent) where
+  -- What is given with such a buffer is that.
   gives-alone : {answer : LineAnswer} {after : List ℕ} → Gives (outcome book line lent) answer after → aloneReply book line ≡ lineReply answer after
   gives-alone {answer} {after} g =
       sym (alone-ample book line lent enough)

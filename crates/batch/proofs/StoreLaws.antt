@@ -13,7 +13,7 @@ use Rattle.bits.proofs.Cases.{less-or-not, some-same, none-some}
 use Rattle.book.specs.Format.{Bytes}
 use Rattle.batch.specs.Lines.{lineBreak, putLine, linesOf, Unbroken}
 use Rattle.batch.specs.Batch.{aloneReply, partOf, partsOf}
-use Rattle.batch.specs.Splits.{LineEnd, Put, Readying, StoredParts}
+use Rattle.batch.specs.Runs.{LineEnd, Put, Readying, StoredParts}
 use Rattle.batch.proofs.LinesLaws.{lines-first, lines-open}
 
 -- The bytes from one place up to another.

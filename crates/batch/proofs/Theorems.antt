@@ -16,11 +16,11 @@ use Rattle.reader.specs.Outcome.{lineReply, outcomeReply, outcome}
 use Rattle.reader.specs.Demands.{Readable, NoChain}
 use Rattle.reader.proofs.Ample.{ample-reply, never-short}
 use Rattle.batch.specs.declared.BatchAnswer.the-variants.{Refused}
-use Rattle.batch.specs.Lines.{linesOf, IsLines, NotClosed}
+use Rattle.batch.specs.Lines.{linesOf, IsLines, NotClosed, IsBatch, BadBatch}
 use Rattle.batch.specs.Batch.{aloneReply, partOf, partsOf, batchOutcome}
 use Rattle.batch.specs.BatchDemands.{LineGets, Parts, BatchPromised}
 use Rattle.batch.proofs.LinesLaws.{lines-found, lines-are, not-closed-none, none-not-closed}
-use Rattle.batch.proofs.BatchPromises.{line-gets, parts-are, parts-same, part-unread, batch-promised, batch-refusals}
+use Rattle.batch.proofs.BatchPromises.{is-or-bad, not-bad, line-gets, parts-are, parts-same, part-unread, batch-promised, batch-refusals}
 
 module _ (bytes : Bytes) where
   -- The lines of a buffer are those that, each closed, make it up, and of which no byte closes one.
@@ -30,6 +30,10 @@ module _ (bytes : Bytes) where
   -- There are none exactly where it ends with another byte than 10.
   pub no-lines-exactly : (linesOf bytes ≡ none) ↔ NotClosed bytes
   no-lines-exactly = (none-not-closed bytes, not-closed-none)
+
+  -- It is a batch, or bad in one of three ways, and never both.
+  pub batch-or-bad : (((lines : List Bytes) × IsBatch bytes lines) ⊎ BadBatch bytes) × ((lines : List Bytes) → IsBatch bytes lines → BadBatch bytes → ⊥)
+  batch-or-bad = (is-or-bad bytes, λ lines. not-bad)
 
 module _ (book line : Bytes) (lent : List ℕ) (enough : maxValues ≤ length lent) where
   -- Where `maxValues` values are lent, a line never gets 16 ..

@@ -5,7 +5,7 @@ use mathlib.Core.Path.{_≡_}
 use mathlib.Core.Logic.{_↔_}
 use mathlib.Core.List.{List, [], _∷_, _++_}
 use lib.ListN.{length, drop}
-use Rattle.figures.specs.Limits.{maxBatch, maxLines, maxValues}
+use Rattle.figures.specs.Limits.{maxValues}
 use Rattle.figures.specs.Refusals.{Reply, refusal, noReading, bufferTooShort, badBatch, answersTooLong}
 use Rattle.book.specs.Format.{Bytes, Book, accepted, refused, parse}
 use Rattle.linking.specs.Reading.{Words, IsReading, IsFirst}
@@ -13,7 +13,7 @@ use Rattle.reader.specs.Outcome.{outcomeReply, valuesOf, outcome}
 use Rattle.reader.specs.Demands.{OrderOf, Readable, NoChain}
 use Rattle.batch.specs.declared.BatchAnswer.{BatchAnswer}
 use Rattle.batch.specs.declared.BatchAnswer.the-variants.{Answered}
-use Rattle.batch.specs.Lines.{IsLines, BadBatch}
+use Rattle.batch.specs.Lines.{IsBatch, BadBatch}
 use Rattle.batch.specs.Batch.{batchReply, partOf}
 
 -- The values are the first reading, whole.
@@ -45,9 +45,7 @@ pub data Parts (book : Bytes) : List Bytes → List ℕ → Type 0 where
 
 -- Neither 17 nor the book is cause for a refusal; these are the lines and the values of their answers.
 pub record GoodBatch (book batch : Bytes) (lines : List Bytes) (values : List ℕ) : Type 0 where
-  pub short : length batch ≤ maxBatch
-  pub are-lines : IsLines batch lines
-  pub few : length lines ≤ maxLines
+  pub is-batch : IsBatch batch lines
   pub contents : Book
   pub book-accepted : parse book ≡ accepted contents
   pub parts : Parts book lines values

@@ -1,5 +1,5 @@
 -- Document 02, 2.2, "A morning's lines together", on what is handed over: the lines of a buffer, each closed by byte 10, and when they are no batch.
-use Prim.Native.Nat.{ℕ, _<_}
+use Prim.Native.Nat.{ℕ, _≤_, _<_}
 use mathlib.Core.Path.{_≡_}
 use mathlib.Core.Bool.{cond}
 use mathlib.Core.List.{List, [], _∷_, _++_, List·Memᴰ}
@@ -53,6 +53,12 @@ closeEach (line ∷ lines) = line ++ (lineBreak ∷ closeEach lines)
 pub record IsLines (bytes : Bytes) (lines : List Bytes) : Type 0 where
   pub joined : bytes ≡ closeEach lines
   pub unbroken : (line : Bytes) → List·Memᴰ line lines → Unbroken line
+
+-- They are the lines of a batch: few enough, in few enough bytes.
+pub record IsBatch (batch : Bytes) (lines : List Bytes) : Type 0 where
+  pub short : length batch ≤ maxBatch
+  pub are-lines : IsLines batch lines
+  pub few : length lines ≤ maxLines
 
 -- The last line is not closed: the buffer ends with another byte.
 pub record NotClosed (bytes : Bytes) : Type 0 where

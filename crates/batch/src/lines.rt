@@ -5,7 +5,7 @@ use figures::limits::MAX_LINES;
 ghost use Prim.Native.Nat.{_≤_};
 ghost use mathlib.Core.Path.{_≡_};
 ghost use lib.ListN.{length};
-ghost use Rattle.batch.specs.Splits.{breaks, ClosedSays, LineEnd, CountSays};
+ghost use Rattle.batch.specs.Runs.{breaks, ClosedSays, LineEnd, CountSays};
 
 // The byte that closes a line.
 const LINE_BREAK: u8 = 10;

@@ -10,7 +10,7 @@ ghost use lib.Seq.{sets};
 ghost use Rattle.figures.specs.Limits.{maxBatch, maxPart, valueBound};
 ghost use Rattle.reader.specs.Runs.{IsOpen};
 ghost use Rattle.batch.specs.Batch.{aloneReply, partOf};
-ghost use Rattle.batch.specs.Splits.{Put, Readying, StoredParts};
+ghost use Rattle.batch.specs.Runs.{Put, Readying, StoredParts};
 
 // Puts a refused line's part at a place, and gives the place behind it.
 fn put_refusal(store: &mut [u16], at: usize, number: u32, value: usize) -> usize

@@ -4,7 +4,7 @@ use Prim.Native.Nat.{_+_, _-_, _≤_}
 use mathlib.Core.Path.{_≡_}
 use mathlib.Core.Logic.{⊎-elim}
 use lib.ListN.{length, drop}
-use Rattle.batch.specs.Splits.{breaks}
+use Rattle.batch.specs.Runs.{breaks}
 use Rattle.batch.proofs.LinesLaws.{breaks-more, breaks-same, breaks-end}
 use Rattle.batch.proofs.lines.count_breaks.Statement.{statement}
 use Rattle.batch.proofs.lines.count_breaks.Tie as tie

@@ -3,7 +3,7 @@ use borrow.Author.Needs.{needs}
 use native.Mathlib.Omega.{arith}
 use mathlib.Core.Path.{subst}
 use borrow.Author.Tests.{not-true, not-false}
-use Rattle.batch.specs.Splits.{ClosedSays}
+use Rattle.batch.specs.Runs.{ClosedSays}
 use Rattle.batch.proofs.LinesLaws.{batch-long, batch-open, batch-many, batch-counted}
 use Rattle.batch.proofs.lines.count_lines.Statement.{statement}
 use Rattle.batch.proofs.lines.count_lines.Tie as tie
