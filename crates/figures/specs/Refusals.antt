@@ -8,6 +8,7 @@ pub record Reply : Type 0 where
   pub number : ℕ
   pub values : List ℕ
 
+-- The answer of a refusal.
 abbrev pub refusal : ℕ → ℕ → Reply
 refusal number value = record { number = number; values = value ∷ [] }
 
