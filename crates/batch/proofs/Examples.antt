@@ -16,7 +16,7 @@ use Rattle.linking.specs.Reading.{firstEntry, firstBehind, firstReading}
 use Rattle.book.specs.Format.{Bytes, every, twoBytes, nameByte, isName, exponentOf, simplesOf, isEntry, exponentListed, sameBytes, bodyRules, recordRules, firstBroken, add, ended, recordsFrom, parse}
 use Rattle.book.proofs.PaperBooks.{fetch, bed4, admit, site, go, firstBook}
 use Rattle.line.specs.LineWords.{wordsFrom}
-use Rattle.line.specs.Capitals.{small, sameWord}
+use Rattle.lookup.specs.Capitals.{small, sameWord}
 use Rattle.line.specs.LineFaults.{entriesFrom, byteFault, wordFault, entryFault, simplesIn, simplesOfWords, lineCheck}
 use Rattle.reader.specs.Outcome.{Outcome, given, readAgainst, readParsed}
 use Rattle.reader.proofs.Table.{lineOf}

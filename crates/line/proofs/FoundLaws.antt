@@ -14,7 +14,7 @@ use Rattle.linking.specs.Reading.{NumberedEntry}
 use Rattle.book.specs.Format.{Bytes, bodyAt, typePart, wordOf}
 use Rattle.book.proofs.Layouts.{entry-shape}
 use Rattle.line.specs.LineFaults.{simplesIn}
-use Rattle.line.specs.Capitals.{sameWord}
+use Rattle.lookup.specs.Capitals.{sameWord}
 use Rattle.line.specs.LookUp.{Entries, entryAt, entriesAt, FoundEntries, Tallyable, Tallied}
 use Rattle.line.proofs.LookUpLaws.{simples-length, left, left-same, left-other, left-end}
 

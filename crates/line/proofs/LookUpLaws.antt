@@ -12,7 +12,7 @@ use Rattle.book.specs.Format.{Bytes, Entry, Book, bodyAt, entryOf, simplesOf}
 use Rattle.book.specs.Kept.{bodiesAt, Store, Opened}
 use Rattle.book.proofs.Names.{bodies-length, bodies-at}
 use Rattle.line.specs.LineFaults.{entriesFrom}
-use Rattle.line.specs.Capitals.{sameWord}
+use Rattle.lookup.specs.Capitals.{sameWord}
 use Rattle.line.specs.LookUp.{entriesKept, Entries, entryAt}
 
 -- Two bytes a simple type.

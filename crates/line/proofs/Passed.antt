@@ -20,7 +20,7 @@ use Rattle.book.proofs.Accepted.{AllShort}
 use Rattle.line.specs.Passing.{AllKnown, no-word, known, Brief, AllBrief, no-words, brief}
 use Rattle.line.specs.LineWords.{Word, wordsOf}
 use Rattle.line.specs.LineFaults.{entriesFrom, entriesOf, entriesOfLine, byteFault, wordFault, entryFault, simplesOfWords, LineCheck, passed, stopped, orElse, lineCheck}
-use Rattle.line.specs.Capitals.{sameWord}
+use Rattle.lookup.specs.Capitals.{sameWord}
 
 -- Every entry's number is n or more.
 abbrev NumbersFrom : ℕ → List NumberedEntry → Type 0

@@ -10,8 +10,8 @@ use Rattle.figures.specs.Limits.{maxBook}
 use Rattle.figures.specs.Refusals.{bookTooLong, cutShort, noTarget}
 use Rattle.book.specs.Format.{Bytes, Book, Entry, Draft, Parsed, accepted, refused, every, between, headLength, twoBytes, kindAt, bodyAt, nextAt, byKind, recordOf, entryBody, isEntry, entryOf, bodyRules, recordRules, firstBroken, add, nextRules, nextDraft, ended, recordsFrom, parse}
 use Rattle.book.proofs.RecordLaws.{size-first, kind-first, body-first, rest-first, size-at, kind-at, body-at, rest-at, word-part, type-part}
-use Rattle.line.specs.Capitals.{smallBytes, DifferInCase, same-rest, same-record, respelt}
-use Rattle.line.proofs.CapitalLaws.{small-every, same-exactly, same-length}
+use Rattle.lookup.specs.Capitals.{smallBytes, DifferInCase, same-rest, same-record, respelt}
+use Rattle.lookup.proofs.CapitalLaws.{small-every, same-exactly, same-length}
 use Rattle.line.proofs.SmallLines.{smallEntry, smallBook}
 
 -- What a list of bytes is as a book, with the capitals of words made small.

@@ -8,10 +8,10 @@ use lib.Dec.{eqb}
 use lib.ListN.{length-map}
 use Rattle.linking.specs.Reading.{NumberedEntry, Words}
 use Rattle.book.specs.Format.{Bytes, Book, Entry}
-use Rattle.line.specs.Capitals.{small, smallBytes}
+use Rattle.lookup.specs.Capitals.{small, smallBytes}
 use Rattle.line.specs.LineWords.{Word, putBefore, wordsFrom, wordsOf}
 use Rattle.line.specs.LineFaults.{entriesFrom, entriesOf, byteFault, wordFault, entryFault, lineCheck}
-use Rattle.line.proofs.CapitalLaws.{small-space, small-between, small-bytes-twice, same-respelt}
+use Rattle.lookup.proofs.CapitalLaws.{small-space, small-between, small-bytes-twice, same-respelt}
 
 -- An entry, a book and a word of a line with capitals made small.
 abbrev pub smallEntry : Entry → Entry

@@ -1,7 +1,5 @@
 -- A line: its words, what it is refused for before it is read (11 to 14), and its words' entries.
 pub mod LineWords
-pub mod Capitals
-pub mod Letters
 pub mod LineFaults
 pub mod Split
 pub mod LookUp

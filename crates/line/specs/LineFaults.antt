@@ -11,7 +11,7 @@ use Rattle.figures.specs.Refusals.{badLineByte, badWord, unknownWord, tooManySi
 use Rattle.book.specs.Format.{Bytes, Book, Entry, between}
 use Rattle.linking.specs.Reading.{NumberedEntry, Words}
 use Rattle.line.specs.LineWords.{Word, wordsOf}
-use Rattle.line.specs.Capitals.{sameWord}
+use Rattle.lookup.specs.Capitals.{sameWord}
 
 -- The entries of a word, numbered as they stand in the book: the rest of its entries, and the number of the first of them.
 unfoldable pub entriesFrom : ℕ → List Entry → Bytes → List NumberedEntry

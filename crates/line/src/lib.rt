@@ -1,8 +1,7 @@
 // A line: any bytes at all. Its words are found where they stand, and it is refused for a byte, a word, a word without an entry or too
 // many simple types, in this order.
-pub mod letters;
-pub mod lookup;
 pub mod split;
+pub mod words;
 
 // What splitting a line gives: how many words it has, or the number that it is refused with and the value returned with it.
 pub enum CheckedLine {

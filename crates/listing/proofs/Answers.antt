@@ -15,7 +15,7 @@ use Rattle.linking.specs.Reading.{take as chosen-entry}
 use Rattle.book.specs.Format.{Bytes, Entry, Book}
 use Rattle.line.specs.LineWords.{Word, wordsOf}
 use Rattle.line.specs.LineFaults.{entriesFrom, entriesOf}
-use Rattle.line.specs.Capitals.{sameWord}
+use Rattle.lookup.specs.Capitals.{sameWord}
 use Rattle.line.proofs.Passed.{line-passing}
 use Rattle.reader.specs.declared.LineAnswer.the-variants.{Read}
 use Rattle.reader.specs.Outcome.{valuesOf}

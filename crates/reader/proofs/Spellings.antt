@@ -15,7 +15,7 @@ use Rattle.linking.specs.Reading.{NumberedEntry, firstEntry, firstBehind, first
 use Rattle.book.specs.Format.{Bytes, Entry, every, twoBytes, nameByte, isName, exponentOf, simplesOf, isEntry, exponentListed, sameBytes, bodyRules, recordRules, firstBroken, add, ended, recordsFrom, parse}
 use Rattle.book.proofs.PaperBooks.{typeRecord, entryRecord, targetRecord, join, types, entries, fetch, bed4, ward7, firstBook}
 use Rattle.line.specs.LineWords.{wordsFrom}
-use Rattle.line.specs.Capitals.{small, sameWord, DifferInCase, same-rest, same-record, respelt}
+use Rattle.lookup.specs.Capitals.{small, sameWord, DifferInCase, same-rest, same-record, respelt}
 use Rattle.line.specs.LineFaults.{entriesFrom, byteFault, wordFault, entryFault, simplesIn, simplesOfWords, lineCheck}
 use Rattle.reader.specs.Outcome.{Outcome, given, readAgainst, readParsed, outcome}
 use Rattle.reader.specs.declared.LineAnswer.{LineAnswer}

@@ -14,7 +14,7 @@ use Rattle.linking.specs.Reading.{Answer, firstEntry, firstBehind, firstReading
 use Rattle.book.specs.Format.{Bytes, every, twoBytes, nameByte, isName, exponentOf, simplesOf, isEntry, exponentListed, sameBytes, bodyRules, recordRules, firstBroken, add, ended, recordsFrom, parse}
 use Rattle.book.proofs.PaperBooks.{typeRecord, pairRecord, entryRecord, targetRecord, join, fetch, bed4, ward7, urgently, admit, site, go, please, log, firstBook, secondBook}
 use Rattle.line.specs.LineWords.{wordsFrom}
-use Rattle.line.specs.Capitals.{small, sameWord}
+use Rattle.lookup.specs.Capitals.{small, sameWord}
 use Rattle.line.specs.LineFaults.{entriesFrom, byteFault, wordFault, entryFault, simplesIn, simplesOfWords, lineCheck}
 use Rattle.reader.specs.Outcome.{Outcome, valuesOf, given, readAgainst, readParsed, outcome}
 use Rattle.reader.specs.declared.LineAnswer.{LineAnswer}

@@ -30,8 +30,8 @@ use Rattle.book.specs.Format.{Bytes, nothingYet, recordsFrom}
 use Rattle.book.specs.Check.{bookCheck, checkReply, BookPromised}
 use Rattle.book.proofs.Parsing.{bound-never-ends}
 use Rattle.book.proofs.Promises.{check-promised, one-answer}
-use Rattle.line.specs.Capitals.{small, smallBytes, sameWord, DifferInCase}
-use Rattle.line.proofs.CapitalLaws.{CapitalOf, NoCapital, alike-exactly, same-reflexive, same-symmetric, same-transitive, equal-words, same-without-capitals}
+use Rattle.lookup.specs.Capitals.{small, smallBytes, sameWord, DifferInCase}
+use Rattle.lookup.proofs.CapitalLaws.{CapitalOf, NoCapital, alike-exactly, same-reflexive, same-symmetric, same-transitive, equal-words, same-without-capitals}
 use Rattle.reader.specs.declared.LineAnswer.the-variants.{Refused}
 use Rattle.reader.specs.Outcome.{outcome}
 use Rattle.reader.specs.Demands.{Promised}

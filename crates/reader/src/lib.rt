@@ -18,7 +18,7 @@ use figures::refusals::BUFFER_TOO_SHORT;
 use figures::refusals::NO_READING;
 use graph::layout::lay_out;
 use line::CheckedLine;
-use line::lookup::check_line;
+use line::words::check_line;
 ghost use Prim.Native.Nat.{_≤_};
 ghost use lib.ListN.{length};
 ghost use Rattle.figures.specs.Limits.{maxEntries};
