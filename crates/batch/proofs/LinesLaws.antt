@@ -12,7 +12,7 @@ use lib.ListN.{length, getD, take, drop, drop-of-length-le}
 use lib.Seq.{drop-cons, split-at}
 use borrow.Author.Tests.{eqb-true, eqb-false, eq-eqb, ne-eqb, lt-ltb, le-ltb}
 use Rattle.figures.specs.Limits.{maxBatch, maxLines}
-use Rattle.bits.proofs.Cases.{less-or-not, some-same, none-some}
+use Rattle.bits.proofs.Cases.{some-same, none-some}
 use Rattle.book.specs.Format.{Bytes}
 use Rattle.batch.specs.declared.LineCount.the-variants.{Lines}
 use Rattle.batch.specs.Lines.{lineBreak, putLine, putByte, linesOf, upTo, batchLines, Unbroken, closeEach, IsLines, NotClosed}
@@ -195,11 +195,6 @@ none-not-closed (b ∷ bytes) h =
           let c = ends-closed (take (length bytes) (b ∷ bytes)) in
           none-some (sym h ∙ ap linesOf (ends ∙ ap (λ (x : ℕ). take (length bytes) (b ∷ bytes) ++ (x ∷ [])) q) ∙ c .2);
     }
-
--- No byte passed closes the line, and the next one does not either.
-pub passed-more : (batch : Bytes) (at i : ℕ) → ((k : ℕ) → at ≤ k → k < i → getD {A = ℕ} batch k 0 ≡ lineBreak → ⊥) → (getD {A = ℕ} batch i 0 ≡ lineBreak → ⊥)
-    → (k : ℕ) → at ≤ k → k < i + 1 → getD {A = ℕ} batch k 0 ≡ lineBreak → ⊥
-passed-more batch at i passed next k h l q = ⊎-elim (λ before. passed k h before q) (λ here. next (subst (λ (x : ℕ). getD {A = ℕ} batch x 0 ≡ lineBreak) (omega arith) q)) (less-or-not k i)
 
 -- The lines of a batch, by the tests in their order.
 module _ (batch : Bytes) where

@@ -10,15 +10,20 @@ use lib.ListN.{length, getD, take, drop, length-drop, length-take, take-append-d
 use lib.Seq.{drop-cons, drop-drop, getD-take, getD-drop, take-all}
 use Rattle.figures.specs.Limits.{maxPart}
 use Rattle.bits.proofs.Cases.{less-or-not, some-same, none-some}
+use Rattle.bytewise.specs.First.{First}
 use Rattle.book.specs.Format.{Bytes}
 use Rattle.batch.specs.Lines.{lineBreak, putLine, linesOf, Unbroken}
 use Rattle.batch.specs.Batch.{aloneReply, partOf, partsOf}
-use Rattle.batch.specs.Runs.{LineEnd, Put, Readying, StoredParts}
+use Rattle.batch.specs.Runs.{Put, Readying, StoredParts}
 use Rattle.batch.proofs.LinesLaws.{lines-first, lines-open}
 
 -- The bytes from one place up to another.
 abbrev pub between : Bytes → ℕ → ℕ → Bytes
 between batch at end = take (end - at) (drop at batch)
+
+-- The line that starts at a place ends there: at the next byte that closes one, or with the batch.
+abbrev pub EndsAt : Bytes → ℕ → ℕ → Type 0
+EndsAt batch at end = (end ≤ length batch) × First (λ (k : ℕ). getD {A = ℕ} batch k 0 ≡ lineBreak) at (length batch) end
 
 -- The line from a place to its end, and the lines behind it.
 pub record FirstLine (batch : Bytes) (at end : ℕ) (rest : List Bytes) : Type 0 where
@@ -27,20 +32,20 @@ pub record FirstLine (batch : Bytes) (at end : ℕ) (rest : List Bytes) : Type 0
   pub first : rest ≡ between batch at end ∷ lines
   pub behind : linesOf (drop (end + 1) batch) ≡ some lines
 
-module _ (batch : Bytes) (at end : ℕ) (e : LineEnd batch at end) where
+module _ (batch : Bytes) (at end : ℕ) (e : EndsAt batch at end) where
   first-unbroken : Unbroken (between batch at end)
   first-unbroken k h =
       let inside : k < end - at = omega (arith, length-take (end - at) (drop at batch)) in
-      rw (getD-take (end - at) (drop at batch) k 0 inside, getD-drop at batch k 0) (e .unbroken (at + k) (omega arith) (omega (arith, e .behind)))
+      rw (getD-take (end - at) (drop at batch) k 0 inside, getD-drop at batch k 0) (e .1 .passed (at + k) (omega arith) (omega (arith, e .1 .forth)) (omega (arith, e .0, e .1 .forth)))
 
   bytes-behind : drop (end - at) (drop at batch) ≡ drop end batch
-  bytes-behind = let place : at + (end - at) ≡ end = omega (arith, e .behind) in drop-drop (end - at) at batch ∙ ap (λ (n : ℕ). drop n batch) place
+  bytes-behind = let place : at + (end - at) ≡ end = omega (arith, e .1 .forth) in drop-drop (end - at) at batch ∙ ap (λ (n : ℕ). drop n batch) place
 
   split-first : end < length batch → drop at batch ≡ between batch at end ++ (lineBreak ∷ drop (end + 1) batch)
   split-first h =
       sym (take-append-drop (end - at) (drop at batch))
       ∙ ap (λ (l : Bytes). between batch at end ++ l)
-      (bytes-behind ∙ drop-cons batch end 0 h ∙ ap (λ (n : ℕ). getD {A = ℕ} batch end 0 ∷ drop n batch) (sym (add-one end)) ∙ ap (λ (b : ℕ). b ∷ drop (end + 1) batch) (e .closed h))
+      (bytes-behind ∙ drop-cons batch end 0 h ∙ ap (λ (n : ℕ). getD {A = ℕ} batch end 0 ∷ drop n batch) (sym (add-one end)) ∙ ap (λ (b : ℕ). b ∷ drop (end + 1) batch) (e .1 .stops h))
 
   first-put : (o : Option (List Bytes)) (rest : List Bytes) → end < length batch → linesOf (drop (end + 1) batch) ≡ o → putLine (between batch at end) o ≡ some rest
       → FirstLine batch at end rest
@@ -77,7 +82,7 @@ reading-starts book batch store r = record {
   stored = λ lines e. ap (partsOf book) (some-same (sym e ∙ r .split));
 }
 
-module _ (book batch store : List ℕ) (at used end : ℕ) (more : at < length batch) (r : Reading book batch store at used) (e : LineEnd batch at end) where
+module _ (book batch store : List ℕ) (at used end : ℕ) (more : at < length batch) (r : Reading book batch store at used) (e : EndsAt batch at end) where
   here : FirstLine batch at end (r .rest)
   here = first-line batch at end e (r .rest) more (r .split)
 

@@ -1,11 +1,11 @@
--- What the steps of reading a batch ask and give: where lines end, how many there are, and how their parts are stored.
-use Prim.Native.Nat.{ℕ, _+_, _*_, _≤_, _<_}
+-- What the steps of reading a batch ask and give: how many lines there are, and how their parts are stored.
+use Prim.Native.Nat.{ℕ, _+_, _*_, _≤_}
 use mathlib.Core.Path.{_≡_}
 use mathlib.Core.Bool.{Bool, true, false, cond}
 use mathlib.Core.List.{List, [], _∷_, _++_}
 use mathlib.Core.Option.{none, some}
 use lib.Dec.{eqb}
-use lib.ListN.{length, getD, take}
+use lib.ListN.{length, take}
 use Rattle.figures.specs.Limits.{maxBatch, maxPart}
 use Rattle.book.specs.Format.{Bytes}
 use Rattle.batch.specs.declared.LineCount.{LineCount}
@@ -27,13 +27,6 @@ ClosedSays batch false = linesOf batch ≡ none
 abbrev pub CountSays : Bytes → LineCount → Type 0
 CountSays batch (Lines n) = (lines : List Bytes) × (batchLines batch ≡ some lines) × (length lines ≡ n)
 CountSays batch Bad = batchLines batch ≡ none
-
--- The line that starts at a place ends there: nothing before closes it, and what stands there does.
-pub record LineEnd (batch : Bytes) (at end : ℕ) : Type 0 where
-  pub behind : at ≤ end
-  pub inside : end ≤ length batch
-  pub unbroken : (k : ℕ) → at ≤ k → k < end → getD {A = ℕ} batch k 0 ≡ lineBreak → ⊥
-  pub closed : end < length batch → getD {A = ℕ} batch end 0 ≡ lineBreak
 
 -- A part is put behind the first values of a store, of which there are `used` before and `next` then.
 pub record Put (part : List ℕ) (used : ℕ) (before : List ℕ) (next : ℕ) (after : List ℕ) : Type 0 where

@@ -1,14 +1,12 @@
-// The lines of a batch: how many there are, and where each ends.
+// The lines of a batch: how many there are, and the byte that closes each.
 use crate::LineCount;
 use figures::limits::MAX_BATCH;
 use figures::limits::MAX_LINES;
-ghost use Prim.Native.Nat.{_≤_};
 ghost use mathlib.Core.Path.{_≡_};
-ghost use lib.ListN.{length};
-ghost use Rattle.batch.specs.Runs.{breaks, ClosedSays, LineEnd, CountSays};
+ghost use Rattle.batch.specs.Runs.{breaks, ClosedSays, CountSays};
 
 // The byte that closes a line.
-const LINE_BREAK: u8 = 10;
+pub const LINE_BREAK: u8 = 10;
 
 // How many bytes close a line.
 fn count_breaks(batch: &[u8]) -> usize
@@ -51,19 +49,4 @@ pub fn count_lines(batch: &[u8]) -> LineCount
         return LineCount::Bad;
     }
     LineCount::Lines(count)
-}
-
-// Where the line that starts at a place is closed; the batch's length, where it is not.
-pub fn end_of_line(batch: &[u8], at: usize) -> usize
-    requires { ⌜ at ≤ length (now batch) ⌝ }
-    ensures { λ r. ⌜ LineEnd (now (batch .entry)) at r ⌝ }
-{
-    let mut i = at;
-    while i < batch.len() {
-        if batch[i] == LINE_BREAK {
-            return i;
-        }
-        i += 1;
-    }
-    i
 }

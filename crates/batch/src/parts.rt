@@ -1,5 +1,6 @@
 // The parts of a batch's answers, each a count, a number and the values of a line's answer or refusal, one behind another in a store.
-use crate::lines::end_of_line;
+use crate::lines::LINE_BREAK;
+use bytewise::search::find_byte;
 use reader::LineAnswer;
 use reader::read_open;
 ghost use Prim.Native.Nat.{_+_, _≤_, _<_};
@@ -80,7 +81,7 @@ pub fn read_parts(
     let mut at = 0;
     let mut used = 0;
     while at < batch.len() {
-        let end = end_of_line(batch, at);
+        let end = find_byte(batch, at, LINE_BREAK);
         let line = &batch[at..end];
         used = read_part(book, offsets, count, order, target, line, store, used);
         at = end + 1;

@@ -5,7 +5,6 @@ pub mod Layouts
 pub mod Simples
 pub mod Faults
 pub mod Names
-pub mod Comparing
 pub mod RecordLaws
 pub mod WholeRecords
 pub mod NoFault

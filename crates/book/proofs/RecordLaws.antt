@@ -1,12 +1,20 @@
--- Records written out: what the format's functions read off a record that stands first, off the record at an offset, and off an entry's body.
+-- What the code reads off two bytes, and records written out: what the format's functions read off a record that stands first, off the record at an
+-- offset, and off an entry's body.
 use Prim.Native.Nat.{ℕ, _+_}
 use native.Mathlib.Omega.{arith}
 use native.Mathlib.Nat.{add-zero, add-assoc}
+use native.Mathlib.Numerals.{add-one}
 use mathlib.Core.Path.{_≡_, sym, ap, _∙_}
 use mathlib.Core.List.{_++_}
 use lib.ListN.{length, take, drop}
 use lib.Seq.{getD-drop, drop-drop, take-append-seam, drop-append-seam}
+use Rattle.bytewise.specs.Compare.{littleEndian, ReadsNumber}
 use Rattle.book.specs.Format.{Bytes, twoBytes, kindAt, bodyAt, nextAt, recordOf, wordOf, typePart, entryBody}
+
+-- The number that the code reads off two bytes is the format's.
+pub two-bytes-read : {bytes : Bytes} {at r : ℕ} → ReadsNumber 2 bytes at r → r ≡ twoBytes bytes at
+unfolding littleEndian twoBytes
+two-bytes-read {at = at} n = rw (add-one at) (omega (arith, n .value))
 
 -- The record that stands first.
 module _ (kind : ℕ) (body rest : Bytes) where

@@ -1,5 +1,4 @@
--- A book: its byte format with refusals 1 to 10, what the book check answers and promises, what the code keeps, and the numbers that bytes are compared by.
+-- A book: its byte format with refusals 1 to 10, what the book check answers and promises, and what the code keeps.
 pub mod Format
 pub mod Kept
 pub mod Check
-pub mod Compare

@@ -1,31 +1,22 @@
 // The layout of a record's body: byte ranges for names, words and exponents, and the layouts built from them, as specs/Format
 // has them.
-use crate::widths::wide_byte;
+use bytewise::widths::two_bytes;
+use bytewise::widths::wide_byte;
 use figures::limits::MAX_ENTRY_SIMPLES;
 use figures::limits::MAX_EXPONENT;
 use figures::limits::MAX_NAME;
 use figures::limits::MAX_WORD;
 ghost use mathlib.Core.Path.{_≡_};
 ghost use mathlib.Core.Bool.{true};
-ghost use Prim.Native.Nat.{_+_, _≤_, _<_};
+ghost use Prim.Native.Nat.{_≤_};
 ghost use lib.ListN.{length};
-ghost use Rattle.book.specs.Compare.{ReadsNumber};
-ghost use Rattle.book.specs.Format.{twoBytes, bodyAt, nextAt, nameByte, isName, between, exponentOf, exponentListed, isEntry, wordOf, typePart, every};
+ghost use Rattle.book.specs.Format.{bodyAt, nextAt, nameByte, isName, between, exponentOf, exponentListed, isEntry, wordOf, typePart, every};
 
 // The bytes of a record's head: the body's length and the kind.
 pub const HEAD: usize = 4;
 
 // The byte of the least exponent, in two's complement.
 pub const LEAST_EXPONENT: u8 = 255 - (MAX_EXPONENT - 1);
-
-// The little-endian number of the two bytes from `at` on.
-pub fn two_bytes(bytes: &[u8], at: usize) -> usize
-    requires { ⌜ at + 1 < length (now bytes) ⌝ }
-    ensures { λ r. ⌜ r ≡ twoBytes (now (bytes .entry)) at ⌝ }
-    ensures { λ r. ⌜ ReadsNumber 2 (now (bytes .entry)) at r ⌝ }
-{
-    wide_byte(bytes[at]) + 256 * wide_byte(bytes[at + 1])
-}
 
 // The body of the record at an offset, which is there whole.
 pub fn body_at(book: &[u8], at: usize) -> &[u8]

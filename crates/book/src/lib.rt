@@ -4,12 +4,10 @@ ghost use Rattle.book.specs.Check.{bookCheck, checkReply, BookPromised};
 use figures::limits::MAX_ENTRIES;
 use figures::limits::MAX_TYPES;
 
-pub mod compare;
 pub mod layout;
 pub mod record_reader;
 pub mod records;
 pub mod rules;
-pub mod widths;
 
 // A reader of a book's records: the book and the offset of the next record (document 01, "The earliest bad record decides").
 pub struct RecordReader<'a> {

@@ -1,15 +1,15 @@
 // The rules for one record: which of the numbers 2 to 9 it is refused with, the smallest, or 0. The functions go by the record's kind,
 // each over the record's body as a part of the book.
-use crate::compare::same;
 use crate::layout::HEAD;
 use crate::layout::body_at;
 use crate::layout::is_entry;
 use crate::layout::is_exponent;
 use crate::layout::is_name;
-use crate::layout::two_bytes;
 use crate::layout::type_part;
-use crate::widths::wide_byte;
-use crate::widths::wide_number;
+use bytewise::compare::same;
+use bytewise::widths::two_bytes;
+use bytewise::widths::wide_byte;
+use bytewise::widths::wide_number;
 use figures::limits::MAX_ENTRIES;
 use figures::limits::MAX_TYPES;
 use figures::refusals::BAD_LAYOUT;

@@ -3,7 +3,7 @@ use crate::Place;
 use book::layout::LEAST_EXPONENT;
 use book::layout::body_at;
 use book::layout::type_part;
-use book::widths::wide_number;
+use bytewise::widths::wide_number;
 use figures::limits::MAX_ENTRIES;
 use line::words::find_entries;
 use line::words::tally_found;

@@ -14,8 +14,8 @@ use Rattle.figures.specs.Refusals.{badWord}
 use Rattle.book.specs.Format.{Bytes}
 use Rattle.line.specs.LineWords.{Word, wordsOf}
 use Rattle.line.specs.LineFaults.{byteFault, wordFault}
-use Rattle.line.specs.Split.{wordAt, wordsKept, Skipped, Spelt, Lying, SplitInto, Stopped, at-word}
-use Rattle.line.proofs.WordLaws.{wordsHere, words-end}
+use Rattle.line.specs.Split.{wordAt, wordsKept, Skipped, Lying, SplitInto, Stopped, at-word}
+use Rattle.line.proofs.WordLaws.{wordsHere, words-end, Spelt}
 
 -- What stands from a place on does not matter to the words before it.
 kept-set :

@@ -2,7 +2,7 @@
 use Prim.Native.Nat.{ℕ, zero, suc, _+_, _-_, _≤_, _<_}
 use native.Mathlib.Numerals.{add-one}
 use native.Mathlib.Omega.{arith}
-use native.Mathlib.Decide.{ℕ-discrete}
+use native.Mathlib.Decide.{decLt}
 use mathlib.Core.Path.{_≡_, refl, sym, ap, subst, _∙_}
 use mathlib.Core.Bool.{Bool, true, false, cond}
 use mathlib.Core.List.{List, [], _∷_}
@@ -11,6 +11,8 @@ use lib.Dec.{eqb}
 use lib.ListN.{length, getD, take, drop, drop-of-length-le}
 use lib.Seq.{drop-cons}
 use borrow.Author.Tests.{eq-eqb, ne-eqb}
+use Rattle.bytewise.specs.First.{First}
+use Rattle.bytewise.proofs.Searching.{Passed}
 use Rattle.book.specs.Format.{Bytes, between}
 use Rattle.line.specs.LineWords.{Word, putBefore, wordsFrom}
 use Rattle.line.specs.LineFaults.{byteFault}
@@ -71,25 +73,11 @@ module _ (line : Bytes) where
   unfolding wordsFrom
   words-end i h = rw (drop-of-length-le line h)
 
-  -- No space stands from `at` up to i.
-  abbrev pub Spelling : ℕ → ℕ → Type 0
-  Spelling at i = (k : ℕ) → at ≤ k → k < i → getD {A = ℕ} line k 0 ≡ 32 → ⊥
-
-  pub spelling-start : (at : ℕ) → Spelling at at
-  spelling-start at k a b = absurd (omega arith)
-
-  pub spelling-more : (at i : ℕ) → (getD {A = ℕ} line i 0 ≡ 32 → ⊥) → Spelling at i → Spelling at (i + 1)
-  spelling-more at i n s k a b = go (ℕ-discrete k i)
-    where
-      go : Dec (k ≡ i) → getD {A = ℕ} line k 0 ≡ 32 → ⊥
-      go (yes e) = rw e n
-      go (no d) = s k a (omega (arith, d))
-
   word-cons : (at i : ℕ) → at < i → at < length line → wordAt line at i ≡ record { at = at; bytes = getD {A = ℕ} line at 0 ∷ wordAt line (at + 1) i .bytes }
   word-cons at i h k = let one : i - at ≡ suc (i - (at + 1)) = omega arith in rw (one, drop-cons line at 0 k, add-one at)
 
   -- A word is spelt: no space stands in it, and no word starts right behind it.
-  word-spelt : (n at i : ℕ) → at + suc n ≡ i → i ≤ length line → StartFrom (i + 1) (wordsHere i) → Spelling at i → wordsHere at ≡ wordAt line at i ∷ wordsHere i
+  word-spelt : (n at i : ℕ) → at + suc n ≡ i → i ≤ length line → StartFrom (i + 1) (wordsHere i) → Passed (λ (k : ℕ). getD {A = ℕ} line k 0 ≡ 32) at i → wordsHere at ≡ wordAt line at i ∷ wordsHere i
   word-spelt zero at i e h behind s =
       let one : at + 1 ≡ i = omega arith in
       let none-left : i - (at + 1) ≡ 0 = omega arith in
@@ -103,12 +91,30 @@ module _ (line : Bytes) where
       ∙ (rw (eq-eqb (at + 1) (at + 1) refl))
       ∙ sym (ap (λ (w : Word). w ∷ wordsHere i) (word-cons at i (omega arith) (omega arith)))
 
-  -- What follows it is a space or nothing.
-  pub word-space : (at i : ℕ) → at < i → i < length line → getD {A = ℕ} line i 0 ≡ 32 → Spelling at i → wordsHere at ≡ wordAt line at i ∷ wordsHere i
-  word-space at i h k e = word-spelt (i - suc at) at i (omega arith) (omega arith) (subst (StartFrom (i + 1)) (sym (words-space i k e)) (start-from (i + 1) (drop (i + 1) line)))
+  -- A word stands from `at` up to `end`.
+  pub record Spelt (at end : ℕ) : Type 0 where
+    pub some-bytes : at < end
+    pub inside : end ≤ length line
+    pub same : wordsHere at ≡ wordAt line at end ∷ wordsHere end
 
-  pub word-end : (at i : ℕ) → at < i → length line ≡ i → Spelling at i → wordsHere at ≡ wordAt line at i ∷ wordsHere i
-  word-end at i h k = word-spelt (i - suc at) at i (omega arith) (omega arith) (subst (StartFrom (i + 1)) (sym (words-end i (omega arith))) no-word)
+  -- It ends at the next space, or with the line.
+  pub word-found : (at end : ℕ) → at < length line → (getD {A = ℕ} line at 0 ≡ 32 → ⊥)
+      → (end ≤ length line) × First (λ (k : ℕ). getD {A = ℕ} line k 0 ≡ 32) at (length line) end → Spelt at end
+  word-found at end h n found = record {
+    some-bytes = some;
+    inside = found .0;
+    same = word-spelt (end - suc at) at end (omega (arith, some)) (found .0) (behind (decLt end (length line))) (λ k a b. found .1 .passed k a b (omega (arith, found .0)));
+  }
+    where
+      moved : end ≡ at → ⊥
+      moved e = n (subst (λ (k : ℕ). getD {A = ℕ} line k 0 ≡ 32) e (found .1 .stops (omega arith)))
+
+      some : at < end
+      some = omega (arith, moved, found .1 .forth)
+
+      behind : Dec (end < length line) → StartFrom (end + 1) (wordsHere end)
+      behind (yes l) = subst (StartFrom (end + 1)) (sym (words-space end l (found .1 .stops l))) (start-from (end + 1) (drop (end + 1) line))
+      behind (no l) = subst (StartFrom (end + 1)) (sym (words-end end (omega (arith, l)))) no-word
 
   -- 11: bytes that a line may have are passed, and the first other one is found.
   pub byte-fine : (i : ℕ) → i < length line → between 32 126 (getD {A = ℕ} line i 0) ≡ true → byteFault i (drop i line) ≡ byteFault (i + 1) (drop (i + 1) line)

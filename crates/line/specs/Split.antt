@@ -28,12 +28,6 @@ pub record Skipped (line : Bytes) (from at : ℕ) : Type 0 where
   pub same : wordsFrom from (drop from line) ≡ wordsFrom at (drop at line)
   pub stops : at < length line → getD {A = ℕ} line at 0 ≡ 32 → ⊥
 
--- A word stands from `at` up to `end`.
-pub record Spelt (line : Bytes) (at end : ℕ) : Type 0 where
-  pub some-bytes : at < end
-  pub inside : end ≤ length line
-  pub same : wordsFrom at (drop at line) ≡ wordAt line at end ∷ wordsFrom end (drop end line)
-
 -- Each kept word lies within the line, is not empty and not too long.
 abbrev pub Lying : Bytes → List ℕ → List ℕ → ℕ → Type 0
 Lying line starts ends count =

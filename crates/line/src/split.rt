@@ -1,5 +1,6 @@
 // The words of a line, and refusals 11 and 12.
 use crate::CheckedLine;
+use bytewise::search::find_byte;
 use figures::limits::MAX_WORD;
 use figures::limits::MAX_WORDS;
 use figures::refusals::BAD_LINE_BYTE;
@@ -7,13 +8,13 @@ use figures::refusals::BAD_WORD;
 ghost use mathlib.Core.Path.{_≡_};
 ghost use mathlib.Core.Bool.{cond};
 ghost use mathlib.Core.Option.{none, some};
-ghost use Prim.Native.Nat.{_≤_, _<_};
+ghost use Prim.Native.Nat.{_≤_};
 ghost use lib.Dec.{ltb};
-ghost use lib.ListN.{length, getD};
+ghost use lib.ListN.{length};
 ghost use Rattle.figures.specs.Limits.{maxWords};
 ghost use Rattle.book.specs.Format.{between};
 ghost use Rattle.line.specs.LineFaults.{byteFault};
-ghost use Rattle.line.specs.Split.{Skipped, Spelt, SplitSays};
+ghost use Rattle.line.specs.Split.{Skipped, SplitSays};
 
 // Whether a line may have this byte: 32 to 126.
 fn is_line_byte(byte: u8) -> bool
@@ -54,21 +55,6 @@ fn skip_spaces(line: &[u8], from: usize) -> usize
     i
 }
 
-// Where the word that starts at `at` ends: at the next space, or at the line's end.
-fn end_of_word(line: &[u8], at: usize) -> usize
-    requires { ⌜ (at < length (now line)) × (getD (now line) at 0 ≡ 32 → ⊥) ⌝ }
-    ensures { λ r. ⌜ Spelt (now (line .entry)) at r ⌝ }
-{
-    let mut i = at;
-    while i < line.len() {
-        if line[i] == b' ' {
-            return i;
-        }
-        i += 1;
-    }
-    i
-}
-
 // Finds the words of a line and keeps where each starts and ends. There are places for 24 words.
 pub fn split(line: &[u8], starts: &mut [usize], ends: &mut [usize]) -> CheckedLine
     requires { ⌜ (maxWords ≤ length (now starts)) × (maxWords ≤ length (now ends)) ⌝ }
@@ -84,7 +70,7 @@ pub fn split(line: &[u8], starts: &mut [usize], ends: &mut [usize]) -> CheckedLi
     let mut count = 0;
     let mut at = skip_spaces(line, 0);
     while at < line.len() {
-        let end = end_of_word(line, at);
+        let end = find_byte(line, at, b' ');
         if MAX_WORD < end - at {
             return CheckedLine::Refused {
                 number: BAD_WORD,

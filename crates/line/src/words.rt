@@ -4,7 +4,7 @@ use crate::split::split;
 use book::layout::body_at;
 use book::layout::type_part;
 use book::layout::word_part;
-use book::widths::wide_number;
+use bytewise::widths::wide_number;
 use figures::limits::MAX_ENTRIES;
 use figures::limits::MAX_LINE_SIMPLES;
 use figures::refusals::TOO_MANY_SIMPLES;

@@ -2,11 +2,10 @@
 // trust: what is not there counts as empty, or as 0.
 use book::layout::body_at;
 use book::layout::type_part;
-use book::widths::wide_number;
+use bytewise::widths::wide_number;
 ghost use mathlib.Core.Path.{_≡_};
 ghost use mathlib.Core.List.{[]};
-ghost use Prim.Native.Nat.{_%_};
-ghost use lib.ListN.{length, getD};
+ghost use lib.ListN.{getD};
 ghost use Rattle.book.specs.Kept.{Whole, bodiesAt};
 ghost use Rattle.line.specs.LookUp.{Entries, entriesKept};
 ghost use Rattle.listing.specs.Listing.{counted as Listing·counted};

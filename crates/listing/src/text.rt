@@ -1,6 +1,6 @@
 // Pieces of text put into a lent buffer. Each function takes the place where its piece is to stand and gives the place behind it; bytes for
 // which there is no room are left out, so that an empty buffer only counts.
-use book::widths::wide_byte;
+use bytewise::widths::wide_byte;
 ghost use mathlib.Core.Path.{_≡_};
 ghost use mathlib.Core.List.{[], _∷_, _++_};
 ghost use Prim.Native.Nat.{_+_, _%_};

@@ -10,8 +10,8 @@ use lib.Bits.{bitOr, or-block}
 use lib.ListN.{length, getD, length-map, List·getD-map}
 use lib.Seq.{ext-getD}
 use Rattle.book.specs.Format.{Bytes}
-use Rattle.book.specs.Compare.{littleEndian, ReadsNumber, FirstOther}
-use Rattle.book.proofs.Comparing.{Bytewise, equal-stretch, same-number}
+use Rattle.bytewise.specs.Compare.{littleEndian, ReadsNumber, FirstOther}
+use Rattle.bytewise.proofs.Comparing.{Bytewise, equal-stretch, same-number}
 use Rattle.book.proofs.Names.{same-test}
 use Rattle.lookup.specs.Capitals.{small, smallBytes, sameWord}
 use Rattle.lookup.specs.Letters.{SameLetters, smallNumber}

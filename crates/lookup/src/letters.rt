@@ -1,7 +1,7 @@
 // Words compared where they stand, capitals as small letters. Most words differ in more than case, and eight bytes as one number tell so;
 // what may differ in case alone is compared in small letters, eight bytes at a time too.
-use book::compare::eight_bytes;
-use book::compare::first_other;
+use bytewise::compare::eight_bytes;
+use bytewise::compare::first_other;
 ghost use mathlib.Core.Path.{_≡_};
 ghost use mathlib.Core.Bool.{true};
 ghost use mathlib.Core.Logic.{_↔_};

@@ -18,8 +18,8 @@ loop-holds c =
     let s = c .before .before .before .before .before in
     (refl, reading-starts (s .args .book .now) (s .args .batch .now) (s .args .store .now) (s .pre .1))
 
-end-of-line-requires : tie.Need-end-of-line-requires Inv-loop μ-loop
-end-of-line-requires c κs = omega arith
+find-byte-requires : tie.Need-find-byte-requires Inv-loop μ-loop
+find-byte-requires c κs = omega arith
 
 sub-line : tie.Need-sub-line Inv-loop μ-loop
 sub-line c = omega arith
@@ -35,8 +35,8 @@ read-part-requires c κs =
     let s = c .before .before .before .before .before .before .before .before .before .before in
     let loop = c .before .before .before .before .loop in
     let batch = s .args .batch .now in
-    let end = c .before .before .end-of-line .result in
-    let room = part-room (s .args .book .now) batch (loop .store) (loop .at) (loop .used) end (c .before .before .before .loop-test .taken) (loop .inv .1) (c .before .before .end-of-line .ensures) in
+    let end = c .before .before .find-byte .result in
+    let room = part-room (s .args .book .now) batch (loop .store) (loop .at) (loop .used) end (c .before .before .before .loop-test .taken) (loop .inv .1) (c .before .before .find-byte .ensures) in
     (s .pre .0, (omega (arith, length-take (end - loop .at) (drop (loop .at) batch), length-drop (loop .at) batch, s .pre .1 .short), room))
 
 add-at : tie.Need-add-at Inv-loop μ-loop
@@ -49,7 +49,7 @@ loop-again : tie.Need-loop-again Inv-loop μ-loop
 loop-again c =
     let s = c .before .before .before .before .before .before .before .before .before .before .before .before .before in
     let loop = c .before .before .before .before .before .before .before .loop in
-    let end = c .before .before .before .before .before .end-of-line in
+    let end = c .before .before .before .before .before .find-byte in
     let read = c .before .before .read-part in (
       omega arith,
       reading-turns (s .args .book .now) (s .args .batch .now) (loop .store) (loop .at) (loop .used) (end .result) (c .before .before .before .before .before .before .loop-test .taken) (loop .inv .1) (end .ensures) (read .result) _ (omega arith) (read .ensures),
@@ -71,7 +71,7 @@ read-parts-spec =
     Inv-loop
     μ-loop
     loop-holds
-    end-of-line-requires
+    find-byte-requires
     sub-line
     part-line-start
     part-line-end

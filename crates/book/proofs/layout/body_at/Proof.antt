@@ -5,6 +5,7 @@ use Prim.Native.Nat.{ℕ, _+_, _-_}
 use mathlib.Core.Path.{_≡_, ap, _∙_}
 use lib.ListN.{take, drop}
 use Rattle.book.specs.Format.{headLength}
+use Rattle.book.proofs.RecordLaws.{two-bytes-read}
 use Rattle.book.proofs.layout.body_at.Statement.{statement}
 use Rattle.book.proofs.layout.body_at.Tie as tie
 
@@ -24,13 +25,13 @@ part-result-start : tie.Need-part-result-start
 part-result-start c = search needs
 
 part-result-end : tie.Need-part-result-end
-part-result-end c = search needs
+part-result-end c = omega (arith, two-bytes-read (c .two-bytes .ensures))
 
 returns : tie.Need-returns
 returns c =
     let a = c .before .before .before .args in
     let n : a .at + headLength + c .before .two-bytes .result - (a .at + headLength) ≡ c .before .two-bytes .result = omega arith in
-    ap (λ (k : ℕ). take k (drop (a .at + headLength) (a .book .now))) (n ∙ c .before .two-bytes .ensures .0)
+    ap (λ (k : ℕ). take k (drop (a .at + headLength) (a .book .now))) (n ∙ two-bytes-read (c .before .two-bytes .ensures))
 
 pub body-at-spec : {M : Type 1} → statement M
 body-at-spec =

@@ -7,6 +7,7 @@ use lib.ListN.{length, getD}
 use Rattle.book.specs.Format.{Bytes, bodyAt, headLength, nextAt, kindAt}
 use Rattle.book.specs.Kept.{Store, store, Sound}
 use Rattle.book.specs.declared.Progress.{Progress}
+use Rattle.book.proofs.RecordLaws.{two-bytes-read}
 use Rattle.book.proofs.WholeRecords.{whole-length}
 use Rattle.book.proofs.Keeping.{Found, fault-kept, whole, name-place, entry-place, pair-place, target-place, kind-left, name-taken, entry-taken, pair-taken, target-taken}
 use Rattle.book.proofs.records.take_record.Statement.{statement}
@@ -54,21 +55,21 @@ module _ (c : tie.After-body-at) where
 
 -- The kind of the record in each arm, and what the laws of Keeping say of it.
 name-kind : (c : tie.At-match-keys1) → kindAt (bytes (c .before .before .before)) (p (c .before .before .before) .at) ≡ 1
-name-kind c = sym (c .before .two-bytes .ensures .0) ∙ c .match .keys1
+name-kind c = sym (two-bytes-read (c .before .two-bytes .ensures)) ∙ c .match .keys1
 
 pair-kind : (c : tie.At-match-keys2) → kindAt (bytes (c .before .before .before)) (p (c .before .before .before) .at) ≡ 2
-pair-kind c = sym (c .before .two-bytes .ensures .0) ∙ c .match .keys2
+pair-kind c = sym (two-bytes-read (c .before .two-bytes .ensures)) ∙ c .match .keys2
 
 pair-fits : (c : tie.At-match-keys2) → (length (body (c .before .before)) ≡ 2) × (getD {A = ℕ} (body (c .before .before)) 0 0 < p (c .before .before .before) .types) × (getD {A = ℕ} (body (c .before .before)) 1 0 < p (c .before .before .before) .types)
 pair-fits c = pair-place (bytes (c .before .before .before)) (kept (c .before .before .before)) (p (c .before .before .before)) (sound (c .before .before .before)) (found (c .before .before .before)) (pair-kind c)
 
 entry-kind : (c : tie.At-match-keys3) → kindAt (bytes (c .before .before .before)) (p (c .before .before .before) .at) ≡ 3
-entry-kind c = sym (c .before .two-bytes .ensures .0) ∙ c .match .keys3
+entry-kind c = sym (two-bytes-read (c .before .two-bytes .ensures)) ∙ c .match .keys3
 
 target-kind : (c : tie.At-match-rest) → kindAt (bytes (c .before .before .before)) (p (c .before .before .before) .at) ≡ 4
 target-kind c =
     let none = c .match .rest in
-    kind-left (bytes (c .before .before .before)) (kept (c .before .before .before)) (p (c .before .before .before)) (sound (c .before .before .before)) (found (c .before .before .before)) _ (c .before .two-bytes .ensures .0) (none .0 .0 .1) (none .0 .1) (none .1)
+    kind-left (bytes (c .before .before .before)) (kept (c .before .before .before)) (p (c .before .before .before)) (sound (c .before .before .before)) (found (c .before .before .before)) _ (two-bytes-read (c .before .two-bytes .ensures)) (none .0 .0 .1) (none .0 .1) (none .1)
 
 returns : tie.Need-returns
 returns c =

@@ -2,6 +2,7 @@
 use borrow.Author.Needs.{needs}
 use native.Mathlib.Omega.{arith}
 use mathlib.Core.Path.{refl, sym, _∙_}
+use Rattle.book.proofs.RecordLaws.{two-bytes-read}
 use Rattle.book.proofs.WholeRecords.{cut-head, cut-body, kind-other, record-cut, record-whole}
 use Rattle.book.proofs.Faults.{unlisted-faults}
 use Rattle.book.proofs.Names.{bodies-length}
@@ -25,10 +26,10 @@ two-bytes-requires : tie.Need-two-bytes-requires
 two-bytes-requires c κs = search needs
 
 returns-2 : tie.Need-returns-2
-returns-2 c = record-cut _ _ _ _ _ (cut-body _ _ (omega (arith, c .before .two-bytes .ensures .0)))
+returns-2 c = record-cut _ _ _ _ _ (cut-body _ _ (omega (arith, two-bytes-read (c .before .two-bytes .ensures))))
 
 body-at-requires : tie.Need-body-at-requires
-body-at-requires c κs = search needs
+body-at-requires c κs = omega (arith, two-bytes-read (c .before .two-bytes .ensures))
 
 add-two-bytes : tie.Need-add-two-bytes
 add-two-bytes c = search needs
@@ -53,47 +54,47 @@ returns-3 c =
     let a = c .before .before .before .before .before .before .before .before .before .args in
     let names = bodiesAt (a .book .now) (a .names .now) (a .types) in
     let count = bodies-length (a .book .now) (a .names .now) (a .types) (c .before .before .before .before .before .before .before .before .before .pre .1 .room) in
-    let kind = sym (c .before .before .two-bytes2 .ensures .0) ∙ c .before .match .keys1 in
+    let kind = sym (two-bytes-read (c .before .before .two-bytes2 .ensures)) ∙ c .before .match .keys1 in
     (rw (c .before .before .before .body-at .ensures) at (c .name-fault .ensures (a .entries) (a .seen)))
-    ∙ record-whole (a .book .now) (a .at) names (a .entries) (a .seen) (omega (arith, c .before .before .before .before .before .two-bytes .ensures .0)) kind
+    ∙ record-whole (a .book .now) (a .at) names (a .entries) (a .seen) (omega (arith, two-bytes-read (c .before .before .before .before .before .two-bytes .ensures))) kind
 
 returns-4 : tie.Need-returns-4
 returns-4 c =
     let a = c .before .before .before .before .before .before .before .before .before .args in
     let names = bodiesAt (a .book .now) (a .names .now) (a .types) in
     let count = bodies-length (a .book .now) (a .names .now) (a .types) (c .before .before .before .before .before .before .before .before .before .pre .1 .room) in
-    let kind = sym (c .before .before .two-bytes2 .ensures .0) ∙ c .before .match .keys2 in
+    let kind = sym (two-bytes-read (c .before .before .two-bytes2 .ensures)) ∙ c .before .match .keys2 in
     (rw (c .before .before .before .body-at .ensures) at (c .pair-fault .ensures names (a .entries) (a .seen) count))
-    ∙ record-whole (a .book .now) (a .at) names (a .entries) (a .seen) (omega (arith, c .before .before .before .before .before .two-bytes .ensures .0)) kind
+    ∙ record-whole (a .book .now) (a .at) names (a .entries) (a .seen) (omega (arith, two-bytes-read (c .before .before .before .before .before .two-bytes .ensures))) kind
 
 returns-5 : tie.Need-returns-5
 returns-5 c =
     let a = c .before .before .before .before .before .before .before .before .before .args in
     let names = bodiesAt (a .book .now) (a .names .now) (a .types) in
     let count = bodies-length (a .book .now) (a .names .now) (a .types) (c .before .before .before .before .before .before .before .before .before .pre .1 .room) in
-    let kind = sym (c .before .before .two-bytes2 .ensures .0) ∙ c .before .match .keys3 in
+    let kind = sym (two-bytes-read (c .before .before .two-bytes2 .ensures)) ∙ c .before .match .keys3 in
     (rw (c .before .before .before .body-at .ensures) at (c .entry-fault .ensures names (a .seen) count))
-    ∙ record-whole (a .book .now) (a .at) names (a .entries) (a .seen) (omega (arith, c .before .before .before .before .before .two-bytes .ensures .0)) kind
+    ∙ record-whole (a .book .now) (a .at) names (a .entries) (a .seen) (omega (arith, two-bytes-read (c .before .before .before .before .before .two-bytes .ensures))) kind
 
 returns-6 : tie.Need-returns-6
 returns-6 c =
     let a = c .before .before .before .before .before .before .before .before .before .args in
     let names = bodiesAt (a .book .now) (a .names .now) (a .types) in
     let count = bodies-length (a .book .now) (a .names .now) (a .types) (c .before .before .before .before .before .before .before .before .before .pre .1 .room) in
-    let kind = sym (c .before .before .two-bytes2 .ensures .0) ∙ c .before .match .keys4 in
+    let kind = sym (two-bytes-read (c .before .before .two-bytes2 .ensures)) ∙ c .before .match .keys4 in
     (rw (c .before .before .before .body-at .ensures) at (c .target-fault .ensures names (a .entries) count))
-    ∙ record-whole (a .book .now) (a .at) names (a .entries) (a .seen) (omega (arith, c .before .before .before .before .before .two-bytes .ensures .0)) kind
+    ∙ record-whole (a .book .now) (a .at) names (a .entries) (a .seen) (omega (arith, two-bytes-read (c .before .before .before .before .before .two-bytes .ensures))) kind
 
 returns-7 : tie.Need-returns-7
 returns-7 c =
     let a = c .before .before .before .before .before .before .before .before .args in
     let names = bodiesAt (a .book .now) (a .names .now) (a .types) in
-    let read = c .before .two-bytes2 .ensures .0 in
+    let read = two-bytes-read (c .before .two-bytes2 .ensures) in
     let none = c .match .rest in
     let other =
     kind-other _ (λ e. none .0 .0 .0 .1 (read ∙ e)) (λ e. none .0 .0 .1 (read ∙ e)) (λ e. none .0 .1 (read ∙ e)) (λ e. none .1 (read ∙ e)) in
     sym (unlisted-faults _ names (a .entries) (a .seen) _ other)
-    ∙ record-whole (a .book .now) (a .at) names (a .entries) (a .seen) (omega (arith, c .before .before .before .before .two-bytes .ensures .0)) refl
+    ∙ record-whole (a .book .now) (a .at) names (a .entries) (a .seen) (omega (arith, two-bytes-read (c .before .before .before .before .two-bytes .ensures))) refl
 
 pub record-fault-spec : {M : Type 1} → statement M
 record-fault-spec =

@@ -6,6 +6,7 @@ use mathlib.Core.Bool.{Bool, cond}
 use mathlib.Core.Option.{some, none}
 use lib.ListN.{length}
 use borrow.Author.Tests.{lt-ltb, le-ltb}
+use Rattle.line.proofs.WordLaws.{Spelt, word-found}
 use Rattle.line.proofs.SplitLaws.{Splitting, splitting-start, splitting-long, splitting-many, splitting-next, splitting-end}
 use Rattle.line.specs.Split.{at-byte}
 use Rattle.line.proofs.split.split.Statement.{statement}
@@ -33,11 +34,16 @@ loop-holds c =
     let fine = r .ensures .1 ∙ ap (λ (t : Bool). cond t (some (r .result)) none) (le-ltb (r .result) (length (a .line .now)) (omega arith)) in
     splitting-start (a .line .now) (a .starts .now) (a .ends .now) _ fine (c .skip-spaces .ensures)
 
-end-of-word-requires : tie.Need-end-of-word-requires Inv-loop μ-loop
-end-of-word-requires c κs = (omega arith, c .before .loop .inv .stops (omega arith))
+find-byte-requires : tie.Need-find-byte-requires Inv-loop μ-loop
+find-byte-requires c κs = omega arith
+
+-- The word that starts where the loop stands.
+module _ (c : tie.After-find-byte Inv-loop μ-loop) where
+  word : Spelt (c .before .before .before .before .before .before .before .before .before .args .line .now) (c .before .before .loop .at) (c .find-byte .result)
+  word = word-found _ _ _ (c .before .loop-test .taken) (c .before .before .loop .inv .stops (c .before .loop-test .taken)) (c .find-byte .ensures)
 
 sub-if2 : tie.Need-sub-if2 Inv-loop μ-loop
-sub-if2 c = omega (arith, c .end-of-word .ensures .some-bytes)
+sub-if2 c = omega (arith, word c .some-bytes)
 
 same-length : tie.Need-same-length Inv-loop μ-loop
 same-length c = c .before .before .before .loop .inv .starts-length
@@ -49,7 +55,7 @@ returns-2 : tie.Need-returns-2 Inv-loop μ-loop
 returns-2 c =
     let a = c .before .before .before .before .before .before .before .before .before .before .args in
     let l = c .before .before .before .loop in
-    splitting-long (a .line .now) (a .starts .now) (a .ends .now) (l .starts) (l .ends) (l .count) (l .at) (l .inv) _ (c .before .end-of-word .ensures) (c .if2 .taken)
+    splitting-long (a .line .now) (a .starts .now) (a .ends .now) (l .starts) (l .ends) (l .count) (l .at) (l .inv) _ (word (c .before)) (c .if2 .taken)
 
 same-length-3 : tie.Need-same-length-3 Inv-loop μ-loop
 same-length-3 c = c .before .before .before .before .loop .inv .starts-length
@@ -61,7 +67,7 @@ returns-3 : tie.Need-returns-3 Inv-loop μ-loop
 returns-3 c =
     let a = c .before .before .before .before .before .before .before .before .before .before .before .args in
     let l = c .before .before .before .before .loop in
-    splitting-many (a .line .now) (a .starts .now) (a .ends .now) (l .starts) (l .ends) (l .count) (l .at) (l .inv) _ (c .before .before .end-of-word .ensures) (omega arith) (c .if3 .taken)
+    splitting-many (a .line .now) (a .starts .now) (a .ends .now) (l .starts) (l .ends) (l .count) (l .at) (l .inv) _ (word (c .before .before)) (omega arith) (c .if3 .taken)
 
 mul-starts : tie.Need-mul-starts Inv-loop μ-loop
 mul-starts c = omega arith
@@ -79,19 +85,19 @@ add-count : tie.Need-add-count Inv-loop μ-loop
 add-count c = omega arith
 
 skip-spaces-requires-2 : tie.Need-skip-spaces-requires-2 Inv-loop μ-loop
-skip-spaces-requires-2 c κs = c .before .before .end-of-word .ensures .inside
+skip-spaces-requires-2 c κs = word (c .before .before) .inside
 
 loop-less : tie.Need-loop-less Inv-loop μ-loop
 loop-less c =
     let a = c .before .before .before .before .before .before .before .before .before .before .before .before .args in
     let l = c .before .before .before .before .before .loop in
-    omega (arith, c .before .before .before .end-of-word .ensures .some-bytes, c .before .before .before .end-of-word .ensures .inside, c .skip-spaces2 .ensures .forth, c .skip-spaces2 .ensures .inside)
+    omega (arith, word (c .before .before .before) .some-bytes, word (c .before .before .before) .inside, c .skip-spaces2 .ensures .forth, c .skip-spaces2 .ensures .inside)
 
 loop-again : tie.Need-loop-again Inv-loop μ-loop
 loop-again c =
     let a = c .before .before .before .before .before .before .before .before .before .before .before .before .args in
     let l = c .before .before .before .before .before .loop in
-    splitting-next (a .line .now) (a .starts .now) (a .ends .now) (l .starts) (l .ends) (l .count) (l .at) (l .inv) _ (c .before .before .before .end-of-word .ensures) (omega arith) (omega arith) _ (c .skip-spaces2 .ensures)
+    splitting-next (a .line .now) (a .starts .now) (a .ends .now) (l .starts) (l .ends) (l .count) (l .at) (l .inv) _ (word (c .before .before .before)) (omega arith) (omega arith) _ (c .skip-spaces2 .ensures)
     (omega (arith, l .inv .starts-length, c .before .before .before .before .before .before .before .before .before .before .before .before .pre .0)) (omega (arith, l .inv .ends-length, c .before .before .before .before .before .before .before .before .before .before .before .before .pre .1))
 
 same-length-5 : tie.Need-same-length-5 Inv-loop μ-loop
@@ -116,7 +122,7 @@ split-spec =
     returns
     skip-spaces-requires
     loop-holds
-    end-of-word-requires
+    find-byte-requires
     sub-if2
     same-length
     same-length-2

@@ -1,9 +1,8 @@
--- `book::layout::two_bytes` meets its contract: each byte is widened as it is.
+-- `bytewise::widths::two_bytes` meets its contract: each byte is widened as it is.
 use borrow.Author.Needs.{needs}
-use Rattle.book.specs.Format.{twoBytes}
-use Rattle.book.proofs.Comparing.{one-byte, joined}
-use Rattle.book.proofs.layout.two_bytes.Statement.{statement}
-use Rattle.book.proofs.layout.two_bytes.Tie as tie
+use Rattle.bytewise.proofs.Comparing.{one-byte, joined}
+use Rattle.bytewise.proofs.widths.two_bytes.Statement.{statement}
+use Rattle.bytewise.proofs.widths.two_bytes.Tie as tie
 
 shared-slice-read-wide-byte : tie.Need-shared-slice-read-wide-byte
 shared-slice-read-wide-byte c = search needs
@@ -27,11 +26,10 @@ add-result : tie.Need-add-result
 add-result c = search needs
 
 returns : tie.Need-returns
-unfolding twoBytes
 returns c =
     let low = c .before .before .wide-byte .ensures in
     let high = c .wide-byte2 .ensures in
-    (cc, joined 1 1 (one-byte (low .0) (low .1)) (one-byte (high .0) (high .1)))
+    joined 1 1 (one-byte (low .0) (low .1)) (one-byte (high .0) (high .1))
 
 pub two-bytes-spec : {M : Type 1} → statement M
 two-bytes-spec =

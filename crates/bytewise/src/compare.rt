@@ -1,10 +1,10 @@
 // Bytes compared eight at a time, each eight of them as one number. Fewer than eight are compared one by one.
-use crate::layout::two_bytes;
+use crate::widths::two_bytes;
 ghost use mathlib.Core.Path.{_≡_};
 ghost use mathlib.Core.Bool.{true};
 ghost use Prim.Native.Nat.{_+_, _≤_, _<_};
 ghost use lib.ListN.{length};
-ghost use Rattle.book.specs.Compare.{ReadsNumber, FirstOther};
+ghost use Rattle.bytewise.specs.Compare.{ReadsNumber, FirstOther};
 
 // Whether a and b hold the same bytes.
 pub fn same(a: &[u8], b: &[u8]) -> bool

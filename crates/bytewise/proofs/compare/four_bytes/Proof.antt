@@ -1,8 +1,8 @@
--- `book::compare::four_bytes` meets its contract: a number of four bytes is joined from two of two.
+-- `bytewise::compare::four_bytes` meets its contract: a number of four bytes is joined from two of two.
 use borrow.Author.Needs.{needs}
-use Rattle.book.proofs.Comparing.{joined}
-use Rattle.book.proofs.compare.four_bytes.Statement.{statement}
-use Rattle.book.proofs.compare.four_bytes.Tie as tie
+use Rattle.bytewise.proofs.Comparing.{joined}
+use Rattle.bytewise.proofs.compare.four_bytes.Statement.{statement}
+use Rattle.bytewise.proofs.compare.four_bytes.Tie as tie
 
 two-bytes-requires : tie.Need-two-bytes-requires
 two-bytes-requires c κs = search needs
@@ -20,7 +20,7 @@ add-result : tie.Need-add-result
 add-result c = search needs
 
 returns : tie.Need-returns
-returns c = joined 2 2 (c .before .two-bytes .ensures .1) (c .two-bytes2 .ensures .1)
+returns c = joined 2 2 (c .before .two-bytes .ensures) (c .two-bytes2 .ensures)
 
 pub four-bytes-spec : {M : Type 1} → statement M
 four-bytes-spec =

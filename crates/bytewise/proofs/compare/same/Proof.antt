@@ -1,10 +1,10 @@
--- `book::compare::same` meets its contract: lists of two lengths differ, and the two comparisons promise the same.
+-- `bytewise::compare::same` meets its contract: lists of two lengths differ, and the two comparisons promise the same.
 use borrow.Author.Needs.{needs}
 use mathlib.Core.Path.{ap}
 use lib.ListN.{length}
-use Rattle.book.proofs.Comparing.{tells-apart}
-use Rattle.book.proofs.compare.same.Statement.{statement}
-use Rattle.book.proofs.compare.same.Tie as tie
+use Rattle.bytewise.proofs.Comparing.{tells-apart}
+use Rattle.bytewise.proofs.compare.same.Statement.{statement}
+use Rattle.bytewise.proofs.compare.same.Tie as tie
 
 returns : tie.Need-returns
 returns c = tells-apart _ _ (λ e. c .if1 .taken (ap length e))

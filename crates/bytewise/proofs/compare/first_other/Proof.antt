@@ -1,11 +1,11 @@
--- `book::compare::first_other` meets its contract: the lists agree at every place passed.
+-- `bytewise::compare::first_other` meets its contract: the lists agree at every place passed.
 use native.Mathlib.Omega.{arith}
 use Prim.Native.Nat.{_-_, _<_}
 use mathlib.Core.Path.{sym, _∙_}
 use lib.ListN.{length}
-use Rattle.book.proofs.Comparing.{Agree, agree-more}
-use Rattle.book.proofs.compare.first_other.Statement.{statement}
-use Rattle.book.proofs.compare.first_other.Tie as tie
+use Rattle.bytewise.proofs.Comparing.{Agree, agree-more}
+use Rattle.bytewise.proofs.compare.first_other.Statement.{statement}
+use Rattle.bytewise.proofs.compare.first_other.Tie as tie
 
 abbrev Inv-loop : tie.InvT-loop
 Inv-loop a b last i₀ i = (i < length a) × Agree a b i

@@ -1,9 +1,9 @@
--- `book::compare::same_long` meets its contract: the first eight bytes that are not equal tell, or the last eight.
+-- `bytewise::compare::same_long` meets its contract: the first eight bytes that are not equal tell, or the last eight.
 use borrow.Author.Needs.{needs}
 use native.Mathlib.Omega.{arith}
-use Rattle.book.proofs.Comparing.{first-other-tells}
-use Rattle.book.proofs.compare.same_long.Statement.{statement}
-use Rattle.book.proofs.compare.same_long.Tie as tie
+use Rattle.bytewise.proofs.Comparing.{first-other-tells}
+use Rattle.bytewise.proofs.compare.same_long.Statement.{statement}
+use Rattle.bytewise.proofs.compare.same_long.Tie as tie
 
 first-other-requires : tie.Need-first-other-requires
 first-other-requires c κs = search needs

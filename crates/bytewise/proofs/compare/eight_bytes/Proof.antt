@@ -1,8 +1,8 @@
--- `book::compare::eight_bytes` meets its contract: a number of eight bytes is joined from two of four.
+-- `bytewise::compare::eight_bytes` meets its contract: a number of eight bytes is joined from two of four.
 use borrow.Author.Needs.{needs}
-use Rattle.book.proofs.Comparing.{joined}
-use Rattle.book.proofs.compare.eight_bytes.Statement.{statement}
-use Rattle.book.proofs.compare.eight_bytes.Tie as tie
+use Rattle.bytewise.proofs.Comparing.{joined}
+use Rattle.bytewise.proofs.compare.eight_bytes.Statement.{statement}
+use Rattle.bytewise.proofs.compare.eight_bytes.Tie as tie
 
 four-bytes-requires : tie.Need-four-bytes-requires
 four-bytes-requires c κs = search needs
