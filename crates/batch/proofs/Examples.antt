@@ -17,7 +17,8 @@ use Rattle.book.specs.Format.{Bytes, every, twoBytes, nameByte, isName, exponen
 use Rattle.book.proofs.PaperBooks.{fetch, bed4, admit, site, go, firstBook}
 use Rattle.line.specs.LineWords.{wordsFrom}
 use Rattle.lookup.specs.Capitals.{small, sameWord}
-use Rattle.line.specs.LineFaults.{entriesFrom, byteFault, wordFault, entryFault, simplesIn, simplesOfWords, lineCheck}
+use Rattle.line.specs.LineFaults.{byteFault, wordFault, entryFault, lineCheck}
+use Rattle.lookup.specs.Entries.{entriesFrom, simplesIn, simplesOfWords}
 use Rattle.reader.specs.Outcome.{Outcome, given, readAgainst, readParsed}
 use Rattle.reader.proofs.Table.{lineOf}
 use Rattle.batch.specs.declared.BatchAnswer.{BatchAnswer}

@@ -6,6 +6,8 @@ use figures::limits::MAX_BATCH_VALUES;
 use figures::limits::MAX_ENTRIES;
 use figures::refusals::ANSWERS_TOO_LONG;
 use figures::refusals::BAD_BATCH;
+use lookup::keys::NO_ENTRY;
+use lookup::keys::PLACES;
 use reader::open_book;
 ghost use Rattle.reader.specs.Outcome.{Gives};
 ghost use Rattle.batch.specs.Batch.{batchOutcome};
@@ -40,7 +42,8 @@ pub fn read_batch(book: &[u8], lines: &[u8], answers: &mut [u16]) -> BatchAnswer
         };
     };
     let mut entries = [0u16; MAX_ENTRIES];
-    let opening = open_book(book, &mut entries);
+    let mut alike = [NO_ENTRY; PLACES];
+    let opening = open_book(book, &mut entries, &mut alike);
     let rows = opening.rows;
     let scan = opening.scan;
     match scan {
@@ -51,7 +54,16 @@ pub fn read_batch(book: &[u8], lines: &[u8], answers: &mut [u16]) -> BatchAnswer
             target,
         } => {
             let mut store = [0u16; MAX_BATCH_VALUES];
-            let used = parts::read_parts(book, &entries, count, &rows, target, lines, &mut store);
+            let used = parts::read_parts(
+                book,
+                &entries,
+                count,
+                &alike,
+                &rows,
+                target,
+                lines,
+                &mut store,
+            );
             if answers.len() < used {
                 return BatchAnswer::Refused {
                     number: ANSWERS_TOO_LONG,

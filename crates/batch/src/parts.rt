@@ -39,13 +39,14 @@ fn read_part(
     book: &[u8],
     offsets: &[u16],
     count: usize,
+    alike: &[u16],
     order: &[u64],
     target: u8,
     line: &[u8],
     store: &mut [u16],
     used: usize,
 ) -> usize
-    requires { ⌜ IsOpen (now book) (now offsets) count (now order) target ⌝ }
+    requires { ⌜ IsOpen (now book) (now offsets) count (now alike) (now order) target ⌝ }
     requires { ⌜ (length (now line) ≤ maxBatch) × (used + maxPart ≤ length (now store)) ⌝ }
     ensures { λ r. ⌜ Put (partOf (aloneReply (now (book .entry)) (now (line .entry)))) used (now (store .entry)) r (now (store .exit)) ⌝ }
 {
@@ -53,6 +54,7 @@ fn read_part(
         book,
         offsets,
         count,
+        alike,
         order,
         target,
         line,
@@ -69,12 +71,13 @@ pub fn read_parts(
     book: &[u8],
     offsets: &[u16],
     count: usize,
+    alike: &[u16],
     order: &[u64],
     target: u8,
     batch: &[u8],
     store: &mut [u16],
 ) -> usize
-    requires { ⌜ IsOpen (now book) (now offsets) count (now order) target ⌝ }
+    requires { ⌜ IsOpen (now book) (now offsets) count (now alike) (now order) target ⌝ }
     requires { ⌜ Readying (now batch) (now store) ⌝ }
     ensures { λ r. ⌜ StoredParts (now (book .entry)) (now (batch .entry)) r (now (store .exit)) ⌝ }
 {
@@ -83,7 +86,17 @@ pub fn read_parts(
     while at < batch.len() {
         let end = find_byte(batch, at, LINE_BREAK);
         let line = &batch[at..end];
-        used = read_part(book, offsets, count, order, target, line, store, used);
+        used = read_part(
+            book,
+            offsets,
+            count,
+            alike,
+            order,
+            target,
+            line,
+            store,
+            used,
+        );
         at = end + 1;
     }
     used

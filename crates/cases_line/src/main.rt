@@ -4,6 +4,7 @@ mod choices;
 mod letters;
 mod limits;
 mod long_words;
+mod lookups;
 mod paper;
 mod rows;
 mod signs;
@@ -22,4 +23,5 @@ fn main() {
     letters::rows(&mut space);
     signs::rows(&mut space);
     long_words::rows(&mut space);
+    lookups::rows(&mut space);
 }

@@ -12,14 +12,14 @@ use borrow.Author.Tests.{ne-eqb}
 use Rattle.linking.specs.Reading.{NumberedEntry}
 use Rattle.book.specs.Format.{Bytes, simplesOf, bodyAt, typePart}
 use Rattle.book.proofs.Layouts.{entry-shape}
-use Rattle.line.specs.LineFaults.{simplesIn}
-use Rattle.line.specs.LookUp.{entryAt, entriesAt}
-use Rattle.line.proofs.LookUpLaws.{simples-length}
-use Rattle.line.proofs.FoundLaws.{onward, onward-next, onward-end}
+use Rattle.lookup.specs.Entries.{simplesIn}
+use Rattle.lookup.specs.Threads.{Thread}
+use Rattle.lookup.proofs.EntryLaws.{simples-length}
+use Rattle.lookup.proofs.ThreadLaws.{simples-more, thread-next, thread-end}
 use Rattle.graph.specs.Graph.{Graph, Boundary, Spells}
 use Rattle.graph.specs.Layout.{hasNone, slotted, Slots, slot}
 use Rattle.figures.specs.Limits.{maxNodes}
-use Rattle.graph.specs.Cells.{Cells, cells, nodes, cellsGraph, Continues, Typed, Placed, Lays, SlotFits, EntriesFit}
+use Rattle.graph.specs.Cells.{Cells, cells, nodes, cellsGraph, Continues, Typed, Placed, Lays, SlotFits, Lexicon}
 use Rattle.graph.specs.declared.Place.{Place}
 use Rattle.graph.proofs.TypeLaws.{SameNode, entry-later, continues-back, kept-here, same-set}
 
@@ -55,10 +55,6 @@ slotted-taken seen e es h = go (hasNone (e .type)) seen h
     go true true h = absurd (true≢false h)
     go true false h = refl
     go false seen h = refl
-
-simples-cons : (e : NumberedEntry) (es : List NumberedEntry) → simplesIn (e ∷ es) ≡ length (e .type) + simplesIn es
-unfolding simplesIn
-simples-cons e es = refl
 
 -- Nothing is laid.
 pub lays-same :
@@ -104,7 +100,7 @@ module _ (part : Bytes) (number b : ℕ) (p : Place) (c : Cells) (f : SlotFits p
 
   pub slot-passed : eqb (length part) 0 && p .seen ≡ true → (rest : List NumberedEntry) → Lays b p c p c (entry ∷ rest) rest
   slot-passed h rest =
-      let e = simples-cons entry rest in
+      let e = simples-more entry rest in
       let n : length (simplesOf part) ≡ 0 = simples-length part (f .pairs) ∙ none-long (length part) (p .seen) h in
       lays-same b p c (entry ∷ rest) rest (f .placed) (slotted-passed (p .seen) entry rest (rw (none-empty part (f .pairs)) h)) (omega arith)
     where
@@ -183,7 +179,7 @@ module _ (part : Bytes) (number b : ℕ) (p : Place) (c : Cells) (f : SlotFits p
           };
           placed = placed′;
           count =
-              let e = simples-cons entry rest in
+              let e = simples-more entry rest in
               let n = simples-length part (f .pairs) in
               omega (arith, e, n);
           node-on = omega arith;
@@ -191,66 +187,70 @@ module _ (part : Bytes) (number b : ℕ) (p : Place) (c : Cells) (f : SlotFits p
           entered = each;
         }
 
--- The loop over the entries found.
-module _ (bytes : Bytes) (offsets found : List ℕ) (n b : ℕ) (p : Place) (c : Cells) where
-  -- How it stands before the k-th.
-  pub record Entering (place : Place) (c′ : Cells) (k : ℕ) : Type 0 where
-    pub inside : k ≤ n
-    pub lays : Lays b p c place c′ (entriesAt bytes offsets found n) (onward bytes offsets found n k)
+-- The loop along a thread.
+module _ (bytes : Bytes) (offsets : List ℕ) (count : ℕ) (same : List ℕ) (b : ℕ) (p : Place) (c : Cells) where
+  -- How it stands at entry i: of the entries `es` the rest is ahead.
+  pub record Entering (es : List NumberedEntry) (place : Place) (c′ : Cells) (i : ℕ) : Type 0 where
+    pub rest : List NumberedEntry
+    pub ahead : Thread bytes offsets count same i rest
+    pub lays : Lays b p c place c′ es rest
     pub simples-length : length (c′ .simples) ≡ length (c .simples)
     pub nexts-length : length (c′ .nexts) ≡ length (c .nexts)
     pub enters-length : length (c′ .enters) ≡ length (c .enters)
     pub numbers-length : length (c′ .numbers) ≡ length (c .numbers)
 
-  module _ (f : EntriesFit bytes offsets found n b p c) where
-    pub entering-start : Entering p c 0
-    entering-start =
-        record {
-          inside = omega arith;
-          lays = lays-same b p c (entriesAt bytes offsets found n) (entriesAt bytes offsets found n) (f .placed) refl refl;
-          simples-length = refl;
-          nexts-length = refl;
-          enters-length = refl;
-          numbers-length = refl;
-        }
+  pub entering-start : (first : ℕ) (es : List NumberedEntry) → Thread bytes offsets count same first es → Placed b p c → Entering es p c first
+  entering-start first es t placed =
+      record {
+        rest = es;
+        ahead = t;
+        lays = lays-same b p c es es placed refl refl;
+        simples-length = refl;
+        nexts-length = refl;
+        enters-length = refl;
+        numbers-length = refl;
+      }
 
-    pub entering-end : (place : Place) (c′ : Cells) (k : ℕ) → Entering place c′ k → n ≤ k → Lays b p c place c′ (entriesAt bytes offsets found n) []
-    entering-end place c′ k s h = rw (onward-end bytes offsets found n (f .named .room) k h) at (s .lays)
+  module _ (es : List NumberedEntry) (place : Place) (c′ : Cells) (i : ℕ) (s : Entering es place c′ i) where
+    pub entering-end : count ≤ i → Lays b p c place c′ es []
+    entering-end h = subst (λ (left : List NumberedEntry). Lays b p c place c′ es left) (thread-end (s .ahead) h) (s .lays)
 
-    -- The k-th, by its number and the bytes of its type.
-    module _ (place : Place) (c′ : Cells) (k : ℕ) (s : Entering place c′ k) (h : k < n) (number : ℕ) (named : number ≡ getD {A = ℕ} found k 0)
-        (part : Bytes) (here : part ≡ typePart (bodyAt bytes (getD {A = ℕ} offsets number 0))) where
-      abbrev k-th : NumberedEntry
-      k-th = record { number = number; type = simplesOf part }
+    -- Entry i, by the bytes of its type.
+    module _ (h : i < count) (part : Bytes) (here : part ≡ typePart (bodyAt bytes (getD {A = ℕ} offsets i 0))) where
+      abbrev i-th : NumberedEntry
+      i-th = record { number = i; type = simplesOf part }
 
       abbrev behind : List NumberedEntry
-      behind = onward bytes offsets found n (k + 1)
-
-      low : number < f .count
-      low = rw named (f .named .low k h)
-
-      pairs : length part % 2 ≡ 0
-      pairs = rw here (entry-shape (bodyAt bytes (getD {A = ℕ} offsets number 0)) (f .lexicon .entries .layouts number low) .pairs)
+      behind = thread-next (s .ahead) h .rest
 
       -- The entries left are this one and those behind it.
-      left-here : onward bytes offsets found n k ≡ k-th ∷ behind
-      left-here =
-          onward-next bytes offsets found n (f .named .room) k h ∙ ap (λ (m : ℕ). entryAt bytes offsets m ∷ behind) (sym named)
-          ∙ ap (λ (q : Bytes). record { number = number; type = simplesOf q } ∷ behind) (sym here)
+      left-here : s .rest ≡ i-th ∷ behind
+      left-here = thread-next (s .ahead) h .is ∙ ap (λ (q : Bytes). record { number = i; type = simplesOf q } ∷ behind) (sym here)
 
-      pub entering-fits : SlotFits part number b place c′
-      entering-fits =
-          let sum = ap simplesIn left-here ∙ simples-cons k-th behind in
+      pub entering-fits : Lexicon bytes offsets count → p .node + simplesIn es ≤ b → SlotFits part i b place c′
+      entering-fits lexicon fits =
+          let pairs : length part % 2 ≡ 0 =
+          rw here (entry-shape (bodyAt bytes (getD {A = ℕ} offsets i 0)) (lexicon .entries .layouts i h) .pairs) in
+          let sum = ap simplesIn left-here ∙ simples-more i-th behind in
           let long = simples-length part pairs in
           record {
             pairs = pairs;
-            listed = rw here (f .lexicon .listed number low);
-            fits = omega (arith, sum, long, s .lays .count, f .fits);
-            low = omega (arith, low, f .lexicon .entries .few);
+            listed = rw here (lexicon .listed i h);
+            fits = omega (arith, sum, long, s .lays .count, fits);
+            low = omega (arith, h, lexicon .entries .few);
             placed = s .lays .placed;
           }
 
-      pub entering-next : (place′ : Place) (c″ : Cells) → ((rest : List NumberedEntry) → Lays b place c′ place′ c″ (k-th ∷ rest) rest)
-          → Lays b p c place′ c″ (entriesAt bytes offsets found n) behind
-      entering-next place′ c″ l =
-          lays-then (s .lays) (subst (λ (es : List NumberedEntry). Lays b place c′ place′ c″ es behind) (sym left-here) (l behind))
+      pub entering-next : (place′ : Place) (c″ : Cells) → ((rest : List NumberedEntry) → Lays b place c′ place′ c″ (i-th ∷ rest) rest)
+          → length (c″ .simples) ≡ length (c′ .simples) → length (c″ .nexts) ≡ length (c′ .nexts) → length (c″ .enters) ≡ length (c′ .enters)
+          → length (c″ .numbers) ≡ length (c′ .numbers) → Entering es place′ c″ (getD {A = ℕ} same i 0)
+      entering-next place′ c″ l simples nexts enters numbers =
+          record {
+            rest = behind;
+            ahead = thread-next (s .ahead) h .ahead;
+            lays = lays-then (s .lays) (subst (λ (left : List NumberedEntry). Lays b place c′ place′ c″ left behind) (sym left-here) (l behind));
+            simples-length = simples ∙ s .simples-length;
+            nexts-length = nexts ∙ s .nexts-length;
+            enters-length = enters ∙ s .enters-length;
+            numbers-length = numbers ∙ s .numbers-length;
+          }

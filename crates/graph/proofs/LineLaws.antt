@@ -4,51 +4,65 @@ use native.Mathlib.Omega.{arith}
 use native.Mathlib.Decide.{ℕ-discrete}
 use mathlib.Core.Path.{_≡_, refl, sym, ap, subst, _∙_}
 use mathlib.Core.Bool.{false}
-use mathlib.Core.List.{List, [], _∷_, map}
+use mathlib.Core.List.{List, [], _∷_}
 use lib.IntN.{pos}
-use lib.ListN.{length, getD, drop, set, length-set, length-map}
+use lib.ListN.{length, getD, set, length-set}
 use lib.Seq.{getD-set-same, getD-set-other}
 use Rattle.pregroup.specs.Types.{Basic, _⁽_⁾}
 use Rattle.pregroup.specs.Held.{held}
 use Rattle.linking.specs.Reading.{NumberedEntry, Words}
-use Rattle.book.specs.Format.{Bytes, Book, Entry, exponentOf}
-use Rattle.line.specs.LineWords.{Word, wordsOf}
-use Rattle.line.specs.LineFaults.{simplesOfWords, entriesFrom, entriesOfLine}
-use Rattle.line.specs.LookUp.{entriesKept}
-use Rattle.line.specs.Split.{wordAt}
-use Rattle.line.proofs.LineLaws.{simples-cons, words-length, words-at, none-left}
+use Rattle.book.specs.Format.{Bytes, exponentOf}
+use Rattle.lookup.specs.Entries.{simplesOfWords}
+use Rattle.lookup.specs.Threads.{Thread, Threads, none, word}
+use Rattle.lookup.proofs.ThreadLaws.{simples-cons}
 use Rattle.graph.specs.Graph.{Labelled, Upward, Spells, ended, more}
 use Rattle.graph.specs.Layout.{Laid, goal}
-use Rattle.figures.specs.Limits.{maxNodes}
-use Rattle.graph.specs.Cells.{cells, Edges, entriesOfWord}
-use Rattle.graph.specs.Lists.{Lists, lists, graphOf, Follows, Standing, Lined, entriesOfWords, WordFits, WordsFit, Ended, LineFits, LaidOut}
+use Rattle.figures.specs.Limits.{maxWords, maxLineSimples, maxNodes}
+use Rattle.graph.specs.Cells.{cells, Edges, Lexicon}
+use Rattle.graph.specs.Lists.{Lists, lists, graphOf, Follows, Standing, Lined, WordFits, WordsFit, Ended, LineFits, LaidOut}
 use Rattle.graph.specs.declared.Place.{Place}
 use Rattle.graph.proofs.TypeLaws.{same-set, no-edge}
 use Rattle.graph.proofs.WordLaws.{lined-then, lined-here, from-here, to-here, enters-more, tos-more}
 
+none-left : (ws : Words) → length ws ≡ 0 → ws ≡ []
+none-left [] e = refl
+none-left (es ∷ ws) e = absurd (omega arith)
+
 -- The loop over the words.
-module _ (bytes : Bytes) (offsets : List ℕ) (count : ℕ) (line : Bytes) (starts ends : List ℕ) (words : ℕ) (p : Place) (l : Lists) where
-  -- The words from the k-th on.
-  abbrev words-from : ℕ → Words
-  words-from k = entriesOfWords bytes offsets count (drop k (wordsOf line))
+module _ (bytes : Bytes) (offsets : List ℕ) (count : ℕ) (same firsts : List ℕ) where
+  -- Words from the k-th on, of which there is one: the thread of its entries, and the words behind it.
+  record Parted (k : ℕ) (ws : Words) : Type 0 where
+    pub entries : List NumberedEntry
+    pub behind : Words
+    pub is : ws ≡ entries ∷ behind
+    pub thread : Thread bytes offsets count same (getD {A = ℕ} firsts k 0) entries
+    pub ahead : Threads bytes offsets count same firsts (k + 1) behind
 
-  -- How it stands before the k-th word.
-  pub record Lining (place : Place) (l′ : Lists) (k : ℕ) : Type 0 where
-    pub inside : k ≤ words
-    pub lined : Lined p l place l′ (words-from 0) (words-from k)
-    pub simples-length : length (l′ .cells .simples) ≡ length (l .cells .simples)
-    pub nexts-length : length (l′ .cells .nexts) ≡ length (l .cells .nexts)
-    pub froms-length : length (l′ .froms) ≡ length (l .froms)
-    pub tos-length : length (l′ .tos) ≡ length (l .tos)
-    pub enters-length : length (l′ .cells .enters) ≡ length (l .cells .enters)
-    pub numbers-length : length (l′ .cells .numbers) ≡ length (l .cells .numbers)
+  parted : {k : ℕ} {ws : Words} → Threads bytes offsets count same firsts k ws → 0 < length ws → Parted k ws
+  parted none h = absurd (omega arith)
+  parted (word {k} {es} {words} t ts) h = record { entries = es; behind = words; is = refl; thread = t; ahead = ts }
 
-  module _ (n : WordsFit bytes offsets count line starts ends words p l) where
-    pub lining-start : Lining p l 0
-    lining-start =
+  module _ (words : ℕ) (p : Place) (l : Lists) where
+    -- How it stands before the k-th word: of the words `ws` those left are ahead.
+    pub record Lining (ws : Words) (place : Place) (l′ : Lists) (k : ℕ) : Type 0 where
+      pub left : Words
+      pub ahead : Threads bytes offsets count same firsts k left
+      pub as-many : k + length left ≡ words
+      pub lined : Lined p l place l′ ws left
+      pub simples-length : length (l′ .cells .simples) ≡ length (l .cells .simples)
+      pub nexts-length : length (l′ .cells .nexts) ≡ length (l .cells .nexts)
+      pub froms-length : length (l′ .froms) ≡ length (l .froms)
+      pub tos-length : length (l′ .tos) ≡ length (l .tos)
+      pub enters-length : length (l′ .cells .enters) ≡ length (l .cells .enters)
+      pub numbers-length : length (l′ .cells .numbers) ≡ length (l .cells .numbers)
+
+    pub lining-start : (ws : Words) → Threads bytes offsets count same firsts 0 ws → length ws ≡ words → Standing p l → Lining ws p l 0
+    lining-start ws t e s =
         record {
-          inside = omega arith;
-          lined = lined-here p l (words-from 0) (n .standing);
+          left = ws;
+          ahead = t;
+          as-many = omega (arith, e);
+          lined = lined-here p l ws s;
           simples-length = refl;
           nexts-length = refl;
           froms-length = refl;
@@ -57,39 +71,53 @@ module _ (bytes : Bytes) (offsets : List ℕ) (count : ℕ) (line : Bytes) (star
           numbers-length = refl;
         }
 
-    pub lining-end : (place : Place) (l′ : Lists) (k : ℕ) → Lining place l′ k → words ≤ k → Lined p l place l′ (words-from 0) []
-    lining-end place l′ k s h =
-        subst (λ (ws : List Word). Lined p l place l′ (words-from 0) (entriesOfWords bytes offsets count ws))
-        (none-left line starts ends words (n .split) k h) (s .lined)
+    module _ (ws : Words) (place : Place) (l′ : Lists) (k : ℕ) (s : Lining ws place l′ k) where
+      pub lining-end : words ≤ k → Lined p l place l′ ws []
+      lining-end h = subst (λ (vs : Words). Lined p l place l′ ws vs) (none-left (s .left) (omega (arith, s .as-many))) (s .lined)
 
-    module _ (place : Place) (l′ : Lists) (k : ℕ) (s : Lining place l′ k) (h : k < words) where
-      abbrev here : Bytes
-      here = wordAt line (getD {A = ℕ} starts k 0) (getD {A = ℕ} ends k 0) .bytes
+      module _ (h : k < words) where
+        here : Parted k (s .left)
+        here = parted (s .ahead) (omega (arith, s .as-many))
 
-      abbrev es : List NumberedEntry
-      es = entriesOfWord bytes offsets count here
+        pub lining-fits : Lexicon bytes offsets count → count ≤ length same → maxNodes ≤ length (l .cells .numbers) → length ws ≡ words
+            → p .node + (simplesOfWords ws + words) + 3 ≤ maxNodes → WordFits bytes offsets count same (getD {A = ℕ} firsts k 0) place l′
+        lining-fits lexicon same-room numbers-room all fits =
+            let simples = ap simplesOfWords (here .is) ∙ simples-cons (here .entries) (here .behind) in
+            let long = ap length (here .is) in
+            record {
+              lexicon = lexicon;
+              same-room = same-room;
+              entries = here .entries;
+              thread = here .thread;
+              standing = s .lined .standing;
+              numbers-room = omega (arith, numbers-room, s .numbers-length);
+              fits = omega (arith, fits, s .lined .count, all, simples, long);
+            }
 
-      words-here : words-from k ≡ es ∷ words-from (k + 1)
-      words-here = ap (entriesOfWords bytes offsets count) (words-at line starts ends words (n .split) k h)
-
-      all-words : length (words-from 0) ≡ words
-      all-words = length-map (wordsOf line) (λ (w : Word). entriesOfWord bytes offsets count (w .bytes)) ∙ words-length line starts ends words (n .split)
-
-      pub lining-fits : WordFits bytes offsets count here place l′
-      lining-fits =
-          let simples = ap simplesOfWords words-here ∙ simples-cons es (words-from (k + 1)) in
-          let long = ap length words-here in
-          record {
-            lexicon = n .lexicon;
-            standing = s .lined .standing;
-            numbers-room = omega (arith, n .numbers-room, s .numbers-length);
-            fits = omega (arith, n .fits, s .lined .count, all-words, simples, long);
-          }
-
-      pub lining-next : (place′ : Place) (l″ : Lists) → ((rest : Words) → Lined place l′ place′ l″ (es ∷ rest) rest)
-          → Lined p l place′ l″ (words-from 0) (words-from (k + 1))
-      lining-next place′ l″ t =
-          lined-then (s .lined) (subst (λ (ws : Words). Lined place l′ place′ l″ ws (words-from (k + 1))) (sym words-here) (t (words-from (k + 1))))
+        pub lining-next :
+            (place′ : Place) (l″ : Lists)
+            → ((es : List NumberedEntry) → Thread bytes offsets count same (getD {A = ℕ} firsts k 0) es → (rest : Words)
+            → Lined place l′ place′ l″ (es ∷ rest) rest)
+            → length (l″ .cells .simples) ≡ length (l′ .cells .simples) → length (l″ .cells .nexts) ≡ length (l′ .cells .nexts)
+            → length (l″ .froms) ≡ length (l′ .froms) → length (l″ .tos) ≡ length (l′ .tos)
+            → length (l″ .cells .enters) ≡ length (l′ .cells .enters) → length (l″ .cells .numbers) ≡ length (l′ .cells .numbers)
+            → Lining ws place′ l″ (k + 1)
+        lining-next place′ l″ t simples nexts froms tos enters numbers =
+            let w = here in
+            let long = ap length (w .is) in
+            record {
+              left = w .behind;
+              ahead = w .ahead;
+              as-many = omega (arith, long, s .as-many);
+              lined = lined-then (s .lined)
+                  (subst (λ (vs : Words). Lined place l′ place′ l″ vs (w .behind)) (sym (w .is)) (t (w .entries) (w .thread) (w .behind)));
+              simples-length = simples ∙ s .simples-length;
+              nexts-length = nexts ∙ s .nexts-length;
+              froms-length = froms ∙ s .froms-length;
+              tos-length = tos ∙ s .tos-length;
+              enters-length = enters ∙ s .enters-length;
+              numbers-length = numbers ∙ s .numbers-length;
+            }
 
 -- Lists that are filled up to a last boundary are a graph that goes up.
 pub standing-upward : (p : Place) (l : Lists) → Standing p l → p .node + 1 ≤ maxNodes → Upward (graphOf (p .node + 1) l)
@@ -216,16 +244,10 @@ module _ (target : Basic) (p : Place) (l : Lists) (s : Standing p l) (fits : p .
       }
 
 -- The whole line.
-module _ (bytes : Bytes) (offsets : List ℕ) (count : ℕ) (line : Bytes) (starts ends : List ℕ) (words : ℕ) (l : Lists)
-    (n : LineFits bytes offsets count line starts ends words l) where
-  abbrev kept-book : Book
-  kept-book = record { names = []; pairs = []; entries = entriesKept bytes offsets count; target = 0 }
-
+module _ (bytes : Bytes) (offsets : List ℕ) (count : ℕ) (same firsts : List ℕ) (words : ℕ) (l : Lists)
+    (n : LineFits bytes offsets count same firsts words l) where
   abbrev first : Place
   first = record { node = 0; slot = 0; seen = false }
-
-  abbrev all : Words
-  all = entriesOfWords bytes offsets count (wordsOf line)
 
   empty-standing : Standing first l
   empty-standing =
@@ -237,27 +259,25 @@ module _ (bytes : Bytes) (offsets : List ℕ) (count : ℕ) (line : Bytes) (star
         tos-low = λ x. let e = n .empty .tos x in omega arith;
       }
 
-  pub out-words-fit : WordsFit bytes offsets count line starts ends words first l
+  pub out-words-fit : WordsFit bytes offsets count same firsts words first l
   out-words-fit =
-      let c = n .checked kept-book refl in
       record {
         lexicon = n .lexicon;
-        split = c .0;
-        starts-room = n .starts-room;
-        ends-room = n .ends-room;
+        same-room = n .same-room;
+        firsts-room = n .firsts-room;
+        all = n .all;
+        threads = n .threads;
+        as-many = n .as-many;
         standing = empty-standing;
         numbers-room = n .numbers-room;
-        fits = omega (arith, c .2, c .0 .few);
+        fits = omega (arith, n .small, n .few);
       }
 
-  module _ (last : Place) (l′ : Lists) (t : Lined first l last l′ all []) where
-    bounded : last .node ≤ 536
+  module _ (last : Place) (l′ : Lists)
+      (lined : (ws : Words) → Threads bytes offsets count same firsts 0 ws → length ws ≡ words → Lined first l last l′ ws []) where
+    bounded : last .node ≤ maxWords + maxLineSimples
     unfolding simplesOfWords
-    bounded =
-        let c = n .checked kept-book refl in
-        let long : length all ≡ words =
-        length-map (wordsOf line) (λ (w : Word). entriesOfWord bytes offsets count (w .bytes)) ∙ words-length line starts ends words (c .0) in
-        omega (arith, c .2, c .0 .few, t .count, long)
+    bounded = omega (arith, n .small, n .few, lined (n .all) (n .threads) (n .as-many) .count, n .as-many)
 
     -- The target needs no entry numbers.
     abbrev without : Lists → Lists
@@ -265,7 +285,7 @@ module _ (bytes : Bytes) (offsets : List ℕ) (count : ℕ) (line : Bytes) (star
 
     pub out-standing : Standing last (without l′) × (last .node + 3 ≤ maxNodes)
     out-standing =
-        let s = t .standing in (
+        let s = lined (n .all) (n .threads) (n .as-many) .standing in (
           record {
             few = s .few;
             room = record {
@@ -282,7 +302,7 @@ module _ (bytes : Bytes) (offsets : List ℕ) (count : ℕ) (line : Bytes) (star
           omega (arith, bounded),
         )
 
-    module _ (target : Basic) (l″ : Lists) (same : l″ .cells .numbers ≡ l′ .cells .numbers) (nodes : ℕ)
+    module _ (target : Basic) (l″ : Lists) (numbers-kept : l″ .cells .numbers ≡ l′ .cells .numbers) (nodes : ℕ)
         (e : Ended target last (without l′) (without l″) nodes) where
       follows : Follows last l′ (graphOf nodes l″) (l″ .cells .numbers)
       follows =
@@ -291,24 +311,21 @@ module _ (bytes : Bytes) (offsets : List ℕ) (count : ℕ) (line : Bytes) (star
               simples = e .kept .cells .simples;
               nexts = e .kept .cells .nexts;
               enters = e .kept .cells .enters;
-              numbers = λ y h. ap (λ (m : List ℕ). getD {A = ℕ} m y 0) same;
+              numbers = λ y h. ap (λ (m : List ℕ). getD {A = ℕ} m y 0) numbers-kept;
             };
             froms = e .kept .froms;
             tos = e .kept .tos;
           }
 
-      laid′ : Laid (graphOf nodes l″) (l″ .cells .numbers) target 0 all (last .node + 2)
-      laid′ = t .laid (graphOf nodes l″) (l″ .cells .numbers) follows target (last .node + 2) (e .laid (l″ .cells .numbers))
-
-      pub out-laid : LaidOut bytes offsets count line target l″ nodes
-      out-laid =
+      pub out-laid : (ws : Words) → Threads bytes offsets count same firsts 0 ws → length ws ≡ words → LaidOut ws target l″ nodes
+      out-laid ws t many =
+          let laid′ : Laid (graphOf nodes l″) (l″ .cells .numbers) target 0 ws (last .node + 2) =
+          lined ws t many .laid (graphOf nodes l″) (l″ .cells .numbers) follows target (last .node + 2) (e .laid (l″ .cells .numbers)) in
           record {
             few = omega (arith, bounded, e .nodes);
             some-nodes = omega (arith, e .nodes);
             upward = e .upward;
-            laid = λ B kept end last-node.
+            laid = λ end last-node.
                 let same-end : last .node + 2 ≡ end = omega (arith, e .nodes) in
-                let same-words : all ≡ entriesOfLine B line =
-                ap (λ (es : List Entry). map (λ (w : Word). entriesFrom 0 es (w .bytes)) (wordsOf line)) (sym kept) in
-                rw (same-end, same-words) at laid′;
+                rw same-end at laid′;
           }

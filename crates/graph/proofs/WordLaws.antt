@@ -9,8 +9,8 @@ use lib.ListN.{length, getD, set, length-set}
 use lib.Seq.{getD-set-same, getD-set-other}
 use Rattle.pregroup.specs.Types.{Basic}
 use Rattle.linking.specs.Reading.{NumberedEntry, Words}
-use Rattle.line.specs.LineFaults.{simplesIn}
-use Rattle.line.proofs.LineLaws.{simples-cons}
+use Rattle.lookup.specs.Entries.{simplesIn}
+use Rattle.lookup.proofs.ThreadLaws.{simples-cons}
 use Rattle.graph.specs.Graph.{Graph, Boundary}
 use Rattle.graph.specs.Layout.{slotted, Slots, none, slot, Laid, goal, word}
 use Rattle.figures.specs.Limits.{maxNodes}

@@ -8,8 +8,8 @@ use lib.ListN.{length, getD}
 use Rattle.figures.specs.Limits.{maxNodes, maxEntries}
 use Rattle.linking.specs.Reading.{NumberedEntry}
 use Rattle.book.specs.Format.{Bytes, bodyAt, typePart, simplesOf, every, exponents, exponentListed}
-use Rattle.line.specs.LineFaults.{entriesFrom, simplesIn}
-use Rattle.line.specs.LookUp.{entriesKept, Entries, entriesAt, Numbers}
+use Rattle.lookup.specs.Entries.{Entries, simplesIn}
+use Rattle.lookup.specs.Threads.{Thread}
 use Rattle.graph.specs.Graph.{Graph, graph, Boundary, Spells}
 use Rattle.graph.specs.Layout.{Slots, slotted}
 use Rattle.graph.specs.declared.Place.{Place}
@@ -108,14 +108,11 @@ pub record Lexicon (bytes : Bytes) (offsets : List ℕ) (count : ℕ) : Type 0 w
   pub entries : Entries bytes offsets count
   pub listed : (i : ℕ) → i < count → ExponentsListed (typePart (bodyAt bytes (getD {A = ℕ} offsets i 0)))
 
--- The entries of a word.
-abbrev pub entriesOfWord : Bytes → List ℕ → ℕ → Bytes → List NumberedEntry
-entriesOfWord bytes offsets count word = entriesFrom 0 (entriesKept bytes offsets count) word
-
--- The first n entries found can be laid from the place p on, before the boundary b.
-pub record EntriesFit (bytes : Bytes) (offsets found : List ℕ) (n b : ℕ) (p : Place) (c : Cells) : Type 0 where
-  pub count : ℕ
+-- The entries of a thread can be laid from the place p on, before the boundary b.
+pub record EntriesFit (bytes : Bytes) (offsets : List ℕ) (count : ℕ) (same : List ℕ) (first b : ℕ) (p : Place) (c : Cells) : Type 0 where
   pub lexicon : Lexicon bytes offsets count
-  pub named : Numbers count found n
+  pub same-room : count ≤ length same
+  pub entries : List NumberedEntry
+  pub thread : Thread bytes offsets count same first entries
   pub placed : Placed b p c
-  pub fits : p .node + simplesIn (entriesAt bytes offsets found n) ≤ b
+  pub fits : p .node + simplesIn entries ≤ b

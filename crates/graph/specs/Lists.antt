@@ -1,20 +1,17 @@
 -- What the code writes while it lays out the words of a line, from left to right, and then the target.
 use Prim.Native.Nat.{ℕ, _+_, _≤_, _<_}
 use mathlib.Core.Path.{_≡_}
-use mathlib.Core.List.{List, [], map}
+use mathlib.Core.List.{List, []}
 use lib.ListN.{length, getD}
-use Rattle.figures.specs.Limits.{maxWords, maxNodes}
+use Rattle.figures.specs.Limits.{maxWords, maxLineSimples, maxNodes}
 use Rattle.pregroup.specs.Types.{Basic}
-use Rattle.linking.specs.Reading.{Words}
-use Rattle.book.specs.Format.{Bytes, Book}
-use Rattle.line.specs.LineWords.{Word, wordsOf}
-use Rattle.line.specs.LineFaults.{simplesIn, simplesOfWords, entriesOfLine}
-use Rattle.line.specs.Split.{SplitInto}
-use Rattle.line.specs.LookUp.{entriesKept, LineSays}
-use Rattle.line.specs.declared.CheckedLine.the-variants.{Found}
+use Rattle.linking.specs.Reading.{NumberedEntry, Words}
+use Rattle.book.specs.Format.{Bytes}
+use Rattle.lookup.specs.Entries.{simplesIn, simplesOfWords}
+use Rattle.lookup.specs.Threads.{Thread, Threads}
 use Rattle.graph.specs.Graph.{Graph, graph, Upward}
 use Rattle.graph.specs.Layout.{Laid}
-use Rattle.graph.specs.Cells.{Cells, cells, Same, Continues, Edges, Lexicon, entriesOfWord}
+use Rattle.graph.specs.Cells.{Cells, cells, Same, Continues, Edges, Lexicon}
 use Rattle.graph.specs.declared.Place.{Place}
 
 -- All lists: those of nodes and slots, and for each boundary the range of its slots.
@@ -63,26 +60,27 @@ pub record Lined (p : Place) (l : Lists) (p′ : Place) (l′ : Lists) (words le
   pub node-on : p .node ≤ p′ .node
   pub slot-on : p .slot ≤ p′ .slot
 
--- The words of a line by their entries.
-abbrev pub entriesOfWords : Bytes → List ℕ → ℕ → List Word → Words
-entriesOfWords bytes offsets count words = map (λ (w : Word). entriesOfWord bytes offsets count (w .bytes)) words
-
--- A word can be laid at the boundary of the place p.
-pub record WordFits (bytes : Bytes) (offsets : List ℕ) (count : ℕ) (word : Bytes) (p : Place) (l : Lists) : Type 0 where
+-- A word, by the thread of its entries, can be laid at the boundary of the place p.
+pub record WordFits (bytes : Bytes) (offsets : List ℕ) (count : ℕ) (same : List ℕ) (first : ℕ) (p : Place) (l : Lists) : Type 0 where
   pub lexicon : Lexicon bytes offsets count
+  pub same-room : count ≤ length same
+  pub entries : List NumberedEntry
+  pub thread : Thread bytes offsets count same first entries
   pub standing : Standing p l
   pub numbers-room : maxNodes ≤ length (l .cells .numbers)
-  pub fits : p .node + 1 + simplesIn (entriesOfWord bytes offsets count word) < maxNodes
+  pub fits : p .node + 1 + simplesIn entries < maxNodes
 
--- All words of a line that is split can be laid from the place p on, and the target behind them.
-pub record WordsFit (bytes : Bytes) (offsets : List ℕ) (count : ℕ) (line : Bytes) (starts ends : List ℕ) (words : ℕ) (p : Place) (l : Lists) : Type 0 where
+-- All words of a line can be laid from the place p on, and the target behind them.
+pub record WordsFit (bytes : Bytes) (offsets : List ℕ) (count : ℕ) (same firsts : List ℕ) (words : ℕ) (p : Place) (l : Lists) : Type 0 where
   pub lexicon : Lexicon bytes offsets count
-  pub split : SplitInto line starts ends words
-  pub starts-room : maxWords ≤ length starts
-  pub ends-room : maxWords ≤ length ends
+  pub same-room : count ≤ length same
+  pub firsts-room : words ≤ length firsts
+  pub all : Words
+  pub threads : Threads bytes offsets count same firsts 0 all
+  pub as-many : length all ≡ words
   pub standing : Standing p l
   pub numbers-room : maxNodes ≤ length (l .cells .numbers)
-  pub fits : p .node + (simplesOfWords (entriesOfWords bytes offsets count (wordsOf line)) + words) + 3 ≤ maxNodes
+  pub fits : p .node + (simplesOfWords all + words) + 3 ≤ maxNodes
 
 -- The target is laid at the boundary of the place p, with two nodes behind it: its right adjoint and the end.
 pub record Ended (target : Basic) (p : Place) (l l′ : Lists) (count : ℕ) : Type 0 where
@@ -96,25 +94,23 @@ pub record Empty (l : Lists) : Type 0 where
   pub nexts : (x : ℕ) → getD {A = ℕ} (l .cells .nexts) x 0 ≡ 0
   pub tos : (x : ℕ) → getD {A = ℕ} (l .tos) x 0 ≡ 0
 
--- What the check of a line found, for every book with the kept entries.
-abbrev pub Checked : Bytes → List ℕ → ℕ → Bytes → List ℕ → List ℕ → ℕ → Type 0
-Checked bytes offsets count line starts ends words =
-    (B : Book) → B .entries ≡ entriesKept bytes offsets count → LineSays B line starts ends (Found words)
-
--- A line that passed its check can be laid out in empty lists.
-pub record LineFits (bytes : Bytes) (offsets : List ℕ) (count : ℕ) (line : Bytes) (starts ends : List ℕ) (words : ℕ) (l : Lists) : Type 0 where
+-- A line whose words are looked up, within its limits, can be laid out in empty lists.
+pub record LineFits (bytes : Bytes) (offsets : List ℕ) (count : ℕ) (same firsts : List ℕ) (words : ℕ) (l : Lists) : Type 0 where
   pub lexicon : Lexicon bytes offsets count
-  pub checked : Checked bytes offsets count line starts ends words
-  pub starts-room : maxWords ≤ length starts
-  pub ends-room : maxWords ≤ length ends
+  pub same-room : count ≤ length same
+  pub firsts-room : words ≤ length firsts
+  pub all : Words
+  pub threads : Threads bytes offsets count same firsts 0 all
+  pub as-many : length all ≡ words
+  pub few : words ≤ maxWords
+  pub small : simplesOfWords all ≤ maxLineSimples
   pub room : Room l
   pub numbers-room : maxNodes ≤ length (l .cells .numbers)
   pub empty : Empty l
 
 -- The line is laid out: the graph goes up, and from node 0 it is that of the line's words and the target, up to its last node.
-pub record LaidOut (bytes : Bytes) (offsets : List ℕ) (entries : ℕ) (line : Bytes) (target : Basic) (l : Lists) (count : ℕ) : Type 0 where
+pub record LaidOut (words : Words) (target : Basic) (l : Lists) (count : ℕ) : Type 0 where
   pub few : count ≤ maxNodes
   pub some-nodes : 0 < count
   pub upward : Upward (graphOf count l)
-  pub laid : (B : Book) → B .entries ≡ entriesKept bytes offsets entries → (end : ℕ) → end + 1 ≡ count
-      → Laid (graphOf count l) (l .cells .numbers) target 0 (entriesOfLine B line) end
+  pub laid : (end : ℕ) → end + 1 ≡ count → Laid (graphOf count l) (l .cells .numbers) target 0 words end

@@ -1,17 +1,16 @@
-// Lays a checked line out: each word a boundary, then the simple types of its entries, and behind the last word the target.
+// Lays a line out whose words are looked up: each word a boundary, then the simple types of its entries, and behind the last word the target.
 use crate::Place;
 use book::layout::LEAST_EXPONENT;
 use book::layout::body_at;
 use book::layout::type_part;
 use bytewise::widths::wide_number;
-use figures::limits::MAX_ENTRIES;
-use line::words::find_entries;
-use line::words::tally_found;
+use lookup::find::tally;
 use pregroup::EXPONENT_BIAS;
 use pregroup::hold;
 ghost use mathlib.Core.Path.{_≡_};
 ghost use mathlib.Core.Bool.{true};
 ghost use mathlib.Core.List.{List, [], _∷_};
+ghost use lib.ListN.{length};
 ghost use Prim.Native.Nat.{_+_, _≤_};
 ghost use lib.IntN.{pos, _-ℤ_};
 ghost use Rattle.figures.specs.Limits.{maxNodes};
@@ -19,10 +18,9 @@ ghost use Rattle.pregroup.specs.Types.{_⁽_⁾};
 ghost use Rattle.pregroup.specs.Held.{bias, held};
 ghost use Rattle.book.specs.Format.{exponentOf, exponentListed, simplesOf};
 ghost use Rattle.linking.specs.Reading.{NumberedEntry, Words};
-ghost use Rattle.line.specs.LineWords.{wordsOf};
-ghost use Rattle.line.specs.LookUp.{entriesAt};
-ghost use Rattle.graph.specs.Cells.{cells, nodes, TypeFits, Typed, SlotFits, Lays, EntriesFit, entriesOfWord};
-ghost use Rattle.graph.specs.Lists.{lists, WordFits, WordsFit, Lined, entriesOfWords, Ended, Standing, LineFits, LaidOut};
+ghost use Rattle.lookup.specs.Threads.{Thread, Threads};
+ghost use Rattle.graph.specs.Cells.{cells, nodes, TypeFits, Typed, SlotFits, Lays, EntriesFit};
+ghost use Rattle.graph.specs.Lists.{lists, WordFits, WordsFit, Lined, Ended, Standing, LineFits, LaidOut};
 
 // An exponent of the book, a byte in two's complement, as it is held: raised, so that it is never negative.
 fn raise(exponent: u8) -> u8
@@ -105,12 +103,13 @@ fn lay_slot(
     }
 }
 
-// Lays the first n entries found, in their order, before the boundary behind the word.
+// Lays the entries of a thread, in their order, before the boundary behind the word.
 fn lay_entries(
     book: &[u8],
     offsets: &[u16],
-    found: &[u16],
-    n: usize,
+    count: usize,
+    same: &[u16],
+    first: usize,
     boundary: usize,
     p: Place,
     simples: &mut [u16],
@@ -118,38 +117,30 @@ fn lay_entries(
     enters: &mut [u16],
     numbers: &mut [u16],
 ) -> Place
-    requires { ⌜ EntriesFit (now book) (now offsets) (now found) n boundary p (cells (now simples) (now nexts) (now enters) (now numbers)) ⌝ }
-    ensures { λ r. ⌜ Lays boundary p (cells (now (simples .entry)) (now (nexts .entry)) (now (enters .entry)) (now (numbers .entry))) r
-        (cells (now (simples .exit)) (now (nexts .exit)) (now (enters .exit)) (now (numbers .exit)))
-        (entriesAt (now (book .entry)) (now (offsets .entry)) (now (found .entry)) n) [] ⌝ }
+    requires { ⌜ EntriesFit (now book) (now offsets) count (now same) first boundary p
+        (cells (now simples) (now nexts) (now enters) (now numbers)) ⌝ }
+    ensures { λ r. ⌜ ((es : List NumberedEntry) → Thread (now (book .entry)) (now (offsets .entry)) count (now (same .entry)) first es
+        → Lays boundary p (cells (now (simples .entry)) (now (nexts .entry)) (now (enters .entry)) (now (numbers .entry))) r
+        (cells (now (simples .exit)) (now (nexts .exit)) (now (enters .exit)) (now (numbers .exit))) es []) ⌝ }
 {
     let mut place = p;
-    let mut k = 0;
-    while k < n {
-        let number = wide_number(found[k]);
-        let part = type_part(body_at(book, wide_number(offsets[number])));
-        place = lay_slot(
-            part,
-            number,
-            boundary,
-            place,
-            simples,
-            nexts,
-            enters,
-            numbers,
-        );
-        k += 1;
+    let mut i = first;
+    while i < count {
+        let part = type_part(body_at(book, wide_number(offsets[i])));
+        place = lay_slot(part, i, boundary, place, simples, nexts, enters, numbers);
+        i = wide_number(same[i]);
     }
     place
 }
 
-// Lays a word at the boundary of a place: the range of its slots, and its entries, which are found once. The place behind it is at the next
+// Lays a word at the boundary of a place: the range of its slots, and its entries, from the first one on. The place behind it is at the next
 // boundary, which is known beforehand from the number of simple types.
 fn lay_word(
     book: &[u8],
     offsets: &[u16],
     count: usize,
-    word: &[u8],
+    same: &[u16],
+    first: usize,
     p: Place,
     simples: &mut [u16],
     nexts: &mut [u16],
@@ -158,19 +149,17 @@ fn lay_word(
     enters: &mut [u16],
     numbers: &mut [u16],
 ) -> Place
-    requires { ⌜ WordFits (now book) (now offsets) count (now word) p
+    requires { ⌜ WordFits (now book) (now offsets) count (now same) first p
         (lists (now simples) (now nexts) (now froms) (now tos) (now enters) (now numbers)) ⌝ }
-    ensures { λ r. ⌜ ((rest : Words) → Lined p (lists (now (simples .entry)) (now (nexts .entry)) (now (froms .entry)) (now (tos .entry))
+    ensures { λ r. ⌜ ((es : List NumberedEntry) → Thread (now (book .entry)) (now (offsets .entry)) count (now (same .entry)) first es
+        → (rest : Words) → Lined p (lists (now (simples .entry)) (now (nexts .entry)) (now (froms .entry)) (now (tos .entry))
         (now (enters .entry)) (now (numbers .entry))) r (lists (now (simples .exit)) (now (nexts .exit)) (now (froms .exit))
-        (now (tos .exit)) (now (enters .exit)) (now (numbers .exit)))
-        (entriesOfWord (now (book .entry)) (now (offsets .entry)) count (now (word .entry)) ∷ rest) rest) ⌝ }
+        (now (tos .exit)) (now (enters .exit)) (now (numbers .exit))) (es ∷ rest) rest) ⌝ }
 {
     let node = p.node;
     let slot = p.slot;
-    let mut found = [0; MAX_ENTRIES];
-    let n = find_entries(book, offsets, count, word, &mut found);
-    let boundary = node + 1 + tally_found(book, offsets, &found, n);
-    let first = Place {
+    let boundary = node + 1 + tally(book, offsets, count, same, first);
+    let inside = Place {
         node: node + 1,
         slot,
         seen: false,
@@ -178,10 +167,11 @@ fn lay_word(
     let last = lay_entries(
         book,
         offsets,
-        &found,
-        n,
-        boundary,
+        count,
+        same,
         first,
+        boundary,
+        inside,
         simples,
         nexts,
         enters,
@@ -197,14 +187,13 @@ fn lay_word(
     }
 }
 
-// Lays all words of a line, each from its boundary to the next.
+// Lays all words of a line, given by the first entry of each, from its boundary to the next.
 fn lay_words(
     book: &[u8],
     offsets: &[u16],
     count: usize,
-    line: &[u8],
-    starts: &[usize],
-    ends: &[usize],
+    same: &[u16],
+    firsts: &[u16],
     words: usize,
     p: Place,
     simples: &mut [u16],
@@ -214,23 +203,22 @@ fn lay_words(
     enters: &mut [u16],
     numbers: &mut [u16],
 ) -> Place
-    requires { ⌜ WordsFit (now book) (now offsets) count (now line) (now starts) (now ends) words p
+    requires { ⌜ WordsFit (now book) (now offsets) count (now same) (now firsts) words p
         (lists (now simples) (now nexts) (now froms) (now tos) (now enters) (now numbers)) ⌝ }
-    ensures { λ r. ⌜ Lined p (lists (now (simples .entry)) (now (nexts .entry)) (now (froms .entry)) (now (tos .entry))
+    ensures { λ r. ⌜ ((ws : Words) → Threads (now (book .entry)) (now (offsets .entry)) count (now (same .entry)) (now (firsts .entry)) 0 ws
+        → length ws ≡ words → Lined p (lists (now (simples .entry)) (now (nexts .entry)) (now (froms .entry)) (now (tos .entry))
         (now (enters .entry)) (now (numbers .entry))) r (lists (now (simples .exit)) (now (nexts .exit)) (now (froms .exit))
-        (now (tos .exit)) (now (enters .exit)) (now (numbers .exit)))
-        (entriesOfWords (now (book .entry)) (now (offsets .entry)) count (wordsOf (now (line .entry)))) [] ⌝ }
+        (now (tos .exit)) (now (enters .exit)) (now (numbers .exit))) ws []) ⌝ }
 {
     let mut place = p;
     let mut k = 0;
     while k < words {
-        let start = starts[k];
-        let end = ends[k];
         place = lay_word(
             book,
             offsets,
             count,
-            &line[start..end],
+            same,
+            wide_number(firsts[k]),
             place,
             simples,
             nexts,
@@ -273,15 +261,14 @@ fn lay_goal(
     node + 3
 }
 
-// Lays a checked line out in empty lists and returns the number of nodes: a graph that goes up, from node 0 that of the line's words and
-// the target, to its last node.
+// Lays a line out in empty lists and returns the number of nodes: a graph that goes up, from node 0 that of the line's words and the
+// target, to its last node. The words are looked up before: `firsts` has the first entry of each, and `same` leads to the others.
 pub fn lay_out(
     book: &[u8],
     offsets: &[u16],
     count: usize,
-    line: &[u8],
-    starts: &[usize],
-    ends: &[usize],
+    same: &[u16],
+    firsts: &[u16],
     words: usize,
     target: u8,
     simples: &mut [u16],
@@ -291,11 +278,11 @@ pub fn lay_out(
     enters: &mut [u16],
     numbers: &mut [u16],
 ) -> usize
-    requires { ⌜ LineFits (now book) (now offsets) count (now line) (now starts) (now ends) words
+    requires { ⌜ LineFits (now book) (now offsets) count (now same) (now firsts) words
         (lists (now simples) (now nexts) (now froms) (now tos) (now enters) (now numbers)) ⌝ }
-    ensures { λ r. ⌜ LaidOut (now (book .entry)) (now (offsets .entry)) count (now (line .entry)) target
-        (lists (now (simples .exit)) (now (nexts .exit)) (now (froms .exit)) (now (tos .exit)) (now (enters .exit)) (now (numbers .exit)))
-        r ⌝ }
+    ensures { λ r. ⌜ ((ws : Words) → Threads (now (book .entry)) (now (offsets .entry)) count (now (same .entry)) (now (firsts .entry)) 0 ws
+        → length ws ≡ words → LaidOut ws target (lists (now (simples .exit)) (now (nexts .exit)) (now (froms .exit)) (now (tos .exit))
+        (now (enters .exit)) (now (numbers .exit))) r) ⌝ }
 {
     let first = Place {
         node: 0,
@@ -306,9 +293,8 @@ pub fn lay_out(
         book,
         offsets,
         count,
-        line,
-        starts,
-        ends,
+        same,
+        firsts,
         words,
         first,
         simples,

@@ -1,10 +1,9 @@
 -- Laws that the proofs of several functions cite.
 pub mod WordLaws
 pub mod SplitLaws
-pub mod LookUpLaws
-pub mod FoundLaws
 pub mod LineLaws
 pub mod Passed
 pub mod Offsets
 pub mod SmallLines
 pub mod SmallBooks
+pub mod PromiseLaws

@@ -1,5 +1,5 @@
 -- The look-up of a line's words one by one, and the check of a whole line from its parts.
-use Prim.Native.Nat.{ℕ, zero, suc, _+_, _*_, _≤_, _<_}
+use Prim.Native.Nat.{ℕ, zero, suc, _+_, _*_, _-_, _≤_, _<_}
 use native.Mathlib.Numerals.{add-one}
 use native.Mathlib.Omega.{arith}
 use native.Mathlib.Decide.{ℕ-discrete}
@@ -9,22 +9,25 @@ use mathlib.Core.Bool.{Bool, cond}
 use mathlib.Core.List.{List, [], _∷_, _++_, map}
 use mathlib.Core.Option.{none, some}
 use lib.Dec.{eqb}
-use lib.ListN.{length, getD, drop, length-append, List·getD-append, drop-of-length-le}
-use lib.Seq.{drop-cons, getD-at}
+use lib.ListN.{length, getD, drop, set, length-append, length-map, length-drop, List·getD-append, drop-of-length-le}
+use lib.Seq.{drop-cons, getD-at, getD-set-same, getD-set-other, length-take-le}
 use borrow.Author.Tests.{eq-eqb, ne-eqb, lt-ltb, le-ltb}
-use Rattle.figures.specs.Limits.{maxEntries, maxEntrySimples, maxLineSimples}
+use Rattle.figures.specs.Limits.{maxWord, maxWords, maxEntries, maxEntrySimples, maxLineSimples}
 use Rattle.figures.specs.Refusals.{unknownWord, tooManySimples}
-use Rattle.linking.specs.Reading.{NumberedEntry, Words}
+use Rattle.linking.specs.Reading.{Words}
 use Rattle.book.specs.Format.{Bytes, Book}
+use Rattle.lookup.specs.Entries.{Entries, entriesKept, simplesIn, simplesOfWords}
+use Rattle.lookup.specs.Threads.{Found as FoundWord, Finds, Thread, Threads, none as none-threaded, word as next-thread, Tallied}
+use Rattle.lookup.proofs.ThreadLaws.{simples-cons, thread-next, thread-end}
+use Rattle.lookup.proofs.FindLaws.{found-thread}
 use Rattle.line.specs.LineWords.{Word, wordsOf}
-use Rattle.line.specs.LineFaults.{entriesFrom, entriesOf, entriesOfLine, byteFault, wordFault, entryFault, simplesIn, simplesOfWords, passed, stopped, lineCheck}
+use Rattle.line.specs.LineFaults.{entriesOf, entriesOfLine, byteFault, wordFault, entryFault, passed, stopped, lineCheck}
 use Rattle.line.specs.Split.{wordAt, wordsKept, SplitInto, Stopped, at-byte, at-word}
-use Rattle.line.specs.LookUp.{entriesKept, entriesAt, FoundEntries, Tallied, Missing, no-entry, too-many, LookedUp, LineSays}
+use Rattle.line.specs.LookUp.{Missing, no-entry, too-many, Known, LookedUp, LineSays}
 use Rattle.line.specs.declared.CheckedLine.{CheckedLine as Split}
 use Rattle.line.specs.declared.CheckedLine.the-variants.{Found, Refused}
-use Rattle.line.proofs.FoundLaws.{found-length}
 
-pub kept-length : (line : Bytes) (starts ends : List ℕ) (n : ℕ) → length (wordsKept line starts ends n) ≡ n
+kept-length : (line : Bytes) (starts ends : List ℕ) (n : ℕ) → length (wordsKept line starts ends n) ≡ n
 unfolding wordsKept
 kept-length line starts ends zero = refl
 kept-length line starts ends (suc n) = let e = kept-length line starts ends n in length-append (wordsKept line starts ends n) _ ∙ omega arith
@@ -48,17 +51,13 @@ kept-at line starts ends (suc n) k d h = go (λ g. kept-at line starts ends n k 
         let inside : k < n = omega (arith, o) in
         List·getD-append rest (here n ∷ []) d k (omega (arith, kept-length line starts ends n)) ∙ below inside
 
-pub simples-cons : (es : List NumberedEntry) (words : Words) → simplesOfWords (es ∷ words) ≡ simplesIn es + simplesOfWords words
-unfolding simplesOfWords
-simples-cons es words = refl
-
 -- The words that are split off, one by one.
 module _ (line : Bytes) (starts ends : List ℕ) (words : ℕ) (s : SplitInto line starts ends words) where
   -- The k-th word.
   abbrev pub word : ℕ → Word
   word k = wordAt line (getD {A = ℕ} starts k 0) (getD {A = ℕ} ends k 0)
 
-  pub words-length : length (wordsOf line) ≡ words
+  words-length : length (wordsOf line) ≡ words
   words-length = ap length (s .words) ∙ kept-length line starts ends words
 
   word-at : (k : ℕ) → k < words → getD (wordsOf line) k (wordAt line 0 0) ≡ word k
@@ -70,6 +69,29 @@ module _ (line : Bytes) (starts ends : List ℕ) (words : ℕ) (s : SplitInto li
 
   pub none-left : (k : ℕ) → words ≤ k → drop k (wordsOf line) ≡ []
   none-left k h = drop-of-length-le (wordsOf line) {i = k} (omega (arith, words-length))
+
+  -- It has 1 to 31 bytes.
+  pub word-range : (k : ℕ) → k < words → (1 ≤ length (word k .bytes)) × (length (word k .bytes) ≤ maxWord)
+  word-range k h =
+      let at = getD {A = ℕ} starts k 0 in
+      let end = getD {A = ℕ} ends k 0 in
+      let lies = s .lying k h in
+      let long = length-take-le (end - at) (drop at line) (omega (arith, length-drop at line, lies .0, lies .1)) in
+      (omega (arith, long, lies .0), omega (arith, long, lies .2))
+
+  -- The first words are found, each with its first entry.
+  abbrev pub AllFound : Bytes → List ℕ → ℕ → List ℕ → List ℕ → ℕ → Type 0
+  AllFound bytes offsets count same firsts n = (j : ℕ) → j < n → FoundWord bytes offsets count (word j .bytes) same (getD {A = ℕ} firsts j 0)
+
+  pub found-more : (bytes : Bytes) (offsets : List ℕ) (count : ℕ) (same same′ firsts : List ℕ) (k first : ℕ) → AllFound bytes offsets count same firsts k
+      → k < length firsts → Finds bytes offsets count (word k .bytes) same same′ first → AllFound bytes offsets count same′ (set firsts k first) (k + 1)
+  found-more bytes offsets count same same′ firsts k first f room t j h = go (ℕ-discrete j k)
+    where
+      go : Dec (j ≡ k) → FoundWord bytes offsets count (word j .bytes) same′ (getD {A = ℕ} (set firsts k first) j 0)
+      go (yes e) = rw (e, getD-set-same firsts k first 0 room) (t .found)
+      go (no e) =
+          let before = f j (omega (arith, e)) in
+          rw (getD-set-other firsts k j first 0 e) (record { begins = before .begins; known = λ i l o. t .kept i (before .known i l o) })
 
   module _ (B : Book) where
     abbrev leftWords : ℕ → Words
@@ -85,34 +107,30 @@ module _ (line : Bytes) (starts ends : List ℕ) (words : ℕ) (s : SplitInto li
     pub looking-start : Looking 0 0
     looking-start = record { inside = omega arith; found = refl; simples = omega arith; small = omega arith }
 
-    module _ (bytes : Bytes) (offsets : List ℕ) (count : ℕ) (kept : B .entries ≡ entriesKept bytes offsets count) (sum k : ℕ) (l : Looking sum k) (h : k < words) (found : List ℕ) (n : ℕ) (f : FoundEntries bytes offsets count (word k .bytes) found n) where
-      entries : entriesAt bytes offsets found n ≡ entriesOf B (word k)
-      entries = f .all ∙ ap (λ (es : List _). entriesFrom 0 es (word k .bytes)) (sym kept)
-
-      number : n ≡ length (entriesOf B (word k))
-      number = sym (found-length bytes offsets found n (f .numbers .room)) ∙ ap length entries
-
+    module _ {bytes : Bytes} {offsets : List ℕ} {count : ℕ} {same : List ℕ} {sum k first : ℕ} (l : Looking sum k) (h : k < words)
+        (t : Thread bytes offsets count same first (entriesOf B (word k))) where
       unfolded : entryFault B (drop k (wordsOf line)) ≡ cond (eqb (length (entriesOf B (word k))) 0) (some (word k .at)) (entryFault B (drop (k + 1) (wordsOf line)))
       unfolding entryFault
       unfolded = rw (words-at k h)
 
-      pub looking-none : n ≡ 0 → Missing B line unknownWord (word k .at)
-      looking-none e = no-entry (l .found ∙ unfolded ∙ ap (λ (b : Bool). cond b (some (word k .at)) (entryFault B (drop (k + 1) (wordsOf line)))) (eq-eqb _ 0 (sym number ∙ e)))
+      pub looking-none : count ≤ first → Missing B line unknownWord (word k .at)
+      looking-none e =
+          no-entry (l .found ∙ unfolded ∙ ap (λ (b : Bool). cond b (some (word k .at)) (entryFault B (drop (k + 1) (wordsOf line)))) (eq-eqb _ 0 (ap length (thread-end t e))))
 
-      pub looking-next : (n ≡ 0 → ⊥) → (simples : ℕ) → Tallied bytes offsets found n simples → Looking (sum + simples) (k + 1)
-      looking-next any simples t =
+      pub looking-next : first < count → {simples : ℕ} → Tallied (entriesOf B (word k)) simples → Looking (sum + simples) (k + 1)
+      looking-next any {simples} tallied =
           record {
             inside = omega arith;
-            found = l .found ∙ unfolded ∙ ap (λ (b : Bool). cond b (some (word k .at)) (entryFault B (drop (k + 1) (wordsOf line)))) (ne-eqb _ 0 (λ z. any (number ∙ z)));
+            found = l .found ∙ unfolded ∙ ap (λ (b : Bool). cond b (some (word k .at)) (entryFault B (drop (k + 1) (wordsOf line)))) (ne-eqb (length (entriesOf B (word k))) 0 (λ z. omega (arith, z, ap length (thread-next t any .is))));
             simples = l .simples ∙ ap (λ (m : ℕ). sum + m) more ∙ sym (add-assoc sum simples (simplesOfWords (leftWords (k + 1))));
-            small = omega (arith, l .small, t .small);
+            small = omega (arith, l .small, tallied .small);
           }
         where
           added : simplesOfWords (leftWords k) ≡ simplesIn (entriesOf B (word k)) + simplesOfWords (leftWords (k + 1))
           added = ap (λ (ws : List Word). simplesOfWords (map (entriesOf B) ws)) (words-at k h) ∙ simples-cons (entriesOf B (word k)) (leftWords (k + 1))
 
           more : simplesOfWords (leftWords k) ≡ simples + simplesOfWords (leftWords (k + 1))
-          more = added ∙ ap (λ (m : ℕ). m + simplesOfWords (leftWords (k + 1))) (sym (t .total ∙ ap simplesIn entries))
+          more = added ∙ ap (λ (m : ℕ). m + simplesOfWords (leftWords (k + 1))) (sym (tallied .total))
 
     all-found : (sum k : ℕ) → Looking sum k → words ≤ k → entryFault B (wordsOf line) ≡ none
     unfolding entryFault
@@ -127,8 +145,24 @@ module _ (line : Bytes) (starts ends : List ℕ) (words : ℕ) (s : SplitInto li
     pub looking-full : (sum k : ℕ) → Looking sum k → words ≤ k → maxLineSimples < sum → Missing B line tooManySimples 0
     looking-full sum k l h m = too-many (all-found sum k l h) (omega (arith, all-counted sum k l h))
 
-    pub looking-end : (sum k : ℕ) → Looking sum k → words ≤ k → sum ≤ maxLineSimples → (entryFault B (wordsOf line) ≡ none) × (simplesOfWords (entriesOfLine B line) ≤ maxLineSimples)
-    looking-end sum k l h m = (all-found sum k l h, omega (arith, all-counted sum k l h))
+    module _ {bytes : Bytes} {offsets : List ℕ} {count : ℕ} {same : List ℕ} (kept : Entries bytes offsets count) (entries : B .entries ≡ entriesKept bytes offsets count) where
+      -- The thread of a word that is found has the entries of the definition.
+      pub word-thread : (k : ℕ) {first : ℕ} → FoundWord bytes offsets count (word k .bytes) same first → Thread bytes offsets count same first (entriesOf B (word k))
+      word-thread k f = rw entries (found-thread bytes offsets count (word k .bytes) kept f)
+
+      threads-from : (firsts : List ℕ) (n k : ℕ) → k + n ≡ words → AllFound bytes offsets count same firsts words → Threads bytes offsets count same firsts k (leftWords k)
+      threads-from firsts zero k e f = rw (none-left k (omega arith)) none-threaded
+      threads-from firsts (suc n) k e f =
+          rw (words-at k (omega arith)) (next-thread (word-thread k (f k (omega arith))) (threads-from firsts n (k + 1) (omega arith) f))
+
+      pub looking-end : (firsts : List ℕ) (sum k : ℕ) → Looking sum k → words ≤ k → sum ≤ maxLineSimples → AllFound bytes offsets count same firsts words → Known bytes offsets count B line firsts same words
+      looking-end firsts sum k l h m f =
+          record {
+            found = all-found sum k l h;
+            small = omega (arith, all-counted sum k l h);
+            words = length-map (wordsOf line) (entriesOf B) ∙ words-length;
+            threads = threads-from firsts words 0 (omega arith) f;
+          }
 
 -- The check of a line, from what its parts found.
 module _ (B : Book) (line : Bytes) where
@@ -137,16 +171,19 @@ module _ (B : Book) (line : Bytes) where
   check-stopped (at-byte e) = rw e
   check-stopped (at-word e f) = rw (e, f)
 
-  pub check-missing : {number value : ℕ} → byteFault 0 line ≡ none → wordFault 0 (wordsOf line) ≡ none → Missing B line number value → lineCheck B line ≡ stopped number value
+  check-missing : {number value : ℕ} → byteFault 0 line ≡ none → wordFault 0 (wordsOf line) ≡ none → Missing B line number value → lineCheck B line ≡ stopped number value
   unfolding lineCheck
   check-missing e f (no-entry g) = rw (e, f, g)
   check-missing e f (too-many g h) = rw (e, f, g, lt-ltb maxLineSimples (simplesOfWords (entriesOfLine B line)) h)
 
-  pub check-passed : byteFault 0 line ≡ none → wordFault 0 (wordsOf line) ≡ none → entryFault B (wordsOf line) ≡ none → simplesOfWords (entriesOfLine B line) ≤ maxLineSimples → lineCheck B line ≡ passed (entriesOfLine B line)
+  check-passed : byteFault 0 line ≡ none → wordFault 0 (wordsOf line) ≡ none → entryFault B (wordsOf line) ≡ none → simplesOfWords (entriesOfLine B line) ≤ maxLineSimples → lineCheck B line ≡ passed (entriesOfLine B line)
   unfolding lineCheck
   check-passed e f g h = rw (e, f, g, le-ltb maxLineSimples (simplesOfWords (entriesOfLine B line)) h)
 
   -- What the look-up found says what the line is.
-  pub looked-up : (starts ends : List ℕ) (words : ℕ) → SplitInto line starts ends words → (r : Split) → LookedUp B line words r → LineSays B line starts ends r
-  looked-up starts ends words s (Found count) t = (rw (t .0) s, check-passed (s .bytes-fine) (s .words-fine) (t .1) (t .2), t .2)
-  looked-up starts ends words s (Refused number value) m = check-missing (s .bytes-fine) (s .words-fine) m
+  pub looked-up : (bytes : Bytes) (offsets : List ℕ) (entries : ℕ) (starts ends firsts same : List ℕ) (words : ℕ) → SplitInto line starts ends words
+      → (r : Split) → LookedUp bytes offsets entries B line firsts same r → LineSays bytes offsets entries B line firsts same r
+  looked-up bytes offsets entries starts ends firsts same words s (Found count) t =
+      let few : count ≤ maxWords = omega (arith, s .few, t .words, length-map (wordsOf line) (entriesOf B), words-length line starts ends words s) in
+      (check-passed (s .bytes-fine) (s .words-fine) (t .found) (t .small), few, t)
+  looked-up bytes offsets entries starts ends firsts same words s (Refused number value) m = check-missing (s .bytes-fine) (s .words-fine) m

@@ -12,7 +12,8 @@ use Rattle.figures.specs.Limits.{maxWord, maxWords, maxLineSimples}
 use Rattle.figures.specs.Refusals.{badLineByte, badWord, unknownWord, tooManySimples}
 use Rattle.book.specs.Format.{Bytes, Book, between}
 use Rattle.line.specs.LineWords.{Word, putBefore, wordsFrom, wordsOf}
-use Rattle.line.specs.LineFaults.{entriesOf, entriesOfLine, byteFault, wordFault, entryFault, simplesOfWords, LineCheck, passed, stopped, orElse, lineCheck}
+use Rattle.line.specs.LineFaults.{entriesOf, entriesOfLine, byteFault, wordFault, entryFault, LineCheck, passed, stopped, orElse, lineCheck}
+use Rattle.lookup.specs.Entries.{simplesOfWords}
 
 -- What is found, if anything, is at most that.
 abbrev Within : ℕ → Option ℕ → Type 0

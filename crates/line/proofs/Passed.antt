@@ -4,7 +4,7 @@ use Prim.Native.Nat.{ℕ, _+_, _*_, _≤_, _<_}
 use native.Mathlib.Omega.{arith}
 use mathlib.Core.Path.{_≡_, refl, sym, ap, subst}
 use mathlib.Core.Bool.{Bool, true, false, cond, _||_}
-use mathlib.Core.List.{List, [], _∷_, map, List·Memᴰ, List·Memᴰ·not-nil, List·Memᴰ·head, List·Memᴰ·tail, List·Memᴰ·cases-cons}
+use mathlib.Core.List.{List, [], _∷_, map, List·Memᴰ·not-nil, List·Memᴰ·head, List·Memᴰ·tail, List·Memᴰ·cases-cons}
 use mathlib.Core.Logic.{⊎-elim}
 use mathlib.Core.Option.{Option, none, some}
 use lib.Dec.{eqb, leb, ltb}
@@ -14,50 +14,21 @@ use Rattle.pregroup.specs.Types.{PregroupType}
 use Rattle.figures.specs.Limits.{maxWord, maxWords, maxEntrySimples, maxLineSimples}
 use Rattle.figures.specs.Refusals.{badLineByte, badWord, unknownWord, tooManySimples}
 use Rattle.linking.specs.Reading.{NumberedEntry, Words, Choice, take, empty as empty-choice}
-use Rattle.linking.specs.Ascending.{Ascending, empty, more, AllAscending}
+use Rattle.linking.specs.Ascending.{empty, more, AllAscending}
 use Rattle.book.specs.Format.{Bytes, Book, Entry}
 use Rattle.book.proofs.Accepted.{AllShort}
 use Rattle.line.specs.Passing.{AllKnown, no-word, known, Brief, AllBrief, no-words, brief}
 use Rattle.line.specs.LineWords.{Word, wordsOf}
-use Rattle.line.specs.LineFaults.{entriesFrom, entriesOf, entriesOfLine, byteFault, wordFault, entryFault, simplesOfWords, LineCheck, passed, stopped, orElse, lineCheck}
+use Rattle.line.specs.LineFaults.{entriesOf, entriesOfLine, byteFault, wordFault, entryFault, LineCheck, passed, stopped, orElse, lineCheck}
+use Rattle.lookup.specs.Entries.{entriesFrom, simplesOfWords}
 use Rattle.lookup.specs.Capitals.{sameWord}
-
--- Every entry's number is n or more.
-abbrev NumbersFrom : ℕ → List NumberedEntry → Type 0
-NumbersFrom n es = (f : NumberedEntry) → List·Memᴰ f es → n ≤ f .number
-
-numbers-cons : (n : ℕ) (e : NumberedEntry) (es : List NumberedEntry) → n ≤ e .number → NumbersFrom n es → NumbersFrom n (e ∷ es)
-numbers-cons n e es h k f m = ⊎-elim (λ q. let same = ap (λ (x : NumberedEntry). x .number) q in omega arith) (λ l. k f l) (List·Memᴰ·cases-cons m)
-
-numbers-from : (n : ℕ) (entries : List Entry) (word : Bytes) → NumbersFrom n (entriesFrom n entries word)
-unfolding entriesFrom
-numbers-from n [] word = λ f m. absurd (List·Memᴰ·not-nil m)
-numbers-from n (e ∷ entries) word = go (sameWord (e .word) word) (λ f m. let h = numbers-from (n + 1) entries word f m in omega arith)
-  where
-    rest : List NumberedEntry
-    rest = entriesFrom (n + 1) entries word
-
-    go : (b : Bool) → NumbersFrom n rest → NumbersFrom n (cond b (record { number = n; type = e .type } ∷ rest) rest)
-    go true later = numbers-cons n (record { number = n; type = e .type }) rest (omega arith) later
-    go false later = later
-
-entries-ascend : (n : ℕ) (entries : List Entry) (word : Bytes) → Ascending (entriesFrom n entries word)
-unfolding entriesFrom
-entries-ascend n [] word = empty
-entries-ascend n (e ∷ entries) word = go (sameWord (e .word) word) (entries-ascend (n + 1) entries word)
-  where
-    rest : List NumberedEntry
-    rest = entriesFrom (n + 1) entries word
-
-    go : (b : Bool) → Ascending rest → Ascending (cond b (record { number = n; type = e .type } ∷ rest) rest)
-    go true a = more {e = record { number = n; type = e .type }} (λ f m. let h = numbers-from (n + 1) entries word f m in omega arith) a
-    go false a = a
+use Rattle.lookup.proofs.ExactLaws.{entries-ascend}
 
 words-ascend : (B : Book) (words : List Word) → AllAscending (map (entriesOf B) words)
 words-ascend B [] = empty
 words-ascend B (w ∷ words) = more (entries-ascend 0 (B .entries) (w .bytes)) (words-ascend B words)
 
-words-known : (B : Book) (words : List Word) → entryFault B words ≡ none → AllKnown (map (entriesOf B) words)
+pub words-known : (B : Book) (words : List Word) → entryFault B words ≡ none → AllKnown (map (entriesOf B) words)
 unfolding entryFault
 words-known B [] h = no-word
 words-known B (w ∷ words) h = go (entriesOf B w) (λ k. words-known B words k) h

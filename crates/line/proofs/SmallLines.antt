@@ -10,7 +10,8 @@ use Rattle.linking.specs.Reading.{NumberedEntry, Words}
 use Rattle.book.specs.Format.{Bytes, Book, Entry}
 use Rattle.lookup.specs.Capitals.{small, smallBytes}
 use Rattle.line.specs.LineWords.{Word, putBefore, wordsFrom, wordsOf}
-use Rattle.line.specs.LineFaults.{entriesFrom, entriesOf, byteFault, wordFault, entryFault, lineCheck}
+use Rattle.line.specs.LineFaults.{entriesOf, byteFault, wordFault, entryFault, lineCheck}
+use Rattle.lookup.specs.Entries.{entriesFrom}
 use Rattle.lookup.proofs.CapitalLaws.{small-space, small-between, small-bytes-twice, same-respelt}
 
 -- An entry, a book and a word of a line with capitals made small.

@@ -4,3 +4,4 @@ pub mod LineFaults
 pub mod Split
 pub mod LookUp
 pub mod Passing
+pub mod Promise

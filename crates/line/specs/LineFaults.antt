@@ -2,24 +2,18 @@
 -- is returned. Words that pass are given by their entries, in the book's order.
 use Prim.Native.Nat.{ℕ, _+_}
 use mathlib.Core.Bool.{cond, _||_}
-use mathlib.Core.List.{List, [], _∷_, foldr, map}
+use mathlib.Core.List.{List, [], _∷_, map}
 use mathlib.Core.Option.{Option, none, some}
 use lib.Dec.{eqb, leb, ltb}
 use lib.ListN.{length}
 use Rattle.figures.specs.Limits.{maxWord, maxWords, maxLineSimples}
 use Rattle.figures.specs.Refusals.{badLineByte, badWord, unknownWord, tooManySimples}
-use Rattle.book.specs.Format.{Bytes, Book, Entry, between}
+use Rattle.book.specs.Format.{Bytes, Book, between}
 use Rattle.linking.specs.Reading.{NumberedEntry, Words}
 use Rattle.line.specs.LineWords.{Word, wordsOf}
-use Rattle.lookup.specs.Capitals.{sameWord}
+use Rattle.lookup.specs.Entries.{entriesFrom, simplesOfWords}
 
--- The entries of a word, numbered as they stand in the book: the rest of its entries, and the number of the first of them.
-unfoldable pub entriesFrom : ℕ → List Entry → Bytes → List NumberedEntry
-entriesFrom n [] word = []
-entriesFrom n (e ∷ entries) word =
-    let rest = entriesFrom (n + 1) entries word in
-    cond (sameWord (e .word) word) (record { number = n; type = e .type } ∷ rest) rest
-
+-- The entries of a line's word.
 abbrev pub entriesOf : Book → Word → List NumberedEntry
 entriesOf B word = entriesFrom 0 (B .entries) (word .bytes)
 
@@ -37,13 +31,6 @@ wordFault n (w ∷ words) = let rest = wordFault (n + 1) words in cond (ltb maxW
 unfoldable pub entryFault : Book → List Word → Option ℕ
 entryFault B [] = none
 entryFault B (w ∷ words) = let rest = entryFault B words in cond (eqb (length (entriesOf B w)) 0) (some (w .at)) rest
-
--- The number of simple types of all entries of all words, a repeated word counted each time.
-unfoldable pub simplesIn : List NumberedEntry → ℕ
-simplesIn entries = foldr (λ (e : NumberedEntry) (n : ℕ). length (e .type) + n) 0 entries
-
-unfoldable pub simplesOfWords : Words → ℕ
-simplesOfWords words = foldr (λ (entries : List NumberedEntry) (n : ℕ). simplesIn entries + n) 0 words
 
 -- The words of a line by their entries.
 abbrev pub entriesOfLine : Book → Bytes → Words

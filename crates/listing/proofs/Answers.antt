@@ -14,7 +14,8 @@ use Rattle.linking.specs.Reading.{NumberedEntry, Words, Choice, empty, IsFirst}
 use Rattle.linking.specs.Reading.{take as chosen-entry}
 use Rattle.book.specs.Format.{Bytes, Entry, Book}
 use Rattle.line.specs.LineWords.{Word, wordsOf}
-use Rattle.line.specs.LineFaults.{entriesFrom, entriesOf}
+use Rattle.line.specs.LineFaults.{entriesOf}
+use Rattle.lookup.specs.Entries.{entriesFrom}
 use Rattle.lookup.specs.Capitals.{sameWord}
 use Rattle.line.proofs.Passed.{line-passing}
 use Rattle.reader.specs.declared.LineAnswer.the-variants.{Read}

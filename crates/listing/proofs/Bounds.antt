@@ -14,8 +14,8 @@ use Rattle.book.specs.Format.{Bytes, Entry, bodyAt, typePart, twoBytes, exponen
 use Rattle.book.specs.Kept.{bodiesAt}
 use Rattle.book.proofs.Layouts.{entry-shape}
 use Rattle.line.specs.LineWords.{wordsOf}
-use Rattle.line.specs.LookUp.{entriesKept}
-use Rattle.line.proofs.LookUpLaws.{simples-length}
+use Rattle.lookup.specs.Entries.{entriesKept}
+use Rattle.lookup.proofs.EntryLaws.{simples-length}
 use Rattle.line.proofs.Passed.{words-few}
 use Rattle.listing.specs.Text.{decimal, signed}
 use Rattle.listing.specs.Listing.{yes, no, refusalRow, typeRow, wordRows, typeOf, joined, readingRows, counted, answerRows}

@@ -10,8 +10,8 @@ use Rattle.book.specs.Format.{Bytes, Entry, bodyAt, typePart, entryOf, simplesO
 use Rattle.book.specs.Kept.{Whole, bodiesAt}
 use Rattle.book.proofs.Names.{bodies-length, bodies-at}
 use Rattle.book.proofs.Layouts.{entry-shape}
-use Rattle.line.specs.LookUp.{Entries, entriesKept}
-use Rattle.line.proofs.LookUpLaws.{all-length, all-at}
+use Rattle.lookup.specs.Entries.{Entries, entriesKept}
+use Rattle.lookup.proofs.EntryLaws.{all-length, all-at}
 use Rattle.listing.specs.Listing.{counted}
 use Rattle.listing.specs.Parts.{HasType}
 

@@ -10,9 +10,9 @@ use Rattle.book.specs.Format.{Bytes, Entry, Book, refused, parse}
 use Rattle.book.specs.Kept.{Store, Opened, bodiesAt}
 use Rattle.book.proofs.Parsing.{accepted-short}
 use Rattle.line.specs.LineWords.{Word, wordsOf}
-use Rattle.line.specs.LookUp.{entriesKept}
+use Rattle.lookup.specs.Entries.{entriesKept}
 use Rattle.line.specs.Split.{SplitInto, Stopped, at-byte, at-word}
-use Rattle.line.proofs.LookUpLaws.{opened-entries}
+use Rattle.lookup.proofs.EntryLaws.{opened-entries}
 use Rattle.listing.specs.Listing.{refusalRow, readingRows, counted, answerRows, lineRows, listed, Renders}
 use Rattle.listing.specs.declared.Rendered.the-variants.{Written, TooShort}
 use Rattle.listing.specs.Placed.{Placed}

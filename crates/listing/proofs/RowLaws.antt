@@ -13,7 +13,7 @@ use Rattle.book.proofs.Simples.{simples-step}
 use Rattle.line.specs.LineWords.{wordsOf}
 use Rattle.line.specs.Split.{wordAt, SplitInto}
 use Rattle.line.proofs.LineLaws.{words-at, none-left}
-use Rattle.line.proofs.LookUpLaws.{simples-length}
+use Rattle.lookup.proofs.EntryLaws.{simples-length}
 use Rattle.listing.specs.Text.{decimal, signed, row}
 use Rattle.listing.specs.Listing.{wordRow, typeRow, wordRows, typeRows, typeOf, joined}
 use Rattle.listing.specs.Placed.{placeBound, Countable, Placed}

@@ -7,7 +7,7 @@ use Rattle.figures.specs.Limits.{maxBook, maxWords}
 use Rattle.book.specs.Format.{Bytes, Entry, simplesOf}
 use Rattle.book.specs.Kept.{Whole}
 use Rattle.line.specs.Split.{SplitInto}
-use Rattle.line.specs.LookUp.{Entries}
+use Rattle.lookup.specs.Entries.{Entries}
 use Rattle.listing.specs.Listing.{typeOf}
 
 -- What is kept of an accepted book: where its names and its entries stand.

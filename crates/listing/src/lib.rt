@@ -18,7 +18,7 @@ use rows::put_reading;
 ghost use Prim.Native.Nat.{_≤_};
 ghost use Rattle.book.specs.Kept.{bodiesAt};
 ghost use Rattle.line.specs.LineWords.{wordsOf};
-ghost use Rattle.line.specs.LookUp.{entriesKept};
+ghost use Rattle.lookup.specs.Entries.{entriesKept};
 ghost use Rattle.listing.specs.Listing.{refusalRow, answerRows, lineRows, listed, listing, Renders};
 ghost use Rattle.listing.specs.Parts.{BookKept, LineKept};
 

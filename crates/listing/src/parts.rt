@@ -7,7 +7,7 @@ ghost use mathlib.Core.Path.{_≡_};
 ghost use mathlib.Core.List.{[]};
 ghost use lib.ListN.{getD};
 ghost use Rattle.book.specs.Kept.{Whole, bodiesAt};
-ghost use Rattle.line.specs.LookUp.{Entries, entriesKept};
+ghost use Rattle.lookup.specs.Entries.{Entries, entriesKept};
 ghost use Rattle.listing.specs.Listing.{counted as Listing·counted};
 ghost use Rattle.listing.specs.Parts.{HasType};
 

@@ -14,7 +14,7 @@ ghost use lib.ListN.{length};
 ghost use Rattle.book.specs.Format.{exponentOf, simplesOf};
 ghost use Rattle.book.specs.Kept.{Whole, bodiesAt};
 ghost use Rattle.line.specs.LineWords.{wordsOf};
-ghost use Rattle.line.specs.LookUp.{entriesKept};
+ghost use Rattle.lookup.specs.Entries.{entriesKept};
 ghost use Rattle.listing.specs.Text.{decimal, row};
 ghost use Rattle.listing.specs.Listing.{wordRow, typeRow, wordRows, typeRows, joined, readingRows};
 ghost use Rattle.listing.specs.Parts.{BookKept, LineKept};

@@ -118,8 +118,11 @@ pub one-letter : (a b : Bytes) (i : ℕ) → small (getD {A = ℕ} a i 0) ≡ sm
 one-letter a b i e = record { alike = λ k h l. let here : k ≡ i = omega arith in rw here e }
 
 module _ (a b : Bytes) where
+  pub letter-of : smallBytes a ≡ smallBytes b → (k : ℕ) → small (getD {A = ℕ} a k 0) ≡ small (getD {A = ℕ} b k 0)
+  letter-of e k = sym (small-at a k) ∙ ap (λ (w : Bytes). getD {A = ℕ} w k 0) e ∙ small-at b k
+
   letters-of : (from to : ℕ) → smallBytes a ≡ smallBytes b → SameLetters a b from to
-  letters-of from to e = record { alike = λ k h l. sym (small-at a k) ∙ ap (λ (w : Bytes). getD {A = ℕ} w k 0) e ∙ small-at b k }
+  letters-of from to e = record { alike = λ k h l. letter-of e k }
 
   word-of : {to : ℕ} → length a ≡ length b → length a ≤ to → SameLetters a b 0 to → smallBytes a ≡ smallBytes b
   word-of e f s =

@@ -2,3 +2,8 @@
 pub mod CapitalLaws
 pub mod EightLaws
 pub mod LetterLaws
+pub mod KeyLaws
+pub mod EntryLaws
+pub mod ThreadLaws
+pub mod FindLaws
+pub mod ExactLaws

@@ -109,7 +109,7 @@ fn same_letter(x: u8, y: u8) -> bool
 }
 
 // A byte with a capital made small.
-fn small_letter(byte: u8) -> u8
+pub fn small_letter(byte: u8) -> u8
     ensures { λ r. ⌜ r ≡ small byte ⌝ }
 {
     match byte {

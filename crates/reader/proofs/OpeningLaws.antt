@@ -1,9 +1,11 @@
 -- From a scanned book and a checked line to a graph that can be read, and from what the graph gives to the outcome.
-use Prim.Native.Nat.{ℕ, _≤_}
-use mathlib.Core.Path.{_≡_, sym, ap, subst, _∙_}
+use Prim.Native.Nat.{ℕ, _+_, _≤_}
+use native.Mathlib.Omega.{arith}
+use mathlib.Core.Path.{_≡_, sym, subst}
 use mathlib.Core.Logic.{Iff·trans, Iff·symm}
 use mathlib.Core.List.{List}
-use lib.ListN.{length, length-map}
+use lib.ListN.{length, replicate, length-replicate, getD-replicate}
+use Rattle.figures.specs.Limits.{maxWords, maxEntries, maxNodes}
 use Rattle.pregroup.specs.Types.{Basic}
 use Rattle.pregroup.specs.Held.{InRows}
 use Rattle.order.specs.Closed.{Closed, Listed, below}
@@ -11,15 +13,16 @@ use Rattle.order.specs.Rows.{Hold}
 use Rattle.order.proofs.Decision.{below-decides}
 use Rattle.book.specs.Format.{Bytes, Book, accepted, refused, parse}
 use Rattle.book.specs.Kept.{Store, Opened}
-use Rattle.book.proofs.Checking.{opened-types, opened-order}
+use Rattle.book.proofs.Checking.{opened-types, opened-order, zeros}
 use Rattle.book.proofs.Accepted.{accepted-declares}
 use Rattle.linking.specs.Reading.{Words, firstReading}
-use Rattle.line.specs.LineWords.{wordsOf}
-use Rattle.line.specs.LineFaults.{passed, stopped, lineCheck, entriesOf, entriesOfLine}
-use Rattle.line.proofs.LineLaws.{kept-length}
-use Rattle.line.proofs.LookUpLaws.{opened-entries}
+use Rattle.lookup.specs.Threads.{keys, Alike, NoneAlike, Same, Threads}
+use Rattle.lookup.proofs.EntryLaws.{opened-entries}
+use Rattle.line.specs.LineFaults.{passed, stopped, lineCheck, entriesOfLine}
+use Rattle.line.specs.LookUp.{LineSays}
+use Rattle.line.specs.declared.CheckedLine.the-variants.{Found}
 use Rattle.line.proofs.Passed.{line-passing, line-brief}
-use Rattle.graph.specs.Lists.{Lists, graphOf, Checked, LaidOut}
+use Rattle.graph.specs.Lists.{Lists, graphOf, Room, Empty, LineFits, LaidOut}
 use Rattle.reader.specs.declared.LineAnswer.{LineAnswer}
 use Rattle.reader.specs.declared.LineAnswer.the-variants.{Refused}
 use Rattle.reader.specs.Outcome.{Outcome, given, readAgainst, readParsed, outcome, Gives}
@@ -57,9 +60,9 @@ module _ (book line : Bytes) (before : List ℕ) {B : Book} (parsed : parse book
       (subst (λ (s : Basic). Gives (given (firstReading (below (length (B .names)) (B .pairs)) s words) before) answer after) (sym e) g)
 
 -- What is kept of an accepted book, with its closed order.
-pub is-open : (bytes : Bytes) (s : Store) (types count target : ℕ) (B : Book) (rows : List ℕ) → Opened bytes s types count target B → Hold rows (Closed types (InRows (s .direct)))
-    → Open bytes (s .entries) count rows target B
-is-open bytes s types count target B rows o hold =
+pub is-open : (bytes : Bytes) (s : Store) (types count target : ℕ) (B : Book) (alike rows : List ℕ) → Opened bytes s types count target B → Alike bytes (s .entries) count alike
+    → Hold rows (Closed types (InRows (s .direct))) → Open bytes (s .entries) count alike rows target B
+is-open bytes s types count target B alike rows o threaded hold =
     let number = opened-types bytes s types count target B o in
     let order : Hold rows (Closed (length (B .names)) (Listed (B .pairs))) = rw number (opened-order bytes s types count target B o rows hold) in
     let declared = accepted-declares bytes B (o .parsed) .pairs in
@@ -70,28 +73,55 @@ is-open bytes s types count target B rows o hold =
         entries = opened-entries o;
         listed = λ i h. o .formed i h .listed;
       };
+      threaded = threaded;
       decides = λ a b. Iff·trans (below-decides (length (B .names)) (B .pairs) declared a b) (Iff·symm (order a b));
       chosen = o .chosen;
     }
 
-module _ {bytes : Bytes} {offsets : List ℕ} {count : ℕ} {rows : List ℕ} {target : ℕ} {line : Bytes} {starts ends : List ℕ} {n nodes : ℕ} {l : Lists}
-    (checked : Checked bytes offsets count line starts ends n) (out : LaidOut bytes offsets count line target l nodes) where
-  -- The graph is that of the line's words.
-  pub line-drawn :
-      {B : Book} → Open bytes offsets count rows target B → length (l .cells .enters) ≤ length (l .cells .numbers)
+-- Threads that are not begun yet, and those of no word.
+pub none-alike : NoneAlike (replicate (maxEntries + keys) maxEntries)
+none-alike = record { room = length-replicate {A = ℕ} (maxEntries + keys) maxEntries; none = λ k h. getD-replicate {A = ℕ} (maxEntries + keys) k maxEntries 0 h }
+
+pub none-same : (bytes : Bytes) (offsets : List ℕ) (count : ℕ) → Same bytes offsets count (replicate maxEntries 0)
+none-same bytes offsets count = record { room = omega (arith, length-replicate {A = ℕ} maxEntries 0); known = λ i j h any l o. let e = zeros maxEntries i in absurd (omega arith) }
+
+module _ {bytes : Bytes} {offsets : List ℕ} {count : ℕ} {alike rows : List ℕ} {target : ℕ} {line : Bytes} {firsts same : List ℕ} {n : ℕ} {B : Book}
+    (o : Open bytes offsets count alike rows target B) (says : LineSays bytes offsets count B line firsts same (Found n)) where
+  -- A line that passed its check can be laid out ..
+  pub line-fits : {l : Lists} → maxEntries ≤ length same → maxWords ≤ length firsts → Room l → maxNodes ≤ length (l .cells .numbers) → Empty l
+      → LineFits bytes offsets count same firsts n l
+  line-fits same-room firsts-room room numbers-room empty =
+      record {
+        lexicon = o .lexicon;
+        same-room = omega (arith, o .lexicon .entries .few);
+        firsts-room = omega (arith, says .1);
+        all = entriesOfLine B line;
+        threads = says .2 .threads;
+        as-many = says .2 .words;
+        few = says .1;
+        small = says .2 .small;
+        room = room;
+        numbers-room = numbers-room;
+        empty = empty;
+      }
+
+  -- .. and the graph is that of its words.
+  pub line-drawn : {l : Lists} {nodes : ℕ}
+      → ((words : Words) → Threads bytes offsets count same firsts 0 words → length words ≡ n → LaidOut words target l nodes)
+      → length (l .cells .enters) ≤ length (l .cells .numbers)
       → Drawn (below (length (B .names)) (B .pairs)) (InRows rows) (graphOf nodes l) (l .cells .numbers) target n (entriesOfLine B line)
-  line-drawn {B} o room =
-      let says = checked B (o .entries) in
-      let p = line-passing B line (entriesOfLine B line) (says .1) in
+  line-drawn laid-out room =
+      let out = laid-out (entriesOfLine B line) (says .2 .threads) (says .2 .words) in
+      let p = line-passing B line (entriesOfLine B line) (says .0) in
       record {
         upward = out .upward;
         some-nodes = out .some-nodes;
         few = out .few;
-        few-words = says .0 .few;
+        few-words = says .1;
         numbers-room = room;
         decides = o .decides;
-        laid = λ end last. out .laid B (o .entries) end last;
+        laid = out .laid;
         known-words = p .known-words;
         brief-words = line-brief B line (entriesOfLine B line) (accepted-declares bytes B (o .parsed) .short) p;
-        count = length-map (wordsOf line) (entriesOf B) ∙ ap length (says .0 .words) ∙ kept-length line starts ends n;
+        count = says .2 .words;
       }

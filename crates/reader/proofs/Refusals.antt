@@ -10,7 +10,8 @@ use Rattle.book.specs.Format.{Bytes, Book, Parsed, accepted, refused, parse}
 use Rattle.book.proofs.Parsing.{Comes, whole, stopped as parsed-refused, parse-comes}
 use Rattle.book.proofs.Promises.{cause-within}
 use Rattle.line.specs.LineWords.{wordsOf}
-use Rattle.line.specs.LineFaults.{LineCheck, passed, stopped, lineCheck, orElse, byteFault, wordFault, entryFault, simplesOfWords, entriesOfLine}
+use Rattle.line.specs.LineFaults.{LineCheck, passed, stopped, lineCheck, orElse, byteFault, wordFault, entryFault, entriesOfLine}
+use Rattle.lookup.specs.Entries.{simplesOfWords}
 
 -- Whatever a test says, a property holds that both of its sides have.
 either-side : {A : Type 0} (P : A → Type 0) (b : Bool) (x y : A) → P x → P y → P (cond b x y)

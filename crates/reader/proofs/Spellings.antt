@@ -16,7 +16,8 @@ use Rattle.book.specs.Format.{Bytes, Entry, every, twoBytes, nameByte, isName, 
 use Rattle.book.proofs.PaperBooks.{typeRecord, entryRecord, targetRecord, join, types, entries, fetch, bed4, ward7, firstBook}
 use Rattle.line.specs.LineWords.{wordsFrom}
 use Rattle.lookup.specs.Capitals.{small, sameWord, DifferInCase, same-rest, same-record, respelt}
-use Rattle.line.specs.LineFaults.{entriesFrom, byteFault, wordFault, entryFault, simplesIn, simplesOfWords, lineCheck}
+use Rattle.line.specs.LineFaults.{byteFault, wordFault, entryFault, lineCheck}
+use Rattle.lookup.specs.Entries.{entriesFrom, simplesIn, simplesOfWords}
 use Rattle.reader.specs.Outcome.{Outcome, given, readAgainst, readParsed, outcome}
 use Rattle.reader.specs.declared.LineAnswer.{LineAnswer}
 use Rattle.reader.specs.declared.LineAnswer.the-variants.{Refused}

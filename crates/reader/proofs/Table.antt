@@ -15,7 +15,8 @@ use Rattle.book.specs.Format.{Bytes, every, twoBytes, nameByte, isName, exponen
 use Rattle.book.proofs.PaperBooks.{typeRecord, pairRecord, entryRecord, targetRecord, join, fetch, bed4, ward7, urgently, admit, site, go, please, log, firstBook, secondBook}
 use Rattle.line.specs.LineWords.{wordsFrom}
 use Rattle.lookup.specs.Capitals.{small, sameWord}
-use Rattle.line.specs.LineFaults.{entriesFrom, byteFault, wordFault, entryFault, simplesIn, simplesOfWords, lineCheck}
+use Rattle.line.specs.LineFaults.{byteFault, wordFault, entryFault, lineCheck}
+use Rattle.lookup.specs.Entries.{entriesFrom, simplesIn, simplesOfWords}
 use Rattle.reader.specs.Outcome.{Outcome, valuesOf, given, readAgainst, readParsed, outcome}
 use Rattle.reader.specs.declared.LineAnswer.{LineAnswer}
 use Rattle.reader.specs.declared.LineAnswer.the-variants.{Read, Refused}

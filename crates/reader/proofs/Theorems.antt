@@ -1,5 +1,5 @@
 -- The results that everything here serves, each in full and proved elsewhere under the name on its last line. They go from the calculus to
--- linkings and readings, then to a book, and end with what reading a line comes to.
+-- linkings and readings, then to a book and the look-up of words in it, and end with what reading a line comes to.
 use Prim.Native.Nat.{ℕ, _≤_}
 use mathlib.Core.Path.{_≡_}
 use mathlib.Core.Bool.{true}
@@ -26,12 +26,15 @@ use Rattle.order.specs.Closed.{Closed, Pair, Listed, DeclaredPairs, below, clos
 use Rattle.order.specs.Rows.{Hold, pairsIn}
 use Rattle.order.proofs.Decision.{below-decides}
 use Rattle.order.proofs.Counting.{pairs-in-closed}
-use Rattle.book.specs.Format.{Bytes, nothingYet, recordsFrom}
+use Rattle.book.specs.Format.{Bytes, Book, nothingYet, recordsFrom}
 use Rattle.book.specs.Check.{bookCheck, checkReply, BookPromised}
 use Rattle.book.proofs.Parsing.{bound-never-ends}
 use Rattle.book.proofs.Promises.{check-promised, one-answer}
 use Rattle.lookup.specs.Capitals.{small, smallBytes, sameWord, DifferInCase}
 use Rattle.lookup.proofs.CapitalLaws.{CapitalOf, NoCapital, alike-exactly, same-reflexive, same-symmetric, same-transitive, equal-words, same-without-capitals}
+use Rattle.line.specs.LineFaults.{entriesOfLine}
+use Rattle.line.specs.Promise.{LookUpPromised}
+use Rattle.line.proofs.PromiseLaws.{look-up-kept}
 use Rattle.reader.specs.declared.LineAnswer.the-variants.{Refused}
 use Rattle.reader.specs.Outcome.{outcome}
 use Rattle.reader.specs.Demands.{Promised}
@@ -118,6 +121,10 @@ no-others-without-capitals = same-without-capitals
 -- Books that differ only in the case of their entries' words give every line the same outcome.
 pub case-of-a-book : (a b : Bytes) → DifferInCase a b → (line : Bytes) (buffer : List ℕ) → outcome a line buffer ≡ outcome b line buffer
 case-of-a-book = same-books-outcome
+
+-- The look-up of a line's words finds exactly the entries of each, all of them, in the book's order, and 13, 14 and the choice go by what it finds.
+pub look-up-is-exact : (B : Book) (line : Bytes) → LookUpPromised B line (entriesOfLine B line)
+look-up-is-exact = look-up-kept
 
 module _ (book line : Bytes) (buffer : List ℕ) where
   -- A line has the outcome that it has with its capitals made small.

@@ -1,4 +1,4 @@
-// Reads a line against a book: the book is opened, the line split and its words looked up, the entries laid out as a
+// Reads a line against a book: the book is opened, the line split and its words looked up, the entries found laid out as a
 // graph, its chart filled, the first choice found, and its first linking written. What reading any bytes comes to is defined in specs/Outcome, and
 // what is promised of it in specs/Demands.
 use answer::write_answer;
@@ -19,9 +19,13 @@ use figures::refusals::NO_READING;
 use graph::layout::lay_out;
 use line::CheckedLine;
 use line::words::check_line;
+use lookup::keys::NO_ENTRY;
+use lookup::keys::PLACES;
+use lookup::keys::thread_entries;
 ghost use Prim.Native.Nat.{_≤_};
 ghost use lib.ListN.{length};
 ghost use Rattle.figures.specs.Limits.{maxEntries};
+ghost use Rattle.lookup.specs.Threads.{NoneAlike};
 ghost use Rattle.reader.specs.Outcome.{outcome, Gives};
 ghost use Rattle.reader.specs.Demands.{Promised};
 ghost use Rattle.reader.specs.Runs.{IsOpen, OpeningSays};
@@ -33,16 +37,17 @@ pub enum LineAnswer {
     Refused { number: u32, value: usize },
 }
 
-// What opening a book gives beside the offsets of its entries: what its records come to, and its closed order. The rows of a refused book mean nothing.
+// What opening a book gives beside the offsets and the threads of its entries: what its records come to, and its closed order. The rows of a refused book mean nothing.
 pub struct Opening {
     pub scan: Scan,
     pub rows: [u64; MAX_TYPES],
 }
 
-// Opens a book: its records are scanned, with the offsets of its entries kept in `entries`, and its order is closed.
-pub fn open_book(book: &[u8], entries: &mut [u16]) -> Opening
-    requires { ⌜ maxEntries ≤ length (now entries) ⌝ }
-    ensures { λ r. ⌜ OpeningSays (now (book .entry)) (now (entries .exit)) (r .rows) (r .scan) ⌝ }
+// Opens a book: its records are scanned, with the offsets of its entries kept in `entries`, these are threaded by their keys in `alike`, and its order
+// is closed.
+pub fn open_book(book: &[u8], entries: &mut [u16], alike: &mut [u16]) -> Opening
+    requires { ⌜ (maxEntries ≤ length (now entries)) × NoneAlike (now alike) ⌝ }
+    ensures { λ r. ⌜ OpeningSays (now (book .entry)) (now (entries .exit)) (now (alike .exit)) (r .rows) (r .scan) ⌝ }
 {
     let mut names = [0u16; MAX_TYPES];
     let mut direct = [0u64; MAX_TYPES];
@@ -54,9 +59,10 @@ pub fn open_book(book: &[u8], entries: &mut [u16]) -> Opening
         } => Opening { scan, rows: direct },
         Scan::Accepted {
             types,
-            entries: _,
+            entries: count,
             target: _,
         } => {
+            thread_entries(book, entries, count, alike);
             let order = order::close(&direct, types);
             let rows = order.rows;
             Opening { scan, rows }
@@ -69,17 +75,18 @@ pub fn read_open(
     book: &[u8],
     offsets: &[u16],
     count: usize,
+    alike: &[u16],
     order: &[u64],
     target: u8,
     line: &[u8],
     answer: &mut [u16],
 ) -> LineAnswer
-    requires { ⌜ IsOpen (now book) (now offsets) count (now order) target ⌝ }
+    requires { ⌜ IsOpen (now book) (now offsets) count (now alike) (now order) target ⌝ }
     ensures { λ r. ⌜ Gives (outcome (now (book .entry)) (now (line .entry)) (now (answer .entry))) r (now (answer .exit)) ⌝ }
 {
-    let mut starts = [0usize; MAX_WORDS];
-    let mut ends = [0usize; MAX_WORDS];
-    let checked = check_line(book, offsets, count, line, &mut starts, &mut ends);
+    let mut firsts = [0u16; MAX_WORDS];
+    let mut same = [0u16; MAX_ENTRIES];
+    let checked = check_line(book, offsets, count, alike, line, &mut firsts, &mut same);
     let words = match checked {
         CheckedLine::Refused { number, value } => return LineAnswer::Refused { number, value },
         CheckedLine::Found(words) => words,
@@ -94,9 +101,8 @@ pub fn read_open(
         book,
         offsets,
         count,
-        line,
-        &starts,
-        &ends,
+        &same,
+        &firsts,
         words,
         target,
         &mut simples,
@@ -171,7 +177,8 @@ pub fn read_line(book: &[u8], line: &[u8], answer: &mut [u16]) -> LineAnswer
     ensures { λ r. ⌜ Promised (now (book .entry)) (now (line .entry)) (now (answer .entry)) r (now (answer .exit)) ⌝ }
 {
     let mut entries = [0u16; MAX_ENTRIES];
-    let opening = open_book(book, &mut entries);
+    let mut alike = [NO_ENTRY; PLACES];
+    let opening = open_book(book, &mut entries, &mut alike);
     let rows = opening.rows;
     let scan = opening.scan;
     match scan {
@@ -180,6 +187,6 @@ pub fn read_line(book: &[u8], line: &[u8], answer: &mut [u16]) -> LineAnswer
             types: _,
             entries: count,
             target,
-        } => read_open(book, &entries, count, &rows, target, line, answer),
+        } => read_open(book, &entries, count, &alike, &rows, target, line, answer),
     }
 }

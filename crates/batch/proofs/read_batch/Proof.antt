@@ -7,6 +7,7 @@ use mathlib.Core.List.{List}
 use mathlib.Core.Option.{some}
 use lib.ListN.{length}
 use Rattle.book.specs.Format.{Bytes}
+use Rattle.reader.proofs.OpeningLaws.{none-alike}
 use Rattle.batch.specs.Lines.{batchLines}
 use Rattle.batch.proofs.BatchPromises.{gives-batch-promised}
 use Rattle.batch.proofs.BatchLaws.{gives-bad-batch, gives-bad-book, can-store, gives-too-long, gives-answers}
@@ -36,8 +37,11 @@ returns c =
 slice-aggregate-open-book : tie.Need-slice-aggregate-open-book
 slice-aggregate-open-book c = search needs
 
+slice-aggregate-open-book-2 : tie.Need-slice-aggregate-open-book-2
+slice-aggregate-open-book-2 c = search needs
+
 open-book-requires : tie.Need-open-book-requires
-open-book-requires c κs = search needs
+open-book-requires c κs = (omega arith, none-alike)
 
 enum-known-scan : tie.Need-enum-known-scan
 enum-known-scan c = search needs
@@ -54,11 +58,14 @@ slice-aggregate-read-parts-2 c = search needs
 slice-aggregate-read-parts-3 : tie.Need-slice-aggregate-read-parts-3
 slice-aggregate-read-parts-3 c = search needs
 
+slice-aggregate-read-parts-4 : tie.Need-slice-aggregate-read-parts-4
+slice-aggregate-read-parts-4 c = search needs
+
 read-parts-requires : tie.Need-read-parts-requires
 read-parts-requires c κs =
-    let k = c .before .before .before .before .before .before .before .before .before .before in
+    let k = c .before .before .before .before .before .before .before .before .before .before .before .before .before in
     let s = k .before .before .before .before .before .before .before in
-    (rw (c .before .before .before .before .scan2 .given .1) at (c .before .before .before .before .before .before .before .before .open-book .ensures), can-store (s .args .book .now) (s .args .lines .now) (s .args .answers .now) (split k .0) (split k .1))
+    (rw (c .before .before .before .before .before .scan2 .given .1) at (c .before .before .before .before .before .before .before .before .before .before .open-book .ensures), can-store (s .args .book .now) (s .args .lines .now) (s .args .answers .now) (split k .0) (split k .1))
 
 slice-aggregate-copy-front : tie.Need-slice-aggregate-copy-front
 slice-aggregate-copy-front c = search needs
@@ -68,18 +75,18 @@ copy-front-requires c κs = search needs
 
 returns-2 : tie.Need-returns-2
 returns-2 c =
-    let k = c .before .before .before .before .before .before .before .before .before .before .before .before .before in
+    let k = c .before .before .before .before .before .before .before .before .before .before .before .before .before .before .before .before in
     let s = k .before .before .before .before .before .before .before in
-    let opened = rw (c .before .before .before .before .before .before .before .scan2 .given .1) at (c .before .before .before .before .before .before .before .before .before .before .before .open-book .ensures) in
+    let opened = rw (c .before .before .before .before .before .before .before .before .scan2 .given .1) at (c .before .before .before .before .before .before .before .before .before .before .before .before .before .open-book .ensures) in
     let read = c .before .before .read-parts in
     let g = gives-too-long (s .args .book .now) (s .args .lines .now) (s .args .answers .now) (split k .0) (split k .1) (opened .1 .parsed) (read .result) _ (read .ensures) (omega arith) in
     (g, gives-batch-promised _ _ _ g)
 
 returns-3 : tie.Need-returns-3
 returns-3 c =
-    let k = c .before .before .before .before .before .before .before in
+    let k = c .before .before .before .before .before .before .before .before .before in
     let s = k .before .before .before .before .before .before .before in
-    let g = gives-bad-book (s .args .book .now) (s .args .lines .now) (s .args .answers .now) (split k .0) (split k .1) (rw (c .before .scan .given .1) at (c .before .before .before .before .before .open-book .ensures)) in
+    let g = gives-bad-book (s .args .book .now) (s .args .lines .now) (s .args .answers .now) (split k .0) (split k .1) (rw (c .before .scan .given .1) at (c .before .before .before .before .before .before .open-book .ensures)) in
     (g, gives-batch-promised _ _ _ g)
 
 same-length : tie.Need-same-length
@@ -87,9 +94,9 @@ same-length c = search needs
 
 returns-4 : tie.Need-returns-4
 returns-4 c =
-    let k = c .before .before .before .before .before .before .before .before .before .before .before .before .before .before .before .before .before .before in
+    let k = c .before .before .before .before .before .before .before .before .before .before .before .before .before .before .before .before .before .before .before .before .before in
     let s = k .before .before .before .before .before .before .before in
-    let opened = rw (c .before .before .before .before .before .before .before .before .before .before .before .before .scan2 .given .1) at (c .before .before .before .before .before .before .before .before .before .before .before .before .before .before .before .before .open-book .ensures) in
+    let opened = rw (c .before .before .before .before .before .before .before .before .before .before .before .before .before .scan2 .given .1) at (c .before .before .before .before .before .before .before .before .before .before .before .before .before .before .before .before .before .before .open-book .ensures) in
     let read = c .before .before .before .before .before .before .before .read-parts in
     let copied = c .before .before .copy-front .ensures in
     let g = gives-answers (s .args .book .now) (s .args .lines .now) (s .args .answers .now) (split k .0) (split k .1) (opened .1 .parsed) (read .result) _ (read .ensures) _ (split k .2) (omega arith) in
@@ -104,12 +111,14 @@ read-batch-spec =
     enum-told
     returns
     slice-aggregate-open-book
+    slice-aggregate-open-book-2
     open-book-requires
     enum-known-scan
     enum-known-scan-2
     slice-aggregate-read-parts
     slice-aggregate-read-parts-2
     slice-aggregate-read-parts-3
+    slice-aggregate-read-parts-4
     read-parts-requires
     returns-2
     slice-aggregate-copy-front

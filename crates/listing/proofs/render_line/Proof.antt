@@ -2,7 +2,7 @@
 use borrow.Author.Needs.{needs}
 use native.Mathlib.Omega.{arith}
 use Rattle.book.specs.Kept.{bodiesAt}
-use Rattle.line.specs.LookUp.{entriesKept}
+use Rattle.lookup.specs.Entries.{entriesKept}
 use Rattle.listing.proofs.Rendering.{line-stopped, line-split}
 use Rattle.listing.proofs.render_line.Statement.{statement}
 use Rattle.listing.proofs.render_line.Tie as tie

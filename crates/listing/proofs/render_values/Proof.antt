@@ -3,7 +3,7 @@ use borrow.Author.Needs.{needs}
 use native.Mathlib.Omega.{arith}
 use Rattle.book.specs.Kept.{bodiesAt}
 use Rattle.line.specs.LineWords.{wordsOf}
-use Rattle.line.specs.LookUp.{entriesKept}
+use Rattle.lookup.specs.Entries.{entriesKept}
 use Rattle.listing.specs.Listing.{answerRows}
 use Rattle.listing.proofs.Bounds.{values-countable}
 use Rattle.listing.proofs.Rendering.{answer-parts, renders-short, renders-written}

@@ -1,7 +1,8 @@
--- `reader::open_book` meets its contract: the book is scanned and its order closed, so that it is open, or it is refused.
+-- `reader::open_book` meets its contract: the book is scanned, its entries threaded and its order closed, so that it is open, or it is refused.
 use borrow.Author.Needs.{needs}
 use native.Mathlib.Omega.{arith}
 use Rattle.book.proofs.Checking.{no-pairs, opened-rows}
+use Rattle.lookup.proofs.EntryLaws.{opened-entries}
 use Rattle.reader.proofs.OpeningLaws.{is-open}
 use Rattle.reader.proofs.open_book.Statement.{statement}
 use Rattle.reader.proofs.open_book.Tie as tie
@@ -13,7 +14,7 @@ slice-aggregate-scan-book-2 : tie.Need-slice-aggregate-scan-book-2
 slice-aggregate-scan-book-2 c = search needs
 
 scan-book-requires : tie.Need-scan-book-requires
-scan-book-requires c κs = (record { names-room = omega arith; entries-room = c .before .before .before .before .before .pre; rows = omega arith }, no-pairs 64)
+scan-book-requires c κs = (record { names-room = omega arith; entries-room = c .before .before .before .before .before .before .pre .0; rows = omega arith }, no-pairs 64)
 
 enum-told : tie.Need-enum-told
 enum-told c = search needs
@@ -21,9 +22,14 @@ enum-told c = search needs
 enum-known-scan : tie.Need-enum-known-scan
 enum-known-scan c = search needs
 
+thread-entries-requires : tie.Need-thread-entries-requires
+thread-entries-requires c κs =
+    let o = rw (c .before .before .before .scan .given .1) at (c .before .before .before .before .before .before .before .before .before .scan-book .ensures) in
+    (opened-entries (o .1), c .before .before .before .before .before .before .before .before .before .before .before .before .before .before .before .before .pre .1)
+
 close-requires : tie.Need-close-requires
 close-requires c κs =
-    let o = rw (c .before .before .scan .given .1) at (c .before .before .before .before .before .before .before .before .scan-book .ensures) in
+    let o = rw (c .before .before .before .before .before .before .before .scan .given .1) at (c .before .before .before .before .before .before .before .before .before .before .before .before .before .scan-book .ensures) in
     opened-rows _ _ _ _ _ (o .0) (o .1)
 
 same-length : tie.Need-same-length
@@ -38,10 +44,13 @@ returns c =
 same-length-2 : tie.Need-same-length-2
 same-length-2 c = search needs
 
+same-length-3 : tie.Need-same-length-3
+same-length-3 c = search needs
+
 returns-2 : tie.Need-returns-2
 returns-2 c =
-    let o = rw (c .before .before .before .before .scan .given .1) at (c .before .before .before .before .before .before .before .before .before .before .scan-book .ensures) in
-    (o .0, is-open _ _ _ _ _ (o .0) _ (o .1) (c .before .close .ensures))
+    let o = rw (c .before .before .before .before .before .before .before .before .before .scan .given .1) at (c .before .before .before .before .before .before .before .before .before .before .before .before .before .before .before .scan-book .ensures) in
+    (o .0, is-open _ _ _ _ _ (o .0) _ _ (o .1) (c .before .before .before .before .before .thread-entries .ensures) (c .before .close .ensures))
 
 pub open-book-spec : {M : Type 1} → statement M
 open-book-spec =
@@ -52,8 +61,10 @@ open-book-spec =
     scan-book-requires
     enum-told
     enum-known-scan
+    thread-entries-requires
     close-requires
     same-length
     returns
     same-length-2
+    same-length-3
     returns-2)

@@ -1,14 +1,18 @@
 -- `reader::read_line` meets its contract: the book is opened, and what reading with it gives is the outcome.
 use borrow.Author.Needs.{needs}
-use Rattle.reader.proofs.OpeningLaws.{gives-book-refused, gives-promised}
+use native.Mathlib.Omega.{arith}
+use Rattle.reader.proofs.OpeningLaws.{none-alike, gives-book-refused, gives-promised}
 use Rattle.reader.proofs.read_line.Statement.{statement}
 use Rattle.reader.proofs.read_line.Tie as tie
 
 slice-aggregate-open-book : tie.Need-slice-aggregate-open-book
 slice-aggregate-open-book c = search needs
 
+slice-aggregate-open-book-2 : tie.Need-slice-aggregate-open-book-2
+slice-aggregate-open-book-2 c = search needs
+
 open-book-requires : tie.Need-open-book-requires
-open-book-requires c κs = search needs
+open-book-requires c κs = (omega arith, none-alike)
 
 enum-known-scan : tie.Need-enum-known-scan
 enum-known-scan c = search needs
@@ -22,13 +26,16 @@ slice-aggregate-read-open c = search needs
 slice-aggregate-read-open-2 : tie.Need-slice-aggregate-read-open-2
 slice-aggregate-read-open-2 c = search needs
 
+slice-aggregate-read-open-3 : tie.Need-slice-aggregate-read-open-3
+slice-aggregate-read-open-3 c = search needs
+
 read-open-requires : tie.Need-read-open-requires
-read-open-requires c κs = rw (c .before .before .before .before .scan2 .given .1) at (c .before .before .before .before .before .before .before .before .open-book .ensures)
+read-open-requires c κs = rw (c .before .before .before .before .before .scan2 .given .1) at (c .before .before .before .before .before .before .before .before .before .before .open-book .ensures)
 
 returns : tie.Need-returns
 returns c =
-    let s = c .before .before .before .before .before .before .before .before .before .before in
-    let g = gives-book-refused (s .args .book .now) (s .args .line .now) (s .args .answer .now) (rw (c .before .scan .given .1) at (c .before .before .before .before .before .open-book .ensures)) in
+    let s = c .before .before .before .before .before .before .before .before .before .before .before .before in
+    let g = gives-book-refused (s .args .book .now) (s .args .line .now) (s .args .answer .now) (rw (c .before .scan .given .1) at (c .before .before .before .before .before .before .open-book .ensures)) in
     (g, gives-promised _ _ _ g)
 
 same-length : tie.Need-same-length
@@ -44,11 +51,13 @@ read-line-spec =
     tie.close
     (tie.spec
     slice-aggregate-open-book
+    slice-aggregate-open-book-2
     open-book-requires
     enum-known-scan
     enum-known-scan-2
     slice-aggregate-read-open
     slice-aggregate-read-open-2
+    slice-aggregate-read-open-3
     read-open-requires
     returns
     same-length

@@ -13,7 +13,7 @@ use Rattle.book.proofs.Checking.{zeros}
 use Rattle.line.specs.LineFaults.{passed, lineCheck, entriesOfLine}
 use Rattle.graph.specs.Lists.{Lists, lists, graphOf}
 use Rattle.reader.specs.Runs.{Drawn}
-use Rattle.reader.proofs.OpeningLaws.{gives-line-refused, line-drawn, gives-outcome}
+use Rattle.reader.proofs.OpeningLaws.{none-same, gives-line-refused, line-fits, line-drawn, gives-outcome}
 use Rattle.reader.proofs.ReadingLaws.{has-rows, chart-reads, chart-stops, answers-none, can-choose, has-room, some-places, answers-short, can-link, can-write, answers-read}
 use Rattle.reader.proofs.read_open.Statement.{statement}
 use Rattle.reader.proofs.read_open.Tie as tie
@@ -25,14 +25,14 @@ slice-aggregate-check-line-2 : tie.Need-slice-aggregate-check-line-2
 slice-aggregate-check-line-2 c = search needs
 
 check-line-requires : tie.Need-check-line-requires
-check-line-requires c κs = (c .before .before .before .before .before .before .before .pre .1 .lexicon .entries, omega arith, omega arith)
+check-line-requires c κs = (c .before .before .before .before .before .before .before .before .pre .1 .lexicon .entries, c .before .before .before .before .before .before .before .before .pre .1 .threaded, none-same _ _ _, omega arith)
 
 enum-known-checked : tie.Need-enum-known-checked
 enum-known-checked c = search needs
 
 returns : tie.Need-returns
 returns c =
-    let s = c .before .before .before .before .before .before .before .before .before .before .before .before .before in
+    let s = c .before .before .before .before .before .before .before .before .before .before .before .before .before .before in
     let o = s .pre .1 in
     gives-line-refused _ _ _ (o .parsed) ((rw (c .before .checked .given .1) at (c .before .before .before .before .before .check-line .ensures)) (s .pre .0) (o .entries))
 
@@ -65,36 +65,33 @@ slice-aggregate-lay-out-8 c = search needs
 
 lay-out-requires : tie.Need-lay-out-requires
 lay-out-requires c κs =
-    record {
-      lexicon = c .before .before .before .before .before .before .before .before .before .before .before .before .before .before .before .before .before .before .before .before .before .pre .1 .lexicon;
-      checked = λ B kept. rw (c .before .before .before .before .before .before .before .before .before .checked2 .given .1) at (c .before .before .before .before .before .before .before .before .before .before .before .before .before .check-line .ensures B kept);
-      starts-room = omega arith;
-      ends-room = omega arith;
-      room = record { simples = omega arith; nexts = omega arith; froms = omega arith; tos = omega arith; enters = omega arith };
-      numbers-room = omega arith;
-      empty = record { nexts = zeros maxNodes; tos = zeros maxNodes };
-    }
+    let said = rw (c .before .before .before .before .before .before .before .before .before .checked2 .given .1) at (c .before .before .before .before .before .before .before .before .before .before .before .before .before .check-line .ensures) in
+    let kept = c .before .before .before .before .before .before .before .before .before .before .before .before .before .check-line .kept .1 .1 .1 .1 .1 in
+    line-fits (c .before .before .before .before .before .before .before .before .before .before .before .before .before .before .before .before .before .before .before .before .before .before .pre .1) (said (c .before .before .before .before .before .before .before .before .before .before .before .before .before .before .before .before .before .before .before .before .before .before .pre .0) (c .before .before .before .before .before .before .before .before .before .before .before .before .before .before .before .before .before .before .before .before .before .before .pre .1 .entries)) (omega (arith, kept .1 .0)) (omega (arith, kept .0))
+    (record { simples = omega arith; nexts = omega arith; froms = omega arith; tos = omega arith; enters = omega arith })
+    (omega arith) (record { nexts = zeros maxNodes; tos = zeros maxNodes })
 
 -- The lists behind the layout keep their lengths, and the graph is that of the line's words.
 module _ (c : tie.After-lay-out) where
   abbrev the-lists : Lists
-  the-lists = let m = c .lay-out .last .1 .1 .1 .1 .1 .1 .1 .1 in lists (m .0) (m .1 .0) (m .1 .1 .0) (m .1 .1 .1 .0) (m .1 .1 .1 .1 .0) (m .1 .1 .1 .1 .1 .0)
+  the-lists = let m = c .lay-out .last .1 .1 .1 .1 .1 .1 .1 in lists (m .0) (m .1 .0) (m .1 .1 .0) (m .1 .1 .1 .0) (m .1 .1 .1 .1 .0) (m .1 .1 .1 .1 .1 .0)
 
   abbrev the-book : Book
-  the-book = c .before .before .before .before .before .before .before .before .before .before .before .before .before .before .before .before .before .before .before .before .before .before .pre .0
+  the-book = c .before .before .before .before .before .before .before .before .before .before .before .before .before .before .before .before .before .before .before .before .before .before .before .pre .0
 
   numbers-long : length (the-lists .cells .numbers) ≡ maxNodes
-  numbers-long = c .lay-out .kept .1 .1 .1 .1 .1 .1 .1 .1 .1 .1 .1 .1 .1 .0
+  numbers-long = c .lay-out .kept .1 .1 .1 .1 .1 .1 .1 .1 .1 .1 .1 .1 .0
 
   drawn :
-      Drawn (below (length (the-book .names)) (the-book .pairs)) (InRows (c .before .before .before .before .before .before .before .before .before .before .before .before .before .before .before .before .before .before .before .before .before .before .args .order .now)) (graphOf (c .lay-out .result) the-lists)
-      (the-lists .cells .numbers) (c .before .before .before .before .before .before .before .before .before .before .before .before .before .before .before .before .before .before .before .before .before .before .args .target) (c .before .before .before .before .before .before .before .before .before .before .checked2 .given .0 .0) (entriesOfLine the-book (c .before .before .before .before .before .before .before .before .before .before .before .before .before .before .before .before .before .before .before .before .before .before .args .line .now))
+      Drawn (below (length (the-book .names)) (the-book .pairs)) (InRows (c .before .before .before .before .before .before .before .before .before .before .before .before .before .before .before .before .before .before .before .before .before .before .before .args .order .now)) (graphOf (c .lay-out .result) the-lists)
+      (the-lists .cells .numbers) (c .before .before .before .before .before .before .before .before .before .before .before .before .before .before .before .before .before .before .before .before .before .before .before .args .target) (c .before .before .before .before .before .before .before .before .before .before .checked2 .given .0 .0) (entriesOfLine the-book (c .before .before .before .before .before .before .before .before .before .before .before .before .before .before .before .before .before .before .before .before .before .before .before .args .line .now))
   drawn =
-      let enters-long : length (the-lists .cells .enters) ≡ maxNodes = c .lay-out .kept .1 .1 .1 .1 .1 .1 .1 .1 .1 .1 .1 .1 .0 in
-      line-drawn (λ B kept. rw (c .before .before .before .before .before .before .before .before .before .before .checked2 .given .1) at (c .before .before .before .before .before .before .before .before .before .before .before .before .before .before .check-line .ensures B kept)) (c .lay-out .ensures) (c .before .before .before .before .before .before .before .before .before .before .before .before .before .before .before .before .before .before .before .before .before .before .pre .1) (omega (arith, enters-long, numbers-long))
+      let enters-long : length (the-lists .cells .enters) ≡ maxNodes = c .lay-out .kept .1 .1 .1 .1 .1 .1 .1 .1 .1 .1 .1 .0 in
+      let said = rw (c .before .before .before .before .before .before .before .before .before .before .checked2 .given .1) at (c .before .before .before .before .before .before .before .before .before .before .before .before .before .before .check-line .ensures) in
+      line-drawn (c .before .before .before .before .before .before .before .before .before .before .before .before .before .before .before .before .before .before .before .before .before .before .before .pre .1) (said the-book (c .before .before .before .before .before .before .before .before .before .before .before .before .before .before .before .before .before .before .before .before .before .before .before .pre .1 .entries)) (c .lay-out .ensures) (omega (arith, enters-long, numbers-long))
 
-  passed-line : lineCheck the-book (c .before .before .before .before .before .before .before .before .before .before .before .before .before .before .before .before .before .before .before .before .before .before .args .line .now) ≡ passed (entriesOfLine the-book (c .before .before .before .before .before .before .before .before .before .before .before .before .before .before .before .before .before .before .before .before .before .before .args .line .now))
-  passed-line = (rw (c .before .before .before .before .before .before .before .before .before .before .checked2 .given .1) at (c .before .before .before .before .before .before .before .before .before .before .before .before .before .before .check-line .ensures)) the-book (c .before .before .before .before .before .before .before .before .before .before .before .before .before .before .before .before .before .before .before .before .before .before .pre .1 .entries) .1
+  passed-line : lineCheck the-book (c .before .before .before .before .before .before .before .before .before .before .before .before .before .before .before .before .before .before .before .before .before .before .before .args .line .now) ≡ passed (entriesOfLine the-book (c .before .before .before .before .before .before .before .before .before .before .before .before .before .before .before .before .before .before .before .before .before .before .before .args .line .now))
+  passed-line = (rw (c .before .before .before .before .before .before .before .before .before .before .checked2 .given .1) at (c .before .before .before .before .before .before .before .before .before .before .before .before .before .before .check-line .ensures)) the-book (c .before .before .before .before .before .before .before .before .before .before .before .before .before .before .before .before .before .before .before .before .before .before .before .pre .1 .entries) .0
 
 slice-aggregate-fill : tie.Need-slice-aggregate-fill
 slice-aggregate-fill c = search needs
@@ -131,7 +128,7 @@ member-requires c κs = omega arith
 -- What the definition answers, by what the graph gives.
 returns-2 : tie.Need-returns-2
 returns-2 c =
-    let s = c .before .before .before .before .before .before .before .before .before .before .before .before .before .before .before .before .before .before .before .before .before .before .before .before .before .before .before .before .before .before .before .before .before .before .before .before .before .before .before in
+    let s = c .before .before .before .before .before .before .before .before .before .before .before .before .before .before .before .before .before .before .before .before .before .before .before .before .before .before .before .before .before .before .before .before .before .before .before .before .before .before .before .before in
     let o = s .pre .1 in
     let d = drawn (c .before .before .before .before .before .before .before .before .before .before .before .before .before .before .before .before .before) in
     gives-outcome _ _ _ (o .parsed) (passed-line (c .before .before .before .before .before .before .before .before .before .before .before .before .before .before .before .before .before)) (o .chosen)
@@ -198,7 +195,7 @@ add-needed-2 c = omega (arith, drawn (c .before .before .before .before .before 
 
 returns-3 : tie.Need-returns-3
 returns-3 c =
-    let s = c .before .before .before .before .before .before .before .before .before .before .before .before .before .before .before .before .before .before .before .before .before .before .before .before .before .before .before .before .before .before .before .before .before .before .before .before .before .before .before .before .before .before .before .before .before .before .before .before .before .before .before .before .before .before .before .before in
+    let s = c .before .before .before .before .before .before .before .before .before .before .before .before .before .before .before .before .before .before .before .before .before .before .before .before .before .before .before .before .before .before .before .before .before .before .before .before .before .before .before .before .before .before .before .before .before .before .before .before .before .before .before .before .before .before .before .before .before in
     let o = s .pre .1 in
     let k = c .before .before .before .before .before .before in
     gives-outcome _ _ _ (o .parsed) (passed-line (c .before .before .before .before .before .before .before .before .before .before .before .before .before .before .before .before .before .before .before .before .before .before .before .before .before .before .before .before .before .before .before .before .before .before)) (o .chosen)
@@ -229,7 +226,7 @@ same-length c = search needs
 
 returns-4 : tie.Need-returns-4
 returns-4 c =
-    let s = c .before .before .before .before .before .before .before .before .before .before .before .before .before .before .before .before .before .before .before .before .before .before .before .before .before .before .before .before .before .before .before .before .before .before .before .before .before .before .before .before .before .before .before .before .before .before .before .before .before .before .before .before .before .before .before .before .before .before .before .before .before .before .before .before in
+    let s = c .before .before .before .before .before .before .before .before .before .before .before .before .before .before .before .before .before .before .before .before .before .before .before .before .before .before .before .before .before .before .before .before .before .before .before .before .before .before .before .before .before .before .before .before .before .before .before .before .before .before .before .before .before .before .before .before .before .before .before .before .before .before .before .before .before in
     let o = s .pre .1 in
     let k = c .before .before .before .before .before .before .before .before .before .before .before .before .before .before in
     gives-outcome _ _ _ (o .parsed) (passed-line (c .before .before .before .before .before .before .before .before .before .before .before .before .before .before .before .before .before .before .before .before .before .before .before .before .before .before .before .before .before .before .before .before .before .before .before .before .before .before .before .before .before .before)) (o .chosen)

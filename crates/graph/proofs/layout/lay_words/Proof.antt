@@ -1,102 +1,90 @@
 -- `graph::layout::lay_words` meets its contract: the words passed are laid, and those left are the rest.
 use native.Mathlib.Omega.{arith}
 use Prim.Native.Nat.{_-_}
-use Rattle.graph.proofs.LineLaws.{Lining, lining-start, lining-fits, lining-next, lining-end}
+use mathlib.Core.Path.{_≡_}
+use lib.ListN.{length}
+use Rattle.linking.specs.Reading.{Words}
+use Rattle.lookup.specs.Threads.{Threads}
 use Rattle.graph.specs.Lists.{lists}
+use Rattle.graph.proofs.LineLaws.{Lining, lining-start, lining-fits, lining-next, lining-end}
 use Rattle.graph.proofs.layout.lay_words.Statement.{statement}
 use Rattle.graph.proofs.layout.lay_words.Tie as tie
 
 abbrev Inv-loop : tie.InvT-loop
-Inv-loop book offsets count line starts ends words simples₀ nexts₀ froms₀ tos₀ enters₀ numbers₀ place₀ k₀ simples nexts froms tos enters numbers place k =
-    Lining book offsets count line starts ends words place₀ (lists simples₀ nexts₀ froms₀ tos₀ enters₀ numbers₀) place (lists simples nexts froms tos enters numbers) k
+Inv-loop book offsets count same firsts words simples₀ nexts₀ froms₀ tos₀ enters₀ numbers₀ place₀ k₀ simples nexts froms tos enters numbers place k =
+    (ws : Words) → Threads book offsets count same firsts 0 ws → length ws ≡ words
+    → Lining book offsets count same firsts words place₀ (lists simples₀ nexts₀ froms₀ tos₀ enters₀ numbers₀) ws place (lists simples nexts froms tos enters numbers) k
 
 abbrev μ-loop : tie.MeasureT-loop
-μ-loop book offsets count line starts ends words simples₀ nexts₀ froms₀ tos₀ enters₀ numbers₀ place₀ k₀ simples nexts froms tos enters numbers place k =
+μ-loop book offsets count same firsts words simples₀ nexts₀ froms₀ tos₀ enters₀ numbers₀ place₀ k₀ simples nexts froms tos enters numbers place k =
     words - k
+
+-- How the loop stands, for the words that are known to fit.
+module _ (c : tie.At-loop Inv-loop μ-loop) where
+  lining :
+      let a = c .before .before .before .before .before .before .before .before .before .before .before .args in
+      let l = c .loop in
+      Lining (a .book .now) (a .offsets .now) (a .count) (a .same .now) (a .firsts .now) (a .words) (a .p) (lists (a .simples .now) (a .nexts .now) (a .froms .now) (a .tos .now) (a .enters .now) (a .numbers .now)) (c .before .before .before .before .before .before .before .before .before .before .before .pre .all) (l .place) (lists (l .simples) (l .nexts) (l .froms) (l .tos) (l .enters) (l .numbers)) (l .k)
+  lining = c .loop .inv (c .before .before .before .before .before .before .before .before .before .before .before .pre .all) (c .before .before .before .before .before .before .before .before .before .before .before .pre .threads) (c .before .before .before .before .before .before .before .before .before .before .before .pre .as-many)
 
 loop-holds : tie.Need-loop-holds Inv-loop μ-loop
 loop-holds c =
-    let a = c .before .before .before .before .before .before .before .before .before .before .before .args in
-    lining-start (a .book .now) (a .offsets .now) (a .count) (a .line .now) (a .starts .now) (a .ends .now) (a .words) (a .p) (lists (a .simples .now) (a .nexts .now) (a .froms .now) (a .tos .now) (a .enters .now) (a .numbers .now)) (c .before .before .before .before .before .before .before .before .before .before .before .pre)
+    let a = c .before .before .before .before .before .before .before .before .before .before .args in
+    λ ws t e. lining-start (a .book .now) (a .offsets .now) (a .count) (a .same .now) (a .firsts .now) (a .words) (a .p) (lists (a .simples .now) (a .nexts .now) (a .froms .now) (a .tos .now) (a .enters .now) (a .numbers .now)) ws t e (c .before .before .before .before .before .before .before .before .before .before .pre .standing)
 
-mul-start : tie.Need-mul-start Inv-loop μ-loop
-mul-start c = omega (arith, c .before .before .before .before .before .before .before .before .before .before .before .before .before .pre .starts-room, c .before .before .before .before .before .before .before .before .before .before .before .before .before .pre .ends-room, c .before .before .before .before .before .before .before .before .before .before .before .before .before .pre .split .few)
+mul-wide-number : tie.Need-mul-wide-number Inv-loop μ-loop
+mul-wide-number c = omega (arith, c .loop-test .taken, c .before .before .before .before .before .before .before .before .before .before .before .before .pre .fits)
 
-shared-slice-read-start : tie.Need-shared-slice-read-start Inv-loop μ-loop
-shared-slice-read-start c = omega (arith, c .before .before .before .before .before .before .before .before .before .before .before .before .before .before .pre .starts-room, c .before .before .before .before .before .before .before .before .before .before .before .before .before .before .pre .ends-room, c .before .before .before .before .before .before .before .before .before .before .before .before .before .before .pre .split .few)
+shared-slice-read-wide-number : tie.Need-shared-slice-read-wide-number Inv-loop μ-loop
+shared-slice-read-wide-number c = omega (arith, c .before .loop-test .taken, c .before .before .before .before .before .before .before .before .before .before .before .before .before .pre .firsts-room)
 
-mul-end : tie.Need-mul-end Inv-loop μ-loop
-mul-end c = omega (arith, c .before .before .before .before .before .before .before .before .before .before .before .before .before .before .pre .starts-room, c .before .before .before .before .before .before .before .before .before .before .before .before .before .before .pre .ends-room, c .before .before .before .before .before .before .before .before .before .before .before .before .before .before .pre .split .few)
-
-shared-slice-read-end : tie.Need-shared-slice-read-end Inv-loop μ-loop
-shared-slice-read-end c = omega (arith, c .before .before .before .before .before .before .before .before .before .before .before .before .before .before .before .pre .starts-room, c .before .before .before .before .before .before .before .before .before .before .before .before .before .before .before .pre .ends-room, c .before .before .before .before .before .before .before .before .before .before .before .before .before .before .before .pre .split .few)
-
-sub-lay-word : tie.Need-sub-lay-word Inv-loop μ-loop
-sub-lay-word c =
-    let lies = c .before .before .before .before .before .before .before .before .before .before .before .before .before .before .before .pre .split .lying (c .before .before .before .loop .k) (omega arith) in
-    omega (arith, lies .0, lies .1)
-
-part-lay-word-start : tie.Need-part-lay-word-start Inv-loop μ-loop
-part-lay-word-start c =
-    let lies = c .before .before .before .before .before .before .before .before .before .before .before .before .before .before .before .pre .split .lying (c .before .before .before .loop .k) (omega arith) in
-    omega (arith, lies .0, lies .1)
-
-part-lay-word-end : tie.Need-part-lay-word-end Inv-loop μ-loop
-part-lay-word-end c =
-    let lies = c .before .before .before .before .before .before .before .before .before .before .before .before .before .before .before .pre .split .lying (c .before .before .before .loop .k) (omega arith) in
-    omega (arith, lies .0, lies .1)
+wide-number-requires : tie.Need-wide-number-requires Inv-loop μ-loop
+wide-number-requires c κs = omega arith
 
 lay-word-requires : tie.Need-lay-word-requires Inv-loop μ-loop
 lay-word-requires c κs =
-    let a = c .before .before .before .before .before .before .before .before .before .before .before .before .before .before .before .before .before .before .before .before .before .before .args in
-    let l = c .before .before .before .before .before .before .before .before .before .before .loop in
-    lining-fits (a .book .now) (a .offsets .now) (a .count) (a .line .now) (a .starts .now) (a .ends .now) (a .words) (a .p) (lists (a .simples .now) (a .nexts .now) (a .froms .now) (a .tos .now) (a .enters .now) (a .numbers .now)) (c .before .before .before .before .before .before .before .before .before .before .before .before .before .before .before .before .before .before .before .before .before .before .pre) (l .place) (lists (l .simples) (l .nexts) (l .froms) (l .tos) (l .enters) (l .numbers)) (l .k) (l .inv) (c .before .before .before .before .before .before .before .before .before .loop-test .taken)
+    let a = c .before .before .before .before .before .before .before .before .before .before .before .before .before .before .before .before .before .before .before .before .args in
+    let n = c .before .before .before .before .before .before .before .before .before .before .before .before .before .before .before .before .before .before .before .before .pre in
+    let l = c .before .before .before .before .before .before .before .before .before .loop in
+    rw (c .before .before .before .before .before .before .wide-number .ensures) (lining-fits (a .book .now) (a .offsets .now) (a .count) (a .same .now) (a .firsts .now) (a .words) (a .p) (lists (a .simples .now) (a .nexts .now) (a .froms .now) (a .tos .now) (a .enters .now) (a .numbers .now)) (n .all) (l .place) (lists (l .simples) (l .nexts) (l .froms) (l .tos) (l .enters) (l .numbers)) (l .k) (lining (c .before .before .before .before .before .before .before .before .before)) (c .before .before .before .before .before .before .before .before .loop-test .taken) (n .lexicon) (n .same-room) (n .numbers-room) (n .as-many) (n .fits))
 
 add-k : tie.Need-add-k Inv-loop μ-loop
-add-k c = omega (arith, c .before .before .before .before .before .before .before .before .before .before .before .before .before .before .before .before .before .before .before .before .before .before .loop-test .taken, c .before .before .before .before .before .before .before .before .before .before .before .before .before .before .before .before .before .before .before .before .before .before .before .before .before .before .before .before .before .before .before .before .before .before .before .pre .split .few)
+add-k c = omega (arith, c .before .before .before .before .before .before .before .before .before .before .before .before .before .before .before .before .before .before .before .before .before .loop-test .taken, c .before .before .before .before .before .before .before .before .before .before .before .before .before .before .before .before .before .before .before .before .before .before .before .before .before .before .before .before .before .before .before .before .before .pre .fits)
 
 loop-less : tie.Need-loop-less Inv-loop μ-loop
-loop-less c = omega (arith, c .before .before .before .before .before .before .before .before .before .before .before .before .before .before .before .before .before .before .before .before .before .before .loop-test .taken)
+loop-less c = omega (arith, c .before .before .before .before .before .before .before .before .before .before .before .before .before .before .before .before .before .before .before .before .before .loop-test .taken)
 
 loop-again : tie.Need-loop-again Inv-loop μ-loop
 loop-again c =
-    let a = c .before .before .before .before .before .before .before .before .before .before .before .before .before .before .before .before .before .before .before .before .before .before .before .before .before .before .before .before .before .before .before .before .before .before .before .args in
-    let l = c .before .before .before .before .before .before .before .before .before .before .before .before .before .before .before .before .before .before .before .before .before .before .before .loop in
-    let m = c .before .before .before .before .before .before .before .before .before .before .before .before .lay-word .last .1 .1 .1 .1 .1 in
-    record {
-      inside = omega (arith, c .before .before .before .before .before .before .before .before .before .before .before .before .before .before .before .before .before .before .before .before .before .before .loop-test .taken);
-      lined = lining-next (a .book .now) (a .offsets .now) (a .count) (a .line .now) (a .starts .now) (a .ends .now) (a .words) (a .p) (lists (a .simples .now) (a .nexts .now) (a .froms .now) (a .tos .now) (a .enters .now) (a .numbers .now)) (c .before .before .before .before .before .before .before .before .before .before .before .before .before .before .before .before .before .before .before .before .before .before .before .before .before .before .before .before .before .before .before .before .before .before .before .pre) (l .place) (lists (l .simples) (l .nexts) (l .froms) (l .tos) (l .enters) (l .numbers)) (l .k) (l .inv) (c .before .before .before .before .before .before .before .before .before .before .before .before .before .before .before .before .before .before .before .before .before .before .loop-test .taken) (c .before .before .before .before .before .before .before .before .before .before .before .before .lay-word .result) (lists (m .0) (m .1 .0) (m .1 .1 .0) (m .1 .1 .1 .0) (m .1 .1 .1 .1 .0) (m .1 .1 .1 .1 .1 .0)) (c .before .before .before .before .before .before .before .before .before .before .before .before .lay-word .ensures);
-      simples-length = omega (arith, l .inv .simples-length);
-      nexts-length = omega (arith, l .inv .nexts-length);
-      froms-length = omega (arith, l .inv .froms-length);
-      tos-length = omega (arith, l .inv .tos-length);
-      enters-length = omega (arith, l .inv .enters-length);
-      numbers-length = omega (arith, l .inv .numbers-length);
-    }
+    let a = c .before .before .before .before .before .before .before .before .before .before .before .before .before .before .before .before .before .before .before .before .before .before .before .before .before .before .before .before .before .before .before .before .before .args in
+    let l = c .before .before .before .before .before .before .before .before .before .before .before .before .before .before .before .before .before .before .before .before .before .before .loop in
+    let m = c .before .before .before .before .before .before .before .before .before .before .before .before .lay-word .last .1 .1 .1 .1 .1 .1 in
+    let laid = rw (c .before .before .before .before .before .before .before .before .before .before .before .before .before .before .before .before .before .before .before .wide-number .ensures) at (c .before .before .before .before .before .before .before .before .before .before .before .before .lay-word .ensures) in
+    λ ws t e. lining-next (a .book .now) (a .offsets .now) (a .count) (a .same .now) (a .firsts .now) (a .words) (a .p) (lists (a .simples .now) (a .nexts .now) (a .froms .now) (a .tos .now) (a .enters .now) (a .numbers .now)) ws (l .place) (lists (l .simples) (l .nexts) (l .froms) (l .tos) (l .enters) (l .numbers)) (l .k) (l .inv ws t e) (c .before .before .before .before .before .before .before .before .before .before .before .before .before .before .before .before .before .before .before .before .before .loop-test .taken) (c .before .before .before .before .before .before .before .before .before .before .before .before .lay-word .result) (lists (m .0) (m .1 .0) (m .1 .1 .0) (m .1 .1 .1 .0) (m .1 .1 .1 .1 .0) (m .1 .1 .1 .1 .1 .0)) laid (omega arith) (omega arith) (omega arith) (omega arith) (omega arith) (omega arith)
 
 same-length : tie.Need-same-length Inv-loop μ-loop
-same-length c = c .before .loop .inv .simples-length
+same-length c = lining (c .before) .simples-length
 
 same-length-2 : tie.Need-same-length-2 Inv-loop μ-loop
-same-length-2 c = c .before .loop .inv .nexts-length
+same-length-2 c = lining (c .before) .nexts-length
 
 same-length-3 : tie.Need-same-length-3 Inv-loop μ-loop
-same-length-3 c = c .before .loop .inv .froms-length
+same-length-3 c = lining (c .before) .froms-length
 
 same-length-4 : tie.Need-same-length-4 Inv-loop μ-loop
-same-length-4 c = c .before .loop .inv .tos-length
+same-length-4 c = lining (c .before) .tos-length
 
 same-length-5 : tie.Need-same-length-5 Inv-loop μ-loop
-same-length-5 c = c .before .loop .inv .enters-length
+same-length-5 c = lining (c .before) .enters-length
 
 same-length-6 : tie.Need-same-length-6 Inv-loop μ-loop
-same-length-6 c = c .before .loop .inv .numbers-length
+same-length-6 c = lining (c .before) .numbers-length
 
 returns : tie.Need-returns Inv-loop μ-loop
 returns c =
-    let a = c .before .before .before .before .before .before .before .before .before .before .before .before .before .args in
+    let a = c .before .before .before .before .before .before .before .before .before .before .before .before .args in
     let l = c .before .loop in
-    lining-end (a .book .now) (a .offsets .now) (a .count) (a .line .now) (a .starts .now) (a .ends .now) (a .words) (a .p) (lists (a .simples .now) (a .nexts .now) (a .froms .now) (a .tos .now) (a .enters .now) (a .numbers .now)) (c .before .before .before .before .before .before .before .before .before .before .before .before .before .pre) (l .place) (lists (l .simples) (l .nexts) (l .froms) (l .tos) (l .enters) (l .numbers)) (l .k) (l .inv) (omega arith)
+    λ ws t e. lining-end (a .book .now) (a .offsets .now) (a .count) (a .same .now) (a .firsts .now) (a .words) (a .p) (lists (a .simples .now) (a .nexts .now) (a .froms .now) (a .tos .now) (a .enters .now) (a .numbers .now)) ws (l .place) (lists (l .simples) (l .nexts) (l .froms) (l .tos) (l .enters) (l .numbers)) (l .k) (l .inv ws t e) (omega arith)
 
 pub lay-words-spec : {M : Type 1} → statement M
 lay-words-spec =
@@ -105,13 +93,9 @@ lay-words-spec =
     Inv-loop
     μ-loop
     loop-holds
-    mul-start
-    shared-slice-read-start
-    mul-end
-    shared-slice-read-end
-    sub-lay-word
-    part-lay-word-start
-    part-lay-word-end
+    mul-wide-number
+    shared-slice-read-wide-number
+    wide-number-requires
     lay-word-requires
     add-k
     loop-less

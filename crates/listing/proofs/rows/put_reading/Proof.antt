@@ -4,7 +4,7 @@ use mathlib.Core.List.{_++_}
 use lib.ListN.{length}
 use Rattle.book.specs.Kept.{bodiesAt}
 use Rattle.line.specs.LineWords.{wordsOf}
-use Rattle.line.specs.LookUp.{entriesKept}
+use Rattle.lookup.specs.Entries.{entriesKept}
 use Rattle.listing.specs.Listing.{firstRow, wordRows, typeRows, joined}
 use Rattle.listing.proofs.Placing.{placed-append, countable-front, countable-back}
 use Rattle.listing.proofs.rows.put_reading.Statement.{statement}

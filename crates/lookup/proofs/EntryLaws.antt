@@ -11,9 +11,8 @@ use Rattle.linking.specs.Reading.{NumberedEntry}
 use Rattle.book.specs.Format.{Bytes, Entry, Book, bodyAt, entryOf, simplesOf}
 use Rattle.book.specs.Kept.{bodiesAt, Store, Opened}
 use Rattle.book.proofs.Names.{bodies-length, bodies-at}
-use Rattle.line.specs.LineFaults.{entriesFrom}
+use Rattle.lookup.specs.Entries.{entriesKept, Entries, entryAt, entriesFrom}
 use Rattle.lookup.specs.Capitals.{sameWord}
-use Rattle.line.specs.LookUp.{entriesKept, Entries, entryAt}
 
 -- Two bytes a simple type.
 pub simples-length : (part : Bytes) → length part % 2 ≡ 0 → length (simplesOf part) ≡ length part / 2

@@ -1,0 +1,101 @@
+// A word found in a book: the thread of its entries, and how many simple types these have.
+use crate::keys::entry_word;
+use crate::keys::key_of;
+use crate::letters::same_word;
+use book::layout::body_at;
+use book::layout::type_part;
+use bytewise::widths::wide_number;
+use figures::limits::MAX_ENTRIES;
+ghost use mathlib.Core.List.{List};
+ghost use Prim.Native.Nat.{ℕ, _≤_};
+ghost use lib.ListN.{length};
+ghost use Rattle.figures.specs.Limits.{maxEntries, maxWord};
+ghost use Rattle.linking.specs.Reading.{NumberedEntry};
+ghost use Rattle.bytewise.specs.First.{First};
+ghost use Rattle.lookup.specs.Entries.{Entries};
+ghost use Rattle.lookup.specs.Threads.{key, OfWord, OfKey, Alike, Same, Joined, Finds, Thread, Tallied};
+
+// The first of a word's entries on the thread of its key, from an entry on.
+fn seek(
+    book: &[u8],
+    offsets: &[u16],
+    count: usize,
+    alike: &[u16],
+    word: &[u8],
+    from: usize,
+) -> usize
+    requires { ⌜ Entries (now book) (now offsets) count × Alike (now book) (now offsets) count (now alike) × (from ≤ maxEntries) ⌝ }
+    ensures { λ r. ⌜ r ≤ maxEntries ⌝ }
+    ensures { λ r. ⌜ ((a : ℕ) → First (OfKey (now (book .entry)) (now (offsets .entry)) (key (now (word .entry)))) a count from
+        → First (OfWord (now (book .entry)) (now (offsets .entry)) (now (word .entry))) a count r) ⌝ }
+{
+    let mut i = from;
+    while i < count {
+        if same_word(entry_word(book, wide_number(offsets[i])), word) {
+            return i;
+        }
+        i = wide_number(alike[i]);
+    }
+    i
+}
+
+// Threads the entries of a word, from its first one on.
+fn join(
+    book: &[u8],
+    offsets: &[u16],
+    count: usize,
+    alike: &[u16],
+    word: &[u8],
+    first: usize,
+    same: &mut [u16],
+)
+    requires { ⌜ Entries (now book) (now offsets) count × Alike (now book) (now offsets) count (now alike) × (maxEntries ≤ length (now same)) ×
+        First (OfWord (now book) (now offsets) (now word)) 0 count first ⌝ }
+    ensures { λ _. ⌜ Joined (now (book .entry)) (now (offsets .entry)) count (now (word .entry)) (now (same .entry)) (now (same .exit)) ⌝ }
+{
+    let mut i = first;
+    while i < count {
+        let next = seek(book, offsets, count, alike, word, wide_number(alike[i]));
+        same[i] = next as u16;
+        i = next;
+    }
+}
+
+// Finds a word: the number of its first entry is returned, and `same` has the thread of all. A word that was found before is threaded already.
+pub fn find_word(
+    book: &[u8],
+    offsets: &[u16],
+    count: usize,
+    alike: &[u16],
+    word: &[u8],
+    same: &mut [u16],
+) -> usize
+    requires { ⌜ Entries (now book) (now offsets) count × Alike (now book) (now offsets) count (now alike) ×
+        Same (now book) (now offsets) count (now same) × (1 ≤ length (now word)) × (length (now word) ≤ maxWord) ⌝ }
+    ensures { λ r. ⌜ Finds (now (book .entry)) (now (offsets .entry)) count (now (word .entry)) (now (same .entry)) (now (same .exit)) r ⌝ }
+{
+    let head = wide_number(alike[MAX_ENTRIES + key_of(word)]);
+    let first = seek(book, offsets, count, alike, word, head);
+    if first < count {
+        if same[first] == 0 {
+            join(book, offsets, count, alike, word, first, same);
+        }
+    }
+    first
+}
+
+// How many simple types the entries of a thread have together.
+pub fn tally(book: &[u8], offsets: &[u16], count: usize, same: &[u16], first: usize) -> usize
+    requires { ⌜ Entries (now book) (now offsets) count × (count ≤ length (now same)) ×
+        ((es : List NumberedEntry) × Thread (now book) (now offsets) count (now same) first es) ⌝ }
+    ensures { λ r. ⌜ ((es : List NumberedEntry) → Thread (now (book .entry)) (now (offsets .entry)) count (now (same .entry)) first es
+        → Tallied es r) ⌝ }
+{
+    let mut sum = 0;
+    let mut i = first;
+    while i < count {
+        sum += type_part(body_at(book, wide_number(offsets[i]))).len() / 2;
+        i = wide_number(same[i]);
+    }
+    sum
+}

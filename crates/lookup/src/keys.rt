@@ -1,0 +1,56 @@
+// Keys of words, and the entries of a book threaded by them.
+use crate::letters::small_letter;
+use book::layout::body_at;
+use book::layout::word_part;
+use bytewise::widths::wide_byte;
+use bytewise::widths::wide_number;
+use figures::limits::MAX_ENTRIES;
+ghost use mathlib.Core.Path.{_≡_};
+ghost use mathlib.Core.Bool.{true};
+ghost use Prim.Native.Nat.{_≤_};
+ghost use lib.ListN.{length};
+ghost use Rattle.figures.specs.Limits.{maxWord};
+ghost use Rattle.book.specs.Format.{bodyAt, nextAt, isEntry, wordOf};
+ghost use Rattle.lookup.specs.Entries.{Entries};
+ghost use Rattle.lookup.specs.Threads.{key, NoneAlike, Alike};
+
+// How many keys there are.
+pub const KEYS: usize = 256;
+
+// The places of the threads: one for each entry, with the next of its key, and behind them one for each key, with its first.
+pub const PLACES: usize = MAX_ENTRIES + KEYS;
+
+// What a thread ends with: no entry has this number.
+pub const NO_ENTRY: u16 = MAX_ENTRIES as u16;
+
+// The key of a word. Words that are the same have the same key.
+pub fn key_of(word: &[u8]) -> usize
+    requires { ⌜ (1 ≤ length (now word)) × (length (now word) ≤ maxWord) ⌝ }
+    ensures { λ r. ⌜ r ≡ key (now (word .entry)) ⌝ }
+{
+    let first = small_letter(word[0]);
+    let last = small_letter(word[word.len() - 1]);
+    (word.len() + 7 * wide_byte(first) + 37 * wide_byte(last)) % KEYS
+}
+
+// The word of the entry whose record stands at an offset.
+pub fn entry_word(book: &[u8], at: usize) -> &[u8]
+    requires { ⌜ (nextAt (now book) at ≤ length (now book)) × (isEntry (bodyAt (now book) at) ≡ true) ⌝ }
+    ensures { λ r. ⌜ now r ≡ wordOf (bodyAt (now (book .entry)) at) ⌝ }
+{
+    word_part(body_at(book, at))
+}
+
+// Threads the entries of a book by their keys, from the last to the first, so that each thread has them in the book's order.
+pub fn thread_entries(book: &[u8], offsets: &[u16], count: usize, alike: &mut [u16])
+    requires { ⌜ Entries (now book) (now offsets) count × NoneAlike (now alike) ⌝ }
+    ensures { λ _. ⌜ Alike (now (book .entry)) (now (offsets .entry)) count (now (alike .exit)) ⌝ }
+{
+    let mut i = count;
+    while 0 < i {
+        i -= 1;
+        let head = MAX_ENTRIES + key_of(entry_word(book, wide_number(offsets[i])));
+        alike[i] = alike[head];
+        alike[head] = i as u16;
+    }
+}
