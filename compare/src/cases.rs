@@ -1,5 +1,6 @@
 //! Test cases: a book, a line or a batch of lines, and the number of values lent, of several kinds.
 
+mod alike_words;
 mod ambiguous;
 mod batches;
 mod borders;
@@ -27,10 +28,11 @@ pub const AMPLE: usize = 320;
 type Maker = fn(&mut Random) -> Case;
 
 /// The makers with their shares of 2,000 cases.
-const MAKERS: [(usize, Maker); 7] = [
-    (850, ambiguous),
+const MAKERS: [(usize, Maker); 8] = [
+    (750, ambiguous),
     (200, spellings),
-    (280, papers::papers),
+    (150, alike_words::alike_words),
+    (230, papers::papers),
     (340, damaged_books::damaged_books),
     (298, damaged_lines::damaged_lines),
     (30, borders::small_borders),

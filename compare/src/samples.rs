@@ -1,5 +1,6 @@
 //! Books and lines to time: a typical book with its lines and a batch of such, lines at the bounds where much contracts with much,
-//! books full of entries of one word, and the dearest line that a search has found. A sample's name ends with whether its line reads.
+//! books full of entries of one word or of words alike, and the dearest line that a search has found. A sample's name ends with whether
+//! its line reads.
 mod dearest;
 mod full;
 mod hard;
@@ -52,12 +53,13 @@ pub fn all() -> Vec<Sample> {
 /// Books to check alone, by name.
 pub fn books() -> [(&'static str, Vec<u8>); 4] {
     let (typical, hard, full) = (typical(), hard(), full());
-    let last = full.len() - 1;
+    let alike = |sample: &&Sample| sample.name.starts_with("1024 words alike");
+    let alike = full.iter().find(alike).expect("a sample of that name");
     [
         ("typical, 1000 entries", typical[0].book.clone()),
         ("64 types in a cycle", hard[1].book.clone()),
         ("1024 empty entries, 1 byte", full[0].book.clone()),
-        ("1024 words alike, 31 bytes", full[last].book.clone()),
+        ("1024 words alike, 31 bytes", alike.book.clone()),
     ]
 }
 

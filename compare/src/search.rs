@@ -121,7 +121,7 @@ fn print_fit(file: &str, counts: &str) -> Option<()> {
     let candidates = load(file)?;
     let counts = std::fs::read_to_string(counts).ok()?;
     let counts: Option<Vec<f64>> = counts.lines().map(|count| count.parse().ok()).collect();
-    let counts = counts?;
+    let counts = counts.filter(|counts| counts.len() == candidates.len())?;
     let weights = fit::fit(&candidates, &counts);
     for weight in weights.0 {
         println!("{weight:.2},");
@@ -137,7 +137,9 @@ fn print_fit(file: &str, counts: &str) -> Option<()> {
 #[cfg(test)]
 mod tests {
     use super::*;
+    use crate::books::word_ranges;
     use crate::readers::TWIN;
+    use crate::twin::keys::key_of;
     use steps::Step;
 
     /// The model's string is the answer's with the target behind it.
@@ -156,12 +158,28 @@ mod tests {
 
     #[test]
     fn text_is_read_back() {
-        for start in starts::starts() {
-            let text = text::write(&start);
+        for candidate in fit::spread(12, 2) {
+            let text = text::write(&candidate);
             let read = text::read(&text).expect("the text is read");
             assert_eq!(read.len(), 1);
             assert_eq!(text::write(&read[0]), text);
-            assert_eq!(read[0].book(), start.book());
+            assert_eq!(read[0].book(), candidate.book());
+        }
+    }
+
+    /// The keys of a candidate's words are those that the model takes them to have.
+    #[test]
+    fn words_share_a_key_or_none() {
+        for candidate in fit::spread(12, 1) {
+            let book = candidate.book();
+            let words = word_ranges(&book).into_iter().map(|range| &book[range]);
+            let keys: Vec<usize> = words.map(key_of).collect();
+            let entries = candidate.entries();
+            assert_eq!((keys.len(), entries.len()), (1024, 1024));
+            for (key, entry) in keys.iter().zip(&entries) {
+                let shared = candidate.strangers.is_some() || entry.0 == entries[0].0;
+                assert_eq!(*key == keys[0], shared);
+            }
         }
     }
 }

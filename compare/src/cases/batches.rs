@@ -24,9 +24,14 @@ const AMPLE_FOR_ALL: usize = MOST_LINES * (2 + AMPLE);
 /// The byte that closes a line.
 const CLOSE: u8 = 10;
 
-/// A batch of lines for the book of some case, which gives it its kind.
+/// A batch of some kind.
 pub fn batch(random: &mut Random) -> Batch {
     let case = any(random);
+    for_case(random, case)
+}
+
+/// A batch of lines for the book of a case, which gives it its kind.
+pub fn for_case(random: &mut Random, case: Case) -> Batch {
     let mut lines: Vec<Vec<u8>> = (0..count(random)).map(|_| line(random, &case)).collect();
     if random.chance(1, 20) {
         add_lines(random, &mut lines);

@@ -1,4 +1,5 @@
-//! Lines against full books: 1,024 entries of one word or of words alike, hard lines in a book at its bounds, and the dearest line.
+//! Lines against full books: 1,024 entries of one word, of words alike or of words with one key, hard lines in a book at its bounds, and
+//! the dearest line.
 use super::dearest::dearest;
 use super::hard::{self, Bases, Exponents};
 use super::Sample;
@@ -38,6 +39,26 @@ fn alike_book() -> (Vec<u8>, Vec<u8>) {
         }
     }
     (book.bytes(), line.join(" ").into_bytes())
+}
+
+/// A book of 1,024 entries of so many words of 31 bytes, in turns, and a line of the last 24. The words differ in two bytes before the
+/// last, and so have one key. The last entry has the target's type, the others are empty.
+fn one_key(words: usize) -> Sample {
+    let digit = |value: usize| (b'A' + value as u8) as char;
+    let word = |k: usize| format!("{}{}{}x", "x".repeat(28), digit(k / 32), digit(k % 32));
+    let mut book = Records::default();
+    book.basic_type(b"p");
+    book.target(0);
+    for k in 0..1023 {
+        book.entry(word(k % words).as_bytes(), &[]);
+    }
+    book.entry(word(1023 % words).as_bytes(), &[(0, 0)]);
+    let line: Vec<String> = (words - 24..words).map(word).collect();
+    Sample {
+        name: format!("{words} words of one key, 31 bytes, 24 words, reads"),
+        book: book.bytes(),
+        line: line.join(" ").into_bytes(),
+    }
 }
 
 /// A hard line of words of 31 bytes, in a book filled with 64 basic types, 1,024 entries of words alike and as many pairs as there is
@@ -95,5 +116,6 @@ pub fn full() -> Vec<Sample> {
             line,
         });
     }
+    samples.extend([32, 1024].map(one_key));
     samples
 }

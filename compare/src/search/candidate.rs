@@ -1,5 +1,5 @@
-//! A book and a line as the search changes them: the exponents of each word's entries, and the line's words. The basic types are all
-//! equal by a cycle of the order, so that their numbers do not matter, and the book is filled up to its limits.
+//! A book and a line as the search changes them: the exponents of each word's entries, the line's words, and which words share a key.
+//! The basic types are all equal by a cycle of the order, so that their numbers do not matter, and the book is filled up to its limits.
 use crate::books::Records;
 use crate::twin::figures::limits::{
     MAX_BOOK, MAX_ENTRIES, MAX_ENTRY_SIMPLES, MAX_LINE_SIMPLES, MAX_TYPES, MAX_WORDS,
@@ -13,8 +13,11 @@ const PAIR: usize = 6;
 
 /// What words and the names of types begin with. They differ in their last bytes alone, and have seven: so few are compared one by
 /// one, which is dearer than up to 31 of them eight at a time.
-const WORD_START: &str = "wwwwww";
+const WORD_START: &str = "wwwww";
 const NAME_START: &str = "ttttt";
+
+/// The number of a word that never stands in the line.
+const STRANGER: usize = MAX_WORDS + 1;
 
 /// The exponents of an entry's simple types.
 pub type Entry = Vec<i8>;
@@ -26,6 +29,9 @@ pub struct Candidate {
     pub words: Vec<Vec<Entry>>,
     /// The words of the line, by their numbers.
     pub line: Vec<usize>,
+    /// Where all words have one key, how many entries of a stranger stand before theirs, as far as there is room. Where each word has a
+    /// key of its own, nothing.
+    pub strangers: Option<usize>,
 }
 
 impl Candidate {
@@ -36,7 +42,7 @@ impl Candidate {
     }
 
     /// How many entries the book has before it is filled up.
-    pub fn entries(&self) -> usize {
+    fn own_entries(&self) -> usize {
         self.words.iter().map(Vec::len).sum()
     }
 
@@ -45,7 +51,7 @@ impl Candidate {
         let mut entries = self.words.iter().flatten();
         self.line.len() <= MAX_WORDS
             && self.simples() <= MAX_LINE_SIMPLES
-            && self.entries() <= MAX_ENTRIES
+            && self.own_entries() <= MAX_ENTRIES
             && entries.all(|entry| entry.len() <= MAX_ENTRY_SIMPLES)
             && self.words.iter().all(|entries| empty(entries) <= 1)
     }
@@ -65,15 +71,35 @@ impl Candidate {
 
     /// The word that the book is filled up with: of those that have an empty entry the one that stands most often in the line. More
     /// empty entries of it are found each time, and change no reading.
-    pub fn filler(&self) -> Option<usize> {
+    fn filler(&self) -> Option<usize> {
         let often = |word: usize| self.line.iter().filter(|&&other| other == word).count();
         (0..self.words.len())
             .filter(|&word| empty(&self.words[word]) > 0)
             .max_by_key(|&word| often(word))
     }
 
-    /// The book: types, their cycle, the target, the entries, then empty entries up to the last that a book may have, and as many pairs
-    /// of a type with itself as there is room for.
+    /// The entries of the book in their order, each with its word: the stranger's, those of the line's words, and empty ones up to the
+    /// last that a book may have. These stand at the end, or where all words have one key behind those of their word, so that the words
+    /// that follow are sought past them.
+    pub fn entries(&self) -> Vec<(usize, &[i8])> {
+        let words = self.words.iter().enumerate();
+        let mut all: Vec<(usize, &[i8])> = words
+            .flat_map(|(word, entries)| entries.iter().map(move |entry| (word, &entry[..])))
+            .collect();
+        let room = MAX_ENTRIES - all.len();
+        let strangers = self.strangers.unwrap_or(0).min(room);
+        let filler = self.filler().unwrap_or(self.words.len());
+        let last = all.iter().rposition(|&(word, _)| word == filler);
+        let behind = match (self.strangers, last) {
+            (Some(_), Some(last)) => last + 1,
+            _ => all.len(),
+        };
+        all.splice(behind..behind, vec![(filler, &[][..]); room - strangers]);
+        all.splice(..0, vec![(STRANGER, &[][..]); strangers]);
+        all
+    }
+
+    /// The book: types, their cycle, the target, the entries, and as many pairs of a type with itself as there is room for.
     pub fn book(&self) -> Vec<u8> {
         let mut book = Records::default();
         for number in 0..TYPES {
@@ -83,15 +109,9 @@ impl Candidate {
             book.pair(number, (number + 1) % TYPES);
         }
         book.target(0);
-        for (number, entries) in self.words.iter().enumerate() {
-            for entry in entries {
-                let simples: Vec<(u8, i8)> = entry.iter().map(|&exponent| (0, exponent)).collect();
-                book.entry(word(number).as_bytes(), &simples);
-            }
-        }
-        let filler = word(self.filler().unwrap_or(self.words.len()));
-        for _ in self.entries()..MAX_ENTRIES {
-            book.entry(filler.as_bytes(), &[]);
+        for (word, entry) in self.entries() {
+            let simples: Vec<(u8, i8)> = entry.iter().map(|&exponent| (0, exponent)).collect();
+            book.entry(self.spelt(word).as_bytes(), &simples);
         }
         for _ in 0..(MAX_BOOK - book.bytes().len()) / PAIR {
             book.pair(0, 0);
@@ -99,9 +119,17 @@ impl Candidate {
         book.bytes()
     }
 
+    /// Word number k. Its length, its first letter and its last one make its key.
+    fn spelt(&self, k: usize) -> String {
+        match self.strangers {
+            Some(_) => format!("{WORD_START}{}w", letter(k)),
+            None => format!("{WORD_START}w{}", letter(k)),
+        }
+    }
+
     /// The line's bytes, in capitals: letters that differ in case are the dearest to compare.
     pub fn line_bytes(&self) -> Vec<u8> {
-        let words: Vec<String> = self.line.iter().map(|&number| word(number)).collect();
+        let words: Vec<String> = self.line.iter().map(|&word| self.spelt(word)).collect();
         words.join(" ").to_ascii_uppercase().into_bytes()
     }
 }
@@ -109,11 +137,6 @@ impl Candidate {
 /// How many of the entries are empty.
 fn empty(entries: &[Entry]) -> usize {
     entries.iter().filter(|entry| entry.is_empty()).count()
-}
-
-/// Word number k.
-fn word(k: usize) -> String {
-    format!("{WORD_START}{}", letter(k))
 }
 
 /// The name of type number k.

@@ -1,12 +1,12 @@
 //! Small changes of a candidate, picked at random.
 use super::candidate::{Candidate, Entry};
 use crate::random::Random;
-use crate::twin::figures::limits::MAX_ENTRY_SIMPLES;
+use crate::twin::figures::limits::{MAX_ENTRIES, MAX_ENTRY_SIMPLES};
 
 type Change = fn(&mut Candidate, &mut Random);
 
 /// What may be changed, some of it more often.
-const CHANGES: [Change; 17] = [
+const CHANGES: [Change; 18] = [
     change_exponent,
     change_exponent,
     change_exponent,
@@ -24,6 +24,7 @@ const CHANGES: [Change; 17] = [
     part_word,
     change_place,
     swap_places,
+    change_strangers,
 ];
 
 /// How many changes are made at once, at most.
@@ -176,4 +177,10 @@ fn swap_places(candidate: &mut Candidate, random: &mut Random) {
     candidate
         .line
         .swap(random.below(places), random.below(places));
+}
+
+/// Gives each word a key of its own, or all words one, with another number of entries of a stranger before theirs.
+fn change_strangers(candidate: &mut Candidate, random: &mut Random) {
+    let some = random.below(MAX_ENTRIES);
+    candidate.strangers = *random.pick(&[None, Some(0), Some(some), Some(MAX_ENTRIES)]);
 }

@@ -3,7 +3,7 @@
 use super::candidate::{Candidate, Entry};
 use super::steps::{Step, Steps};
 use super::weights::WEIGHTS;
-use crate::twin::figures::limits::{MAX_ENTRIES, ROW_BITS, ROW_WORDS};
+use crate::twin::figures::limits::{ROW_BITS, ROW_WORDS};
 use crate::twin::rows::{empty, member, next_member, put, put_in, store, unite, words_of, Row};
 
 /// How exponents from -8 to 8, and those beside them, are numbered.
@@ -84,6 +84,7 @@ impl Reading {
             leaving: Vec::new(),
         };
         reading.steps.add(Step::Call, 1);
+        reading.look_up(candidate);
         reading.lay_out(candidate);
         reading.chart = vec![0; ROW_WORDS * reading.nexts.len()];
         reading
@@ -107,17 +108,31 @@ impl Reading {
         self.enters.push(Vec::new());
     }
 
-    fn lay_out(&mut self, candidate: &Candidate) {
-        let filler = candidate.filler();
-        for &word in &candidate.line {
-            let entries = &candidate.words[word];
+    /// Each word is sought on the thread of its key up to its first entry, and on to the thread's end the first time that it stands in
+    /// the line.
+    fn look_up(&mut self, candidate: &Candidate) {
+        let entries = candidate.entries();
+        for (place, &word) in candidate.line.iter().enumerate() {
+            let others = |entries: &[(usize, &[i8])]| match candidate.strangers {
+                Some(_) => entries.iter().filter(|entry| entry.0 != word).count(),
+                None => 0,
+            };
+            let first = entries.iter().position(|entry| entry.0 == word);
+            let (before, from) = entries.split_at(first.expect("an entry of each word"));
+            let found = from.iter().filter(|entry| entry.0 == word).count();
             self.steps.add(Step::Word, 1);
-            self.steps.add(Step::Found, entries.len());
-            if filler == Some(word) {
-                self.steps
-                    .add(Step::Found, MAX_ENTRIES - candidate.entries());
+            self.steps.add(Step::Pass, others(before));
+            self.steps.add(Step::Found, found);
+            if !candidate.line[..place].contains(&word) {
+                self.steps.add(Step::Pass, others(from));
+                self.steps.add(Step::Join, found);
             }
-            self.lay_word(entries);
+        }
+    }
+
+    fn lay_out(&mut self, candidate: &Candidate) {
+        for &word in &candidate.line {
+            self.lay_word(&candidate.words[word]);
         }
         let goal = self.nexts.len() + 1;
         self.boundary();

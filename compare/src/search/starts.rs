@@ -1,5 +1,5 @@
 //! Candidates to start from: one word in all places but the last, with an entry of twelve that vanishes, nine of one simple type
-//! before or behind it, and an empty one.
+//! before or behind it, and an empty one. Both words have one key.
 use super::candidate::{Candidate, Entry};
 use crate::twin::figures::limits::{MAX_ENTRY_SIMPLES, MAX_WORDS};
 
@@ -20,6 +20,7 @@ fn start(exponent: i8, before: bool) -> Candidate {
     Candidate {
         words: vec![word, last],
         line,
+        strangers: Some(0),
     }
 }
 

@@ -3,9 +3,13 @@
 /// A kind of step.
 #[derive(Clone, Copy)]
 pub enum Step {
-    /// What each call takes for a full book, a word looked up, an entry found, a simple type laid.
+    /// What each call takes for a full book; a word of the line.
     Call,
     Word,
+    /// The look-up: an entry of another word passed on a key's thread, one put on the thread of its word.
+    Pass,
+    Join,
+    /// The layout: an entry of a word's thread, which was tallied for the line and is again for the word; a simple type laid.
     Found,
     Simple,
     /// The chart: a row joined to that of a boundary; for a simple node, a word of the row walked, a member, one that is joined.

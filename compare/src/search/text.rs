@@ -1,5 +1,5 @@
-//! Candidates as text: for each word a row `word 0 1 | -1 | -` with its entries parted by bars and a dash for an empty one, and a row
-//! `line 0 0 1` that ends the candidate.
+//! Candidates as text: for each word a row `word 0 1 | -1 | -` with its entries parted by bars and a dash for an empty one, where all
+//! words have one key a row `strangers 8`, and a row `line 0 0 1` that ends the candidate.
 use super::candidate::{Candidate, Entry};
 use std::fmt::Display;
 
@@ -9,6 +9,9 @@ pub fn write(candidate: &Candidate) -> String {
     for entries in &candidate.words {
         let entries: Vec<String> = entries.iter().map(write_entry).collect();
         text += &format!("word {}\n", entries.join(" | "));
+    }
+    if let Some(strangers) = candidate.strangers {
+        text += &format!("strangers {strangers}\n");
     }
     text + &format!("line {}\n", spaced(&candidate.line))
 }
@@ -35,6 +38,7 @@ pub fn read(text: &str) -> Option<Vec<Candidate>> {
                 let entries: Option<Vec<Entry>> = entries.split('|').map(read_entry).collect();
                 candidate.words.push(entries?);
             }
+            ("strangers", count) => candidate.strangers = Some(count.parse().ok()?),
             ("line", words) => {
                 let words: Option<Vec<usize>> =
                     words.split(' ').map(|word| word.parse().ok()).collect();

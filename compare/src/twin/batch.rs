@@ -2,7 +2,9 @@
 //! is copied into the lent buffer where its values fit.
 use super::figures::limits::{MAX_BATCH, MAX_BATCH_VALUES, MAX_ENTRIES, MAX_LINES};
 use super::figures::refusals::{ANSWERS_TOO_LONG, BAD_BATCH};
+use super::keys::{NO_ENTRY, PLACES};
 use super::reader::{open, read_open, Answer, Open};
+use super::search::find_byte;
 
 /// The byte that closes a line.
 const CLOSE: u8 = 10;
@@ -27,26 +29,18 @@ fn count_lines(lines: &[u8]) -> Answer {
     }
 }
 
-/// Where the line that starts at `at` is closed.
-fn end_of_line(lines: &[u8], at: usize) -> usize {
-    let mut i = at;
-    while i < lines.len() && lines[i] != CLOSE {
-        i += 1;
-    }
-    i
-}
-
 /// Reads a line and makes its part at `used` of the store: the count of the values behind it, 0 and the answer, or the number of the
 /// refusal and its value. What is returned is where the part ends.
 fn read_part(
     book: &[u8],
     offsets: &[u16],
+    alike: &[u16],
     open: &Open,
     line: &[u8],
     store: &mut [u16],
     used: usize,
 ) -> usize {
-    let length = match read_open(book, offsets, open, line, &mut store[used + 2..]) {
+    let length = match read_open(book, offsets, alike, open, line, &mut store[used + 2..]) {
         Ok(values) => {
             store[used + 1] = 0;
             values
@@ -66,13 +60,22 @@ fn read_part(
 pub fn read_batch(book: &[u8], lines: &[u8], answers: &mut [u16]) -> Answer {
     let count = count_lines(lines)?;
     let mut offsets = [0u16; MAX_ENTRIES];
-    let open = open(book, &mut offsets)?;
+    let mut alike = [NO_ENTRY; PLACES];
+    let open = open(book, &mut offsets, &mut alike)?;
     let mut store = [0u16; MAX_BATCH_VALUES];
     let mut used = 0;
     let mut at = 0;
     while at < lines.len() {
-        let end = end_of_line(lines, at);
-        used = read_part(book, &offsets, &open, &lines[at..end], &mut store, used);
+        let end = find_byte(lines, at, CLOSE);
+        used = read_part(
+            book,
+            &offsets,
+            &alike,
+            &open,
+            &lines[at..end],
+            &mut store,
+            used,
+        );
         at = end + 1;
     }
     if answers.len() < used {

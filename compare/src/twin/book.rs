@@ -65,7 +65,7 @@ pub enum BookCheck {
 
 /// A byte in the width that the code counts in.
 #[inline]
-fn wide_byte(byte: u8) -> usize {
+pub fn wide_byte(byte: u8) -> usize {
     byte as usize
 }
 

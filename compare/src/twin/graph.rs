@@ -1,8 +1,7 @@
 //! Lays a checked line out as a graph, in lent lists of nodes and slots: each word a boundary, then the simple types of its entries,
 //! and behind the last word the target.
 use super::book::{body_at, type_part, wide_number};
-use super::figures::limits::MAX_ENTRIES;
-use super::line::{find_entries, tally_found};
+use super::find::tally;
 use super::pregroup::{hold, EXPONENT_BIAS};
 
 /// How far the lists are filled: the next node, the next slot, and whether the word at hand has a slot with an empty type.
@@ -74,12 +73,13 @@ fn lay_slot(
     }
 }
 
-/// Lays the first n entries found, in their order, before the boundary behind the word.
+/// Lays the entries of a thread, in its order, before the boundary behind the word.
 fn lay_entries(
     book: &[u8],
     offsets: &[u16],
-    found: &[u16],
-    n: usize,
+    count: usize,
+    same: &[u16],
+    first: usize,
     boundary: usize,
     p: Place,
     simples: &mut [u16],
@@ -88,23 +88,23 @@ fn lay_entries(
     numbers: &mut [u16],
 ) -> Place {
     let mut place = p;
-    for &number in &found[..n] {
-        let number = wide_number(number);
-        let part = type_part(body_at(book, wide_number(offsets[number])));
-        place = lay_slot(
-            part, number, boundary, place, simples, nexts, enters, numbers,
-        );
+    let mut i = first;
+    while i < count {
+        let part = type_part(body_at(book, wide_number(offsets[i])));
+        place = lay_slot(part, i, boundary, place, simples, nexts, enters, numbers);
+        i = wide_number(same[i]);
     }
     place
 }
 
-/// Lays a word at the boundary of a place: the range of its slots, and its entries, which are found once. The place behind it is at the
-/// next boundary, which is known beforehand from the number of simple types.
+/// Lays a word at the boundary of a place: the range of its slots, and its entries, which are those of a thread. The place behind it is
+/// at the next boundary, which is known beforehand from the number of simple types.
 fn lay_word(
     book: &[u8],
     offsets: &[u16],
     count: usize,
-    word: &[u8],
+    same: &[u16],
+    first: usize,
     p: Place,
     simples: &mut [u16],
     nexts: &mut [u16],
@@ -113,16 +113,14 @@ fn lay_word(
     enters: &mut [u16],
     numbers: &mut [u16],
 ) -> Place {
-    let mut found = [0u16; MAX_ENTRIES];
-    let n = find_entries(book, offsets, count, word, &mut found);
-    let boundary = p.node + 1 + tally_found(book, offsets, &found, n);
-    let first = Place {
+    let boundary = p.node + 1 + tally(book, offsets, count, same, first);
+    let start = Place {
         node: p.node + 1,
         slot: p.slot,
         seen: false,
     };
     let last = lay_entries(
-        book, offsets, &found, n, boundary, first, simples, nexts, enters, numbers,
+        book, offsets, count, same, first, boundary, start, simples, nexts, enters, numbers,
     );
     froms[p.node] = p.slot as u16;
     tos[p.node] = last.slot as u16;
@@ -138,9 +136,8 @@ fn lay_words(
     book: &[u8],
     offsets: &[u16],
     count: usize,
-    line: &[u8],
-    starts: &[usize],
-    ends: &[usize],
+    same: &[u16],
+    firsts: &[u16],
     words: usize,
     p: Place,
     simples: &mut [u16],
@@ -151,12 +148,13 @@ fn lay_words(
     numbers: &mut [u16],
 ) -> Place {
     let mut place = p;
-    for (&start, &end) in starts[..words].iter().zip(&ends[..words]) {
+    for &first in &firsts[..words] {
         place = lay_word(
             book,
             offsets,
             count,
-            &line[start..end],
+            same,
+            wide_number(first),
             place,
             simples,
             nexts,
@@ -196,9 +194,8 @@ pub fn lay_out(
     book: &[u8],
     offsets: &[u16],
     count: usize,
-    line: &[u8],
-    starts: &[usize],
-    ends: &[usize],
+    same: &[u16],
+    firsts: &[u16],
     words: usize,
     target: u8,
     simples: &mut [u16],
@@ -214,7 +211,7 @@ pub fn lay_out(
         seen: false,
     };
     let last = lay_words(
-        book, offsets, count, line, starts, ends, words, first, simples, nexts, froms, tos, enters,
+        book, offsets, count, same, firsts, words, first, simples, nexts, froms, tos, enters,
         numbers,
     );
     lay_goal(target, last, simples, nexts, froms, tos, enters)

@@ -69,7 +69,7 @@ fn same_letter(x: u8, y: u8) -> bool {
 
 /// A byte with a capital made small.
 #[inline]
-fn small_letter(byte: u8) -> u8 {
+pub fn small_letter(byte: u8) -> u8 {
     match byte {
         b'A'..=b'Z' => byte + CASE_BIT,
         _ => byte,

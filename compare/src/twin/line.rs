@@ -1,9 +1,9 @@
 //! A line: any bytes at all. Its words are found where they stand, and it is refused for a byte, a word, a word without an entry or
 //! too many simple types, in this order.
-use super::book::{body_at, type_part, wide_number, word_part};
-use super::figures::limits::{MAX_ENTRIES, MAX_LINE_SIMPLES, MAX_WORD, MAX_WORDS};
+use super::figures::limits::{MAX_LINE_SIMPLES, MAX_WORD, MAX_WORDS};
 use super::figures::refusals::{BAD_LINE_BYTE, BAD_WORD, TOO_MANY_SIMPLES, UNKNOWN_WORD};
-use super::letters;
+use super::find::{find_word, tally};
+use super::search::find_byte;
 
 /// What splitting a line gives: how many words it has, or the number that it is refused with and the value returned with it.
 pub enum CheckedLine {
@@ -32,15 +32,6 @@ fn skip_spaces(line: &[u8], from: usize) -> usize {
     i
 }
 
-/// Where the word that starts at `at` ends: at the next space, or at the line's end.
-fn end_of_word(line: &[u8], at: usize) -> usize {
-    let mut i = at;
-    while i < line.len() && line[i] != b' ' {
-        i += 1;
-    }
-    i
-}
-
 /// Finds the words of a line and keeps where each starts and ends. There are places for 24 words.
 fn split(line: &[u8], starts: &mut [usize], ends: &mut [usize]) -> CheckedLine {
     let bad = bad_byte(line);
@@ -53,7 +44,7 @@ fn split(line: &[u8], starts: &mut [usize], ends: &mut [usize]) -> CheckedLine {
     let mut count = 0;
     let mut at = skip_spaces(line, 0);
     while at < line.len() {
-        let end = end_of_word(line, at);
+        let end = find_byte(line, at, b' ');
         if MAX_WORD < end - at || MAX_WORDS <= count {
             return CheckedLine::Refused {
                 number: BAD_WORD,
@@ -68,61 +59,32 @@ fn split(line: &[u8], starts: &mut [usize], ends: &mut [usize]) -> CheckedLine {
     CheckedLine::Found(count)
 }
 
-/// Whether the entry whose record stands at an offset is a word's.
-fn belongs(book: &[u8], at: usize, word: &[u8]) -> bool {
-    letters::same_word(word_part(body_at(book, at)), word)
-}
-
-/// Finds a word's entries: their numbers, in the book's order, are written to the front of `found`, and how many there are is
-/// returned.
-pub fn find_entries(
-    book: &[u8],
-    offsets: &[u16],
-    count: usize,
-    word: &[u8],
-    found: &mut [u16],
-) -> usize {
-    let mut n = 0;
-    for (i, &at) in offsets[..count].iter().enumerate() {
-        if belongs(book, wide_number(at), word) {
-            found[n] = i as u16;
-            n += 1;
-        }
-    }
-    n
-}
-
-/// How many simple types the first n entries found have together.
-pub fn tally_found(book: &[u8], offsets: &[u16], found: &[u16], n: usize) -> usize {
-    let mut sum = 0;
-    for &number in &found[..n] {
-        let at = wide_number(offsets[wide_number(number)]);
-        sum += type_part(body_at(book, at)).len() / 2;
-    }
-    sum
-}
-
-/// Looks up all words of a line: each must have an entry (13), and all entries together not too many simple types (14).
+/// Looks up all words of a line: each must have an entry (13), and all entries together not too many simple types (14). The first entry
+/// of each word is kept in `firsts`, and the thread of all in `same`.
 fn look_up(
     book: &[u8],
     offsets: &[u16],
     count: usize,
+    alike: &[u16],
     line: &[u8],
     starts: &[usize],
     ends: &[usize],
     words: usize,
+    same: &mut [u16],
+    firsts: &mut [u16],
 ) -> CheckedLine {
-    let mut found = [0u16; MAX_ENTRIES];
     let mut sum = 0;
-    for (&start, &end) in starts[..words].iter().zip(&ends[..words]) {
-        let n = find_entries(book, offsets, count, &line[start..end], &mut found);
-        if n == 0 {
+    for k in 0..words {
+        let (start, end) = (starts[k], ends[k]);
+        let first = find_word(book, offsets, count, alike, &line[start..end], same);
+        if count <= first {
             return CheckedLine::Refused {
                 number: UNKNOWN_WORD,
                 value: start,
             };
         }
-        sum += tally_found(book, offsets, &found, n);
+        firsts[k] = first as u16;
+        sum += tally(book, offsets, count, same, first);
     }
     if MAX_LINE_SIMPLES < sum {
         return CheckedLine::Refused {
@@ -133,17 +95,23 @@ fn look_up(
     CheckedLine::Found(words)
 }
 
-/// Checks a line against a book whose entries are kept: its words, or the refusal 11 to 14 that it gets.
+/// Checks a line against a book whose entries are threaded: how many words it has, with their entries in `firsts` and `same`, or the
+/// refusal 11 to 14 that it gets.
 pub fn check_line(
     book: &[u8],
     offsets: &[u16],
     count: usize,
+    alike: &[u16],
     line: &[u8],
-    starts: &mut [usize],
-    ends: &mut [usize],
+    same: &mut [u16],
+    firsts: &mut [u16],
 ) -> CheckedLine {
-    match split(line, starts, ends) {
-        CheckedLine::Found(words) => look_up(book, offsets, count, line, starts, ends, words),
+    let mut starts = [0usize; MAX_WORDS];
+    let mut ends = [0usize; MAX_WORDS];
+    match split(line, &mut starts, &mut ends) {
+        CheckedLine::Found(words) => look_up(
+            book, offsets, count, alike, line, &starts, &ends, words, same, firsts,
+        ),
         refused => refused,
     }
 }

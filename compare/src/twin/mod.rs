@@ -9,7 +9,9 @@ mod chart;
 mod choice;
 mod compare;
 pub mod figures;
+mod find;
 mod graph;
+pub mod keys;
 mod letters;
 mod line;
 mod links;
@@ -17,6 +19,7 @@ mod order;
 mod pregroup;
 mod reader;
 pub mod rows;
+mod search;
 mod table;
 
 use crate::types::{Counts, Refusal};

@@ -1,5 +1,5 @@
-//! Reads a line against a book: the book is scanned and its order closed, the line split and its words looked up, the entries laid out
-//! as a graph, its chart filled, the first choice found, and its first linking written.
+//! Reads a line against a book: the book is scanned, its entries threaded and its order closed, the line split and its words looked up,
+//! the entries laid out as a graph, its chart filled, the first choice found, and its first linking written.
 use super::answer::write_answer;
 use super::book::{scan_book, Scan};
 use super::chart::fill;
@@ -9,6 +9,7 @@ use super::figures::limits::{
 };
 use super::figures::refusals::{BUFFER_TOO_SHORT, NO_READING};
 use super::graph::lay_out;
+use super::keys::{thread_entries, NO_ENTRY, PLACES};
 use super::line::{check_line, CheckedLine};
 use super::order::{close, Order};
 use super::rows::member;
@@ -17,25 +18,27 @@ use super::rows::member;
 /// with it; the buffer is then as it was.
 pub type Answer = Result<usize, (u32, usize)>;
 
-/// What is kept of an accepted book beside where its entries stand: how many there are, the order and the target.
+/// What is kept of an accepted book beside where its entries stand and how they are threaded: how many there are, the order and the
+/// target.
 pub struct Open {
     entries: usize,
     order: Order,
     target: u8,
 }
 
-/// Reads a line against a book whose entries and order are kept.
+/// Reads a line against a book whose entries, their threads and order are kept.
 pub fn read_open(
     book: &[u8],
     offsets: &[u16],
+    alike: &[u16],
     open: &Open,
     line: &[u8],
     answer: &mut [u16],
 ) -> Answer {
     let (count, order, target) = (open.entries, &open.order.rows, open.target);
-    let mut starts = [0usize; MAX_WORDS];
-    let mut ends = [0usize; MAX_WORDS];
-    let words = match check_line(book, offsets, count, line, &mut starts, &mut ends) {
+    let mut same = [0u16; MAX_ENTRIES];
+    let mut firsts = [0u16; MAX_WORDS];
+    let words = match check_line(book, offsets, count, alike, line, &mut same, &mut firsts) {
         CheckedLine::Refused { number, value } => return Err((number, value)),
         CheckedLine::Found(words) => words,
     };
@@ -49,9 +52,8 @@ pub fn read_open(
         book,
         offsets,
         count,
-        line,
-        &starts,
-        &ends,
+        &same,
+        &firsts,
         words,
         target,
         &mut simples,
@@ -99,8 +101,9 @@ pub fn read_open(
     Ok(needed)
 }
 
-/// Scans a book and closes its order; where the entries stand is kept in `offsets`.
-pub fn open(book: &[u8], offsets: &mut [u16]) -> Result<Open, (u32, usize)> {
+/// Opens a book: its records are scanned, its entries threaded by their keys and its order closed. Where the entries stand is kept in
+/// `offsets`, and their threads in `alike`.
+pub fn open(book: &[u8], offsets: &mut [u16], alike: &mut [u16]) -> Result<Open, (u32, usize)> {
     let mut names = [0u16; MAX_TYPES];
     let mut direct = [0u64; MAX_TYPES];
     match scan_book(book, &mut names, offsets, &mut direct) {
@@ -109,11 +112,14 @@ pub fn open(book: &[u8], offsets: &mut [u16]) -> Result<Open, (u32, usize)> {
             types,
             entries,
             target,
-        } => Ok(Open {
-            entries,
-            order: close(&direct, types),
-            target,
-        }),
+        } => {
+            thread_entries(book, offsets, entries, alike);
+            Ok(Open {
+                entries,
+                order: close(&direct, types),
+                target,
+            })
+        }
     }
 }
 
@@ -121,6 +127,7 @@ pub fn open(book: &[u8], offsets: &mut [u16]) -> Result<Open, (u32, usize)> {
 #[inline(never)]
 pub fn read_line(book: &[u8], line: &[u8], answer: &mut [u16]) -> Answer {
     let mut offsets = [0u16; MAX_ENTRIES];
-    let open = open(book, &mut offsets)?;
-    read_open(book, &offsets, &open, line, answer)
+    let mut alike = [NO_ENTRY; PLACES];
+    let open = open(book, &mut offsets, &mut alike)?;
+    read_open(book, &offsets, &alike, &open, line, answer)
 }
