@@ -5,10 +5,10 @@
  * Pointers. None is null, not even that of an empty list: pass the address of any object there. What is written to (value, types, entries,
  * pairs, answer, answers) overlaps nothing else that is passed. Nothing tests this.
  * Threads. Nothing is kept between calls and nothing is allocated: several threads may call at once.
- * Stack. Reading a line takes up to 125 KiB of the caller's stack where it was measured, reading a batch 145 KiB, checking a book 4 KiB.
+ * Stack. Reading a line takes up to 127 KiB of the caller's stack where it was measured, reading a batch 147 KiB, checking a book 4 KiB.
  * WARNING: a thread with a small stack overflows. Give one that reads lines 256 KiB or more (pthread_attr_setstacksize). With glibc 128 KiB
  * are too few; its default, the limit on the stack, commonly 8 MiB, is ample. musl's default of 128 KiB leaves a caller of
- * vurzhelik_read_line 3 KiB, and is too small for a batch. */
+ * vurzhelik_read_line 1 KiB, and is too small for a batch. */
 #ifndef VURZHELIK_H
 #define VURZHELIK_H
 
