@@ -262,12 +262,7 @@ module _ (bytes : Bytes) (offsets : List ℕ) (count : ℕ) (same firsts : List 
   pub out-words-fit : WordsFit bytes offsets count same firsts words first l
   out-words-fit =
       record {
-        lexicon = n .lexicon;
-        same-room = n .same-room;
-        firsts-room = n .firsts-room;
-        all = n .all;
-        threads = n .threads;
-        as-many = n .as-many;
+        looked-up = n .looked-up;
         standing = empty-standing;
         numbers-room = n .numbers-room;
         fits = omega (arith, n .small, n .few);
@@ -277,7 +272,7 @@ module _ (bytes : Bytes) (offsets : List ℕ) (count : ℕ) (same firsts : List 
       (lined : (ws : Words) → Threads bytes offsets count same firsts 0 ws → length ws ≡ words → Lined first l last l′ ws []) where
     bounded : last .node ≤ maxWords + maxLineSimples
     unfolding simplesOfWords
-    bounded = omega (arith, n .small, n .few, lined (n .all) (n .threads) (n .as-many) .count, n .as-many)
+    bounded = omega (arith, n .small, n .few, lined (n .looked-up .all) (n .looked-up .threads) (n .looked-up .as-many) .count, n .looked-up .as-many)
 
     -- The target needs no entry numbers.
     abbrev without : Lists → Lists
@@ -285,7 +280,7 @@ module _ (bytes : Bytes) (offsets : List ℕ) (count : ℕ) (same firsts : List 
 
     pub out-standing : Standing last (without l′) × (last .node + 3 ≤ maxNodes)
     out-standing =
-        let s = lined (n .all) (n .threads) (n .as-many) .standing in (
+        let s = lined (n .looked-up .all) (n .looked-up .threads) (n .looked-up .as-many) .standing in (
           record {
             few = s .few;
             room = record {

@@ -70,17 +70,21 @@ pub record WordFits (bytes : Bytes) (offsets : List ℕ) (count : ℕ) (same : L
   pub numbers-room : maxNodes ≤ length (l .cells .numbers)
   pub fits : p .node + 1 + simplesIn entries < maxNodes
 
--- All words of a line can be laid from the place p on, and the target behind them.
-pub record WordsFit (bytes : Bytes) (offsets : List ℕ) (count : ℕ) (same firsts : List ℕ) (words : ℕ) (p : Place) (l : Lists) : Type 0 where
+-- The words of a line as they are looked up: so many, each by the thread of its entries.
+pub record ThreadedWords (bytes : Bytes) (offsets : List ℕ) (count : ℕ) (same firsts : List ℕ) (words : ℕ) : Type 0 where
   pub lexicon : Lexicon bytes offsets count
   pub same-room : count ≤ length same
   pub firsts-room : words ≤ length firsts
   pub all : Words
   pub threads : Threads bytes offsets count same firsts 0 all
   pub as-many : length all ≡ words
+
+-- All words of a line can be laid from the place p on, and the target behind them.
+pub record WordsFit (bytes : Bytes) (offsets : List ℕ) (count : ℕ) (same firsts : List ℕ) (words : ℕ) (p : Place) (l : Lists) : Type 0 where
+  pub looked-up : ThreadedWords bytes offsets count same firsts words
   pub standing : Standing p l
   pub numbers-room : maxNodes ≤ length (l .cells .numbers)
-  pub fits : p .node + (simplesOfWords all + words) + 3 ≤ maxNodes
+  pub fits : p .node + (simplesOfWords (looked-up .all) + words) + 3 ≤ maxNodes
 
 -- The target is laid at the boundary of the place p, with two nodes behind it: its right adjoint and the end.
 pub record Ended (target : Basic) (p : Place) (l l′ : Lists) (count : ℕ) : Type 0 where
@@ -96,14 +100,9 @@ pub record Empty (l : Lists) : Type 0 where
 
 -- A line whose words are looked up, within its limits, can be laid out in empty lists.
 pub record LineFits (bytes : Bytes) (offsets : List ℕ) (count : ℕ) (same firsts : List ℕ) (words : ℕ) (l : Lists) : Type 0 where
-  pub lexicon : Lexicon bytes offsets count
-  pub same-room : count ≤ length same
-  pub firsts-room : words ≤ length firsts
-  pub all : Words
-  pub threads : Threads bytes offsets count same firsts 0 all
-  pub as-many : length all ≡ words
+  pub looked-up : ThreadedWords bytes offsets count same firsts words
   pub few : words ≤ maxWords
-  pub small : simplesOfWords all ≤ maxLineSimples
+  pub small : simplesOfWords (looked-up .all) ≤ maxLineSimples
   pub room : Room l
   pub numbers-room : maxNodes ≤ length (l .cells .numbers)
   pub empty : Empty l

@@ -92,12 +92,14 @@ module _ {bytes : Bytes} {offsets : List ℕ} {count : ℕ} {alike rows : List �
       → LineFits bytes offsets count same firsts n l
   line-fits same-room firsts-room room numbers-room empty =
       record {
-        lexicon = o .lexicon;
-        same-room = omega (arith, o .lexicon .entries .few);
-        firsts-room = omega (arith, says .1);
-        all = entriesOfLine B line;
-        threads = says .2 .threads;
-        as-many = says .2 .words;
+        looked-up = record {
+          lexicon = o .lexicon;
+          same-room = omega (arith, o .lexicon .entries .few);
+          firsts-room = omega (arith, says .1);
+          all = entriesOfLine B line;
+          threads = says .2 .threads;
+          as-many = says .2 .words;
+        };
         few = says .1;
         small = says .2 .small;
         room = room;

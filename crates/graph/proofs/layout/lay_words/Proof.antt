@@ -24,8 +24,8 @@ module _ (c : tie.At-loop Inv-loop μ-loop) where
   lining :
       let a = c .before .before .before .before .before .before .before .before .before .before .before .args in
       let l = c .loop in
-      Lining (a .book .now) (a .offsets .now) (a .count) (a .same .now) (a .firsts .now) (a .words) (a .p) (lists (a .simples .now) (a .nexts .now) (a .froms .now) (a .tos .now) (a .enters .now) (a .numbers .now)) (c .before .before .before .before .before .before .before .before .before .before .before .pre .all) (l .place) (lists (l .simples) (l .nexts) (l .froms) (l .tos) (l .enters) (l .numbers)) (l .k)
-  lining = c .loop .inv (c .before .before .before .before .before .before .before .before .before .before .before .pre .all) (c .before .before .before .before .before .before .before .before .before .before .before .pre .threads) (c .before .before .before .before .before .before .before .before .before .before .before .pre .as-many)
+      Lining (a .book .now) (a .offsets .now) (a .count) (a .same .now) (a .firsts .now) (a .words) (a .p) (lists (a .simples .now) (a .nexts .now) (a .froms .now) (a .tos .now) (a .enters .now) (a .numbers .now)) (c .before .before .before .before .before .before .before .before .before .before .before .pre .looked-up .all) (l .place) (lists (l .simples) (l .nexts) (l .froms) (l .tos) (l .enters) (l .numbers)) (l .k)
+  lining = c .loop .inv (c .before .before .before .before .before .before .before .before .before .before .before .pre .looked-up .all) (c .before .before .before .before .before .before .before .before .before .before .before .pre .looked-up .threads) (c .before .before .before .before .before .before .before .before .before .before .before .pre .looked-up .as-many)
 
 loop-holds : tie.Need-loop-holds Inv-loop μ-loop
 loop-holds c =
@@ -36,7 +36,7 @@ mul-wide-number : tie.Need-mul-wide-number Inv-loop μ-loop
 mul-wide-number c = omega (arith, c .loop-test .taken, c .before .before .before .before .before .before .before .before .before .before .before .before .pre .fits)
 
 shared-slice-read-wide-number : tie.Need-shared-slice-read-wide-number Inv-loop μ-loop
-shared-slice-read-wide-number c = omega (arith, c .before .loop-test .taken, c .before .before .before .before .before .before .before .before .before .before .before .before .before .pre .firsts-room)
+shared-slice-read-wide-number c = omega (arith, c .before .loop-test .taken, c .before .before .before .before .before .before .before .before .before .before .before .before .before .pre .looked-up .firsts-room)
 
 wide-number-requires : tie.Need-wide-number-requires Inv-loop μ-loop
 wide-number-requires c κs = omega arith
@@ -46,7 +46,7 @@ lay-word-requires c κs =
     let a = c .before .before .before .before .before .before .before .before .before .before .before .before .before .before .before .before .before .before .before .before .args in
     let n = c .before .before .before .before .before .before .before .before .before .before .before .before .before .before .before .before .before .before .before .before .pre in
     let l = c .before .before .before .before .before .before .before .before .before .loop in
-    rw (c .before .before .before .before .before .before .wide-number .ensures) (lining-fits (a .book .now) (a .offsets .now) (a .count) (a .same .now) (a .firsts .now) (a .words) (a .p) (lists (a .simples .now) (a .nexts .now) (a .froms .now) (a .tos .now) (a .enters .now) (a .numbers .now)) (n .all) (l .place) (lists (l .simples) (l .nexts) (l .froms) (l .tos) (l .enters) (l .numbers)) (l .k) (lining (c .before .before .before .before .before .before .before .before .before)) (c .before .before .before .before .before .before .before .before .loop-test .taken) (n .lexicon) (n .same-room) (n .numbers-room) (n .as-many) (n .fits))
+    rw (c .before .before .before .before .before .before .wide-number .ensures) (lining-fits (a .book .now) (a .offsets .now) (a .count) (a .same .now) (a .firsts .now) (a .words) (a .p) (lists (a .simples .now) (a .nexts .now) (a .froms .now) (a .tos .now) (a .enters .now) (a .numbers .now)) (n .looked-up .all) (l .place) (lists (l .simples) (l .nexts) (l .froms) (l .tos) (l .enters) (l .numbers)) (l .k) (lining (c .before .before .before .before .before .before .before .before .before)) (c .before .before .before .before .before .before .before .before .loop-test .taken) (n .looked-up .lexicon) (n .looked-up .same-room) (n .numbers-room) (n .looked-up .as-many) (n .fits))
 
 add-k : tie.Need-add-k Inv-loop μ-loop
 add-k c = omega (arith, c .before .before .before .before .before .before .before .before .before .before .before .before .before .before .before .before .before .before .before .before .before .loop-test .taken, c .before .before .before .before .before .before .before .before .before .before .before .before .before .before .before .before .before .before .before .before .before .before .before .before .before .before .before .before .before .before .before .before .before .pre .fits)
