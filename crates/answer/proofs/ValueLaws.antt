@@ -20,65 +20,74 @@ unfolding entryNumbers
 entry-numbers-next numbers slots i h =
     ap (map (λ s. getD numbers s 0)) (take-suc slots i 0 h) ∙ map-append (λ s. getD numbers s 0) (take i slots) (getD slots i 0 ∷ [])
 
--- A value is written behind n and a list of i numbers.
+-- A value is written behind t, n and a list of i numbers.
 set-behind :
-    (before ns : List ℕ) (n i v : ℕ) → length ns ≡ i → i + 1 < length before
-    → set (n ∷ (ns ++ drop (i + 1) before)) (i + 1) v ≡ n ∷ (ns ++ (v ∷ drop (i + 2) before))
-set-behind before ns n i v size space =
-    let one : i + 1 ≡ suc i = omega arith in
+    (before ns : List ℕ) (t n i v : ℕ) → length ns ≡ i → i + 2 < length before
+    → set (t ∷ n ∷ (ns ++ drop (i + 2) before)) (i + 2) v ≡ t ∷ n ∷ (ns ++ (v ∷ drop (i + 3) before))
+set-behind before ns t n i v size space =
     let two : i + 2 ≡ suc (suc i) = omega arith in
-    rw (one, two)
-    (ap (λ (l : List ℕ). n ∷ set (ns ++ l) i v) (drop-cons before (suc i) 0 (omega arith))
-    ∙ ap (λ (l : List ℕ). n ∷ l) (set-at ns (getD before (suc i) 0) (drop (suc (suc i)) before) v i size))
+    let three : i + 3 ≡ suc (suc (suc i)) = omega arith in
+    rw (two, three)
+    (ap (λ (l : List ℕ). t ∷ n ∷ set (ns ++ l) i v) (drop-cons before (suc (suc i)) 0 (omega arith))
+    ∙ ap (λ (l : List ℕ). t ∷ n ∷ l) (set-at ns (getD before (suc (suc i)) 0) (drop (suc (suc (suc i))) before) v i size))
 
--- After i turns: value 0 is n, and the numbers of the first i slots stand behind it.
-pub record Entering (numbers slots before answer : List ℕ) (n i : ℕ) : Type 0 where
+-- After i turns: value 0 is t, value 1 is n, and the numbers of the first i slots stand behind them.
+pub record Entering (t : ℕ) (numbers slots before answer : List ℕ) (n i : ℕ) : Type 0 where
   pub within : i ≤ n
   pub size : length answer ≡ length before
-  pub written : answer ≡ n ∷ (entryNumbers numbers slots i ++ drop (i + 1) before)
+  pub written : answer ≡ t ∷ n ∷ (entryNumbers numbers slots i ++ drop (i + 2) before)
 
-pub entering-start : (numbers slots before : List ℕ) (n : ℕ) → n < length before → Entering numbers slots (set before 0 n) (set before 0 n) n 0
+-- Before the first turn the first two values are written.
+abbrev pub headed : List ℕ → ℕ → ℕ → List ℕ
+headed before t n = set (set before 0 t) 1 n
+
+pub headed-length : (before : List ℕ) (t n : ℕ) → length (headed before t n) ≡ length before
+headed-length before t n = length-set (set before 0 t) 1 n ∙ length-set before 0 t
+
+pub entering-start : (t : ℕ) (numbers slots before : List ℕ) (n : ℕ) → n + 1 < length before → Entering t numbers slots (headed before t n) (headed before t n) n 0
 unfolding entryNumbers
-entering-start numbers slots [] n h = absurd (omega arith)
-entering-start numbers slots (x ∷ xs) n h = record { within = omega arith; size = refl; written = refl }
+entering-start t numbers slots [] n h = absurd (omega arith)
+entering-start t numbers slots (x ∷ []) n h = absurd (omega arith)
+entering-start t numbers slots (x ∷ y ∷ xs) n h = record { within = omega arith; size = refl; written = refl }
 
-module _ (numbers slots before answer : List ℕ) (n i : ℕ) (entering : Entering numbers slots before answer n i) where
+module _ (t : ℕ) (numbers slots before answer : List ℕ) (n i : ℕ) (entering : Entering t numbers slots before answer n i) where
   pub entering-next :
-      i < n → n < length before → n ≤ length slots
-      → Entering numbers slots before (set answer (i + 1) (getD numbers (getD slots i 0) 0)) n (i + 1)
+      i < n → n + 1 < length before → n ≤ length slots
+      → Entering t numbers slots before (set answer (i + 2) (getD numbers (getD slots i 0) 0)) n (i + 1)
   entering-next h space there =
       let v = getD numbers (getD slots i 0) 0 in
       let ns = entryNumbers numbers slots i in
       let one : i + 1 ≡ suc i = omega arith in
-      let two : i + 1 + 1 ≡ i + 2 = omega arith in
-      let rest = drop (i + 2) before in
+      let three : i + 1 + 2 ≡ i + 3 = omega arith in
+      let rest = drop (i + 3) before in
       let more = entry-numbers-next numbers slots i (omega arith) in
       let next = sym (append-snoc ns v rest) ∙ ap (λ (l : List ℕ). l ++ rest) (sym more) in
       record {
         within = omega arith;
-        size = length-set answer (i + 1) v ∙ entering .size;
+        size = length-set answer (i + 2) v ∙ entering .size;
         written =
-            ap (λ (l : List ℕ). set l (i + 1) v) (entering .written)
-            ∙ set-behind before ns n i v (entry-numbers-length numbers slots i (omega arith)) (omega arith)
-            ∙ rw (two, one) (ap (λ (l : List ℕ). n ∷ l) next);
+            ap (λ (l : List ℕ). set l (i + 2) v) (entering .written)
+            ∙ set-behind before ns t n i v (entry-numbers-length numbers slots i (omega arith)) (omega arith)
+            ∙ rw (three, one) (ap (λ (l : List ℕ). t ∷ n ∷ l) next);
       }
 
 -- When all n are written: what stood in the buffer behind them is kept.
 pub entering-end :
-    (numbers slots before answer : List ℕ) (n i : ℕ) → Entering numbers slots (set before 0 n) answer n i → n ≤ i
-    → answer ≡ n ∷ (entryNumbers numbers slots n ++ drop (n + 1) before)
-entering-end numbers slots before answer n i entering h =
+    (t : ℕ) (numbers slots before answer : List ℕ) (n i : ℕ) → Entering t numbers slots (headed before t n) answer n i → n ≤ i
+    → answer ≡ t ∷ n ∷ (entryNumbers numbers slots n ++ drop (n + 2) before)
+entering-end t numbers slots before answer n i entering h =
     let w = entering .within in
     let all : i ≡ n = omega arith in
-    let written : answer ≡ n ∷ (entryNumbers numbers slots n ++ drop (n + 1) (set before 0 n)) = rw all at (entering .written) in
-    written ∙ ap (λ (l : List ℕ). n ∷ (entryNumbers numbers slots n ++ l)) (drop-set-lt (n + 1) before 0 n (omega arith))
+    let written : answer ≡ t ∷ n ∷ (entryNumbers numbers slots n ++ drop (n + 2) (headed before t n)) = rw all at (entering .written) in
+    let kept = drop-set-lt (n + 2) (set before 0 t) 1 n (omega arith) ∙ drop-set-lt (n + 2) before 0 t (omega arith) in
+    written ∙ ap (λ (l : List ℕ). t ∷ n ∷ (entryNumbers numbers slots n ++ l)) kept
 
 -- The count is written behind the entries.
 counted-parts :
-    (before ns : List ℕ) (n m : ℕ) → length ns ≡ n → n + 2 ≤ length before
-    → set (n ∷ (ns ++ drop (n + 1) before)) (n + 1) m ≡ ((n ∷ ns) ++ (m ∷ [])) ++ drop (n + 2) before
-counted-parts before ns n m size space =
-    set-behind before ns n n m size (omega arith) ∙ sym (append-snoc (n ∷ ns) m (drop (n + 2) before))
+    (before ns : List ℕ) (t n m : ℕ) → length ns ≡ n → n + 3 ≤ length before
+    → set (t ∷ n ∷ (ns ++ drop (n + 2) before)) (n + 2) m ≡ ((t ∷ n ∷ ns) ++ (m ∷ [])) ++ drop (n + 3) before
+counted-parts before ns t n m size space =
+    set-behind before ns t n n m size (omega arith) ∙ sym (append-snoc (t ∷ n ∷ ns) m (drop (n + 3) before))
 
 -- Behind a front of k values.
 drop-behind : (front rest : List ℕ) (k m : ℕ) → length front ≡ k → drop (k + m) (front ++ rest) ≡ drop m rest
@@ -86,17 +95,17 @@ drop-behind front rest k m size = sym (drop-drop m k (front ++ rest)) ∙ ap (dr
 
 -- The entries, then the count of partners, then the partners: the answer's values, and behind them what stood there.
 pub values-written :
-    (before entered counted after ns partners : List ℕ) (n m : ℕ) → length ns ≡ n → n + 2 ≤ length before
-    → entered ≡ n ∷ (ns ++ drop (n + 1) before) → counted ≡ set entered (n + 1) m
-    → after ≡ take (n + 2) counted ++ (partners ++ drop (n + 2 + m) counted)
-    → after ≡ (n ∷ (ns ++ (m ∷ partners))) ++ drop (n + 2 + m) before
-values-written before entered counted after ns partners n m size space entering counting linking =
-    let front = (n ∷ ns) ++ (m ∷ []) in
-    let behind = drop (n + 2) before in
-    let rest = drop (n + 2 + m) before in
-    let long : length front ≡ n + 2 = length-append (n ∷ ns) (m ∷ []) ∙ omega arith in
-    let parts = counting ∙ ap (λ (l : List ℕ). set l (n + 1) m) entering ∙ counted-parts before ns n m size space in
-    let first = ap (take (n + 2)) parts ∙ take-at front behind (n + 2) long in
-    let last = ap (drop (n + 2 + m)) parts ∙ drop-behind front behind (n + 2) m long ∙ drop-drop m (n + 2) before in
+    (before entered counted after ns partners : List ℕ) (t n m : ℕ) → length ns ≡ n → n + 3 ≤ length before
+    → entered ≡ t ∷ n ∷ (ns ++ drop (n + 2) before) → counted ≡ set entered (n + 2) m
+    → after ≡ take (n + 3) counted ++ (partners ++ drop (n + 3 + m) counted)
+    → after ≡ (t ∷ n ∷ (ns ++ (m ∷ partners))) ++ drop (n + 3 + m) before
+values-written before entered counted after ns partners t n m size space entering counting linking =
+    let front = (t ∷ n ∷ ns) ++ (m ∷ []) in
+    let behind = drop (n + 3) before in
+    let rest = drop (n + 3 + m) before in
+    let long : length front ≡ n + 3 = length-append (t ∷ n ∷ ns) (m ∷ []) ∙ omega arith in
+    let parts = counting ∙ ap (λ (l : List ℕ). set l (n + 2) m) entering ∙ counted-parts before ns t n m size space in
+    let first = ap (take (n + 3)) parts ∙ take-at front behind (n + 3) long in
+    let last = ap (drop (n + 3 + m)) parts ∙ drop-behind front behind (n + 3) m long ∙ drop-drop m (n + 3) before in
     linking ∙ ap₂ _++_ first (ap (λ (l : List ℕ). partners ++ l) last)
-    ∙ append-snoc (n ∷ ns) m (partners ++ rest) ∙ sym (append-assoc (n ∷ ns) (m ∷ partners) rest)
+    ∙ append-snoc (t ∷ n ∷ ns) m (partners ++ rest) ∙ sym (append-assoc (t ∷ n ∷ ns) (m ∷ partners) rest)

@@ -15,19 +15,19 @@ use Rattle.answer.proofs.ValueLaws.{entry-numbers-length, values-writte
 
 -- The three writes make the answer.
 pub wrote-answer :
-    {Le : Relation} (string : List ℕ) {m : ℕ} {t : Basic} {numbers slots before entered counted after : List ℕ} {n : ℕ} → n ≤ length slots
-    → 2 + n + m ≤ length before → entered ≡ n ∷ (entryNumbers numbers slots n ++ drop (n + 1) before) → counted ≡ set entered (n + 1) m
-    → FirstLinked Le t (stringOf string m) counted after (n + 2) → WroteAnswer Le string m t numbers slots n before after
-wrote-answer string {m} {numbers = numbers} {slots} {before} {entered} {counted} {after} {n} slots-room space e c f =
+    {Le : Relation} (string : List ℕ) {m : ℕ} {s : Basic} {t : ℕ} {numbers slots before entered counted after : List ℕ} {n : ℕ} → n ≤ length slots
+    → 3 + n + m ≤ length before → entered ≡ t ∷ n ∷ (entryNumbers numbers slots n ++ drop (n + 2) before) → counted ≡ set entered (n + 2) m
+    → FirstLinked Le s (stringOf string m) counted after (n + 3) → WroteAnswer Le string m s t numbers slots n before after
+wrote-answer string {m} {t = t} {numbers} {slots} {before} {entered} {counted} {after} {n} slots-room space e c f =
     let long = length-string string m in
     let count = entry-numbers-length numbers slots n slots-room in
     let ns = entryNumbers numbers slots n in
-    let same : n + 2 + m ≡ 2 + n + m = omega arith in
-    let w = values-written before entered counted after ns (f .partners) n m count (omega arith) e c
-    (f .written ∙ ap (λ (k : ℕ). take (n + 2) counted ++ (f .partners ++ drop (n + 2 + k) counted)) long) in
+    let same : n + 3 + m ≡ 3 + n + m = omega arith in
+    let w = values-written before entered counted after ns (f .partners) t n m count (omega arith) e c
+    (f .written ∙ ap (λ (k : ℕ). take (n + 3) counted ++ (f .partners ++ drop (n + 3 + k) counted)) long) in
     record {
       partners = f .partners;
       whole = f .whole ∙ long;
       greedy = f .greedy;
-      written = w ∙ ap (λ (k : ℕ). (n ∷ (ns ++ (m ∷ f .partners))) ++ drop k before) same;
+      written = w ∙ ap (λ (k : ℕ). (t ∷ n ∷ (ns ++ (m ∷ f .partners))) ++ drop k before) same;
     }

@@ -1,5 +1,5 @@
-// Writes an answer into the lent buffer of 16-bit numbers: the number of words, the numbers of their entries, the number of simple types, and
-// their partners, which are found and written by `links`.
+// Writes an answer into the lent buffer of 16-bit numbers: the target's number, the number of words, the numbers of their entries, the number
+// of simple types, and their partners, which are found and written by `links`.
 mod links;
 
 ghost use Prim.Native.Nat.{_+_, _<_};
@@ -11,15 +11,18 @@ ghost use Rattle.figures.specs.Limits.{valueBound};
 ghost use Rattle.answer.specs.Entries.{entryNumbers, Enterable};
 ghost use Rattle.answer.specs.Written.{Linkable, Writable, WroteAnswer};
 
-// Writes the number of words and the number of each word's entry: value 0 is n, value 1 + i is the number of slot i of the choice.
-fn write_entries(numbers: &[u16], slots: &[u16], n: usize, answer: &mut [u16])
-    requires { ⌜ Enterable (now numbers) (now slots) n (now answer) ⌝ }
-    ensures { λ _. ⌜ now (answer .exit) ≡ n ∷ (entryNumbers (now (numbers .entry)) (now (slots .entry)) n ++ drop (n + 1) (now (answer .entry))) ⌝ }
+// Writes the target's number, the number of words and the number of each word's entry: value 0 is t, value 1 is n, value 2 + i is the number of
+// slot i of the choice.
+fn write_entries(t: usize, numbers: &[u16], slots: &[u16], n: usize, answer: &mut [u16])
+    requires { ⌜ Enterable t (now numbers) (now slots) n (now answer) ⌝ }
+    ensures { λ _. ⌜ now (answer .exit)
+        ≡ t ∷ n ∷ (entryNumbers (now (numbers .entry)) (now (slots .entry)) n ++ drop (n + 2) (now (answer .entry))) ⌝ }
 {
-    answer[0] = n as u16;
+    answer[0] = t as u16;
+    answer[1] = n as u16;
     let mut i = 0;
     while i < n {
-        answer[i + 1] = numbers[slots[i] as usize];
+        answer[i + 2] = numbers[slots[i] as usize];
         i += 1;
     }
 }
@@ -32,24 +35,25 @@ fn write_count(answer: &mut [u16], at: usize, m: usize)
     answer[at] = m as u16;
 }
 
-// Writes the whole answer of n words and m simple types.
+// Writes the whole answer of n words and m simple types, for the target that has number t.
 pub fn write_answer(
     order: &[u64],
     string: &[u16],
     table: &[u64],
     m: usize,
     target: u8,
+    t: usize,
     numbers: &[u16],
     slots: &[u16],
     n: usize,
     answer: &mut [u16],
 )
     requires { ⌜ Linkable (InRows (now order)) (now string) (now table) m target ⌝ }
-    requires { ⌜ Writable (now numbers) (now slots) n m (now answer) ⌝ }
-    ensures { λ _. ⌜ WroteAnswer (InRows (now (order .entry))) (now (string .entry)) m target (now (numbers .entry)) (now (slots .entry)) n
+    requires { ⌜ Writable t (now numbers) (now slots) n m (now answer) ⌝ }
+    ensures { λ _. ⌜ WroteAnswer (InRows (now (order .entry))) (now (string .entry)) m target t (now (numbers .entry)) (now (slots .entry)) n
         (now (answer .entry)) (now (answer .exit)) ⌝ }
 {
-    write_entries(numbers, slots, n, answer);
-    write_count(answer, n + 1, m);
-    links::first_linking(order, string, m, target, table, answer, n + 2);
+    write_entries(t, numbers, slots, n, answer);
+    write_count(answer, n + 2, m);
+    links::first_linking(order, string, m, target, table, answer, n + 3);
 }

@@ -39,8 +39,8 @@ line-gets book line =
     record {
       alone = alone-ample book line;
       never-short = below-short (alone-is book line);
-      answered = λ h. let a = promised .answered h in let w = a .3 in (a .0, a .1, a .2, record { entries = w .entries; partners = w .partners; first = w .first; whole = w .whole });
-      found = λ B words r entries partners reads. ⊎-elim (λ e. e) (λ t. absurd (never-lent r zeros-long (t .1))) (promised .found B words r entries partners reads);
+      answered = λ h. let a = promised .answered h in let w = a .3 in (a .0, a .1, a .2, record { target = w .target; entries = w .entries; partners = w .partners; first = w .first; whole = w .whole });
+      found = λ B words r t entries partners reads. ⊎-elim (λ e. e) (λ s. absurd (never-lent r zeros-long (s .1))) (promised .found B words r t entries partners reads);
       unread = promised .unread;
     }
 

@@ -12,7 +12,7 @@ use Rattle.pregroup.specs.Types.{even}
 use Rattle.pregroup.specs.Tests.{sameExponent, contracts}
 use Rattle.order.specs.Closed.{below}
 use Rattle.linking.specs.Linking.{firstSome, linkedTo, firstWithin, unlinkedAt, firstFrom, firstLinking}
-use Rattle.linking.specs.Reading.{firstEntry, firstBehind, firstReading}
+use Rattle.linking.specs.Reading.{firstEntry, firstBehind, firstTarget, firstReading}
 use Rattle.book.specs.Format.{Bytes, every, twoBytes, nameByte, isName, exponentOf, simplesOf, isEntry, exponentListed, sameBytes, bodyRules, recordRules, firstBroken, add, ended, recordsFrom, parse}
 use Rattle.book.proofs.PaperBooks.{fetch, bed4, admit, site, go, firstBook}
 use Rattle.line.specs.LineWords.{wordsFrom}
@@ -77,10 +77,10 @@ abbrev morning : Bytes
 morning = closeEach (lineOf (fetch ∷ bed4 ∷ []) ∷ lineOf (admit ∷ site ∷ []) ∷ [] ∷ lineOf (go ∷ (110 ∷ 111 ∷ 119 ∷ []) ∷ []) ∷ [])
 
 abbrev answers : List ℕ
-answers = 8 ∷ 0 ∷ 2 ∷ 0 ∷ 2 ∷ 3 ∷ 1 ∷ 3 ∷ 2 ∷ 2 ∷ 15 ∷ 0 ∷ 2 ∷ 15 ∷ 0 ∷ 2 ∷ 13 ∷ 3 ∷ []
+answers = 9 ∷ 0 ∷ 0 ∷ 2 ∷ 0 ∷ 2 ∷ 3 ∷ 1 ∷ 3 ∷ 2 ∷ 2 ∷ 15 ∷ 0 ∷ 2 ∷ 15 ∷ 0 ∷ 2 ∷ 13 ∷ 3 ∷ []
 
 pub morning-lines :
-    map (batchOutcome firstBook morning) (replicate 20 7 ∷ replicate 18 7 ∷ replicate 17 7 ∷ [])
-    ≡ record { answer = Answered 4; buffer = answers ++ (7 ∷ 7 ∷ []) } ∷ record { answer = Answered 4; buffer = answers } ∷ refused answersTooLong 18 (replicate 17 7) ∷ []
-unfolding every twoBytes nameByte isName exponentOf simplesOf isEntry exponentListed sameBytes bodyRules recordRules firstBroken add ended recordsFrom parse even sameExponent contracts firstSome linkedTo firstWithin unlinkedAt firstFrom firstLinking firstEntry firstBehind firstReading below small sameWord wordsFrom entriesFrom byteFault wordFault entryFault simplesIn simplesOfWords lineCheck given readAgainst readParsed linesOf batchLines partsOf givenParts readLines readBatch
+    map (batchOutcome firstBook morning) (replicate 21 7 ∷ replicate 19 7 ∷ replicate 18 7 ∷ [])
+    ≡ record { answer = Answered 4; buffer = answers ++ (7 ∷ 7 ∷ []) } ∷ record { answer = Answered 4; buffer = answers } ∷ refused answersTooLong 19 (replicate 18 7) ∷ []
+unfolding every twoBytes nameByte isName exponentOf simplesOf isEntry exponentListed sameBytes bodyRules recordRules firstBroken add ended recordsFrom parse even sameExponent contracts firstSome linkedTo firstWithin unlinkedAt firstFrom firstLinking firstEntry firstBehind firstTarget firstReading below small sameWord wordsFrom entriesFrom byteFault wordFault entryFault simplesIn simplesOfWords lineCheck given readAgainst readParsed linesOf batchLines partsOf givenParts readLines readBatch
 morning-lines = refl

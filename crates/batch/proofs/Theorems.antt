@@ -49,7 +49,7 @@ module _ (book : Bytes) where
   pub alone-promised : (line : Bytes) → LineGets book line (aloneReply book line)
   alone-promised = line-gets book
 
-  -- Demand 3 for each line of a batch: its part says 15 and 0 exactly when no choice of its entries can be turned into the target by a chain.
+  -- Demand 3 for each line of a batch: its part says 15 and 0 exactly when no choice of its entries can be turned into any of the targets by a chain.
   pub unread-in-a-batch : (line : Bytes) (B : Book) (words : Words) → Readable book line B words
       → (partOf (aloneReply book line) ≡ partOf (refusal noReading 0)) ↔ NoChain B words
   unread-in-a-batch = part-unread book

@@ -8,7 +8,7 @@ use lib.ListN.{length, drop}
 use Rattle.figures.specs.Limits.{maxValues}
 use Rattle.figures.specs.Refusals.{Reply, refusal, noReading, bufferTooShort, badBatch, answersTooLong}
 use Rattle.book.specs.Format.{Bytes, Book, accepted, refused, parse}
-use Rattle.linking.specs.Reading.{Words, IsReading, IsFirst}
+use Rattle.linking.specs.Reading.{Words, IsReading, IsFirst, answer}
 use Rattle.reader.specs.Outcome.{outcomeReply, valuesOf, outcome}
 use Rattle.reader.specs.Demands.{OrderOf, Readable, NoChain}
 use Rattle.batch.specs.declared.BatchAnswer.{BatchAnswer}
@@ -18,10 +18,11 @@ use Rattle.batch.specs.Batch.{batchReply, partOf}
 
 -- The values are the first reading, whole.
 pub record FirstWhole (B : Book) (words : Words) (values : List ℕ) : Type 0 where
+  pub target : ℕ
   pub entries : List ℕ
   pub partners : List ℕ
-  pub first : IsFirst (OrderOf B) (B .target) words entries partners
-  pub whole : values ≡ valuesOf (entries, partners)
+  pub first : IsFirst (OrderOf B) (B .targets) words target entries partners
+  pub whole : values ≡ valuesOf (answer target entries partners)
 
 -- What a line of a batch gets.
 pub record LineGets (book line : Bytes) (reply : Reply) : Type 0 where
@@ -32,9 +33,9 @@ pub record LineGets (book line : Bytes) (reply : Reply) : Type 0 where
   -- Only a line that breaks nothing is answered, and its answer is the first reading.
   pub answered : reply .number ≡ 0 → (B : Book) × (words : Words) × Readable book line B words × FirstWhole B words (reply .values)
   -- A line with a reading gets one.
-  pub found : (B : Book) (words : Words) → Readable book line B words → (entries partners : List ℕ) → IsReading (OrderOf B) (B .target) words entries partners
+  pub found : (B : Book) (words : Words) → Readable book line B words → (t : ℕ) (entries partners : List ℕ) → IsReading (OrderOf B) (B .targets) words t entries partners
       → reply .number ≡ 0
-  -- 15 with 0, exactly when no choice of entries can be turned into the target by a chain.
+  -- 15 with 0, exactly when no choice of entries can be turned into any of the targets by a chain.
   pub unread : (B : Book) (words : Words) → Readable book line B words → (reply ≡ refusal noReading 0) ↔ NoChain B words
 
 -- The parts of the lines, one after another in their order.

@@ -45,13 +45,14 @@ pub fn read_batch(book: &[u8], lines: &[u8], answers: &mut [u16]) -> BatchAnswer
     let mut alike = [NO_ENTRY; PLACES];
     let opening = open_book(book, &mut entries, &mut alike);
     let rows = opening.rows;
+    let targets = opening.targets;
     let scan = opening.scan;
     match scan {
         Scan::Refused { number, value } => BatchAnswer::Refused { number, value },
         Scan::Accepted {
             types: _,
             entries: count,
-            target,
+            targets: goals,
         } => {
             let mut store = [0u16; MAX_BATCH_VALUES];
             let used = parts::read_parts(
@@ -60,7 +61,7 @@ pub fn read_batch(book: &[u8], lines: &[u8], answers: &mut [u16]) -> BatchAnswer
                 count,
                 &alike,
                 &rows,
-                target,
+                &targets[..goals],
                 lines,
                 &mut store,
             );

@@ -41,12 +41,12 @@ fn read_part(
     count: usize,
     alike: &[u16],
     order: &[u64],
-    target: u8,
+    targets: &[u8],
     line: &[u8],
     store: &mut [u16],
     used: usize,
 ) -> usize
-    requires { ⌜ IsOpen (now book) (now offsets) count (now alike) (now order) target ⌝ }
+    requires { ⌜ IsOpen (now book) (now offsets) count (now alike) (now order) (now targets) ⌝ }
     requires { ⌜ (length (now line) ≤ maxBatch) × (used + maxPart ≤ length (now store)) ⌝ }
     ensures { λ r. ⌜ Put (partOf (aloneReply (now (book .entry)) (now (line .entry)))) used (now (store .entry)) r (now (store .exit)) ⌝ }
 {
@@ -56,7 +56,7 @@ fn read_part(
         count,
         alike,
         order,
-        target,
+        targets,
         line,
         &mut store[used + 2..],
     );
@@ -73,11 +73,11 @@ pub fn read_parts(
     count: usize,
     alike: &[u16],
     order: &[u64],
-    target: u8,
+    targets: &[u8],
     batch: &[u8],
     store: &mut [u16],
 ) -> usize
-    requires { ⌜ IsOpen (now book) (now offsets) count (now alike) (now order) target ⌝ }
+    requires { ⌜ IsOpen (now book) (now offsets) count (now alike) (now order) (now targets) ⌝ }
     requires { ⌜ Readying (now batch) (now store) ⌝ }
     ensures { λ r. ⌜ StoredParts (now (book .entry)) (now (batch .entry)) r (now (store .exit)) ⌝ }
 {
@@ -92,7 +92,7 @@ pub fn read_parts(
             count,
             alike,
             order,
-            target,
+            targets,
             line,
             store,
             used,

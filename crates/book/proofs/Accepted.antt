@@ -1,23 +1,21 @@
--- What holds of every accepted book: its pairs and its target name declared basic types only, no name has more than 15 bytes, and its entries,
--- at most 1,024, have at most 12 simple types each, with listed exponents.
-use Prim.Native.Nat.{ℕ, _*_, _≤_, _<_}
+-- What holds of every accepted book: its pairs and its targets, one to eight, name declared basic types only, no name has more than 15 bytes,
+-- and its entries, at most 1,024, have at most 12 simple types each, with listed exponents.
+use Prim.Native.Nat.{ℕ, zero, suc, _*_, _≤_, _<_}
 use native.Mathlib.Omega.{arith}
 use mathlib.Core.Path.{_≡_, refl, sym, subst}
 use mathlib.Core.Logic.{⊎-elim}
-use mathlib.Core.Bool.{Bool, true, _||_, false≢true}
+use mathlib.Core.Bool.{true}
 use mathlib.Core.List.{List, [], _∷_, _++_, List·Memᴰ, List·Memᴰ·not-nil, List·Memᴰ·append-cases, List·Memᴰ·eq-of-singleton}
-use lib.Dec.{eqb}
 use lib.ListN.{length, getD, length-append}
-use Rattle.pregroup.specs.Types.{Basic}
-use Rattle.order.specs.Closed.{Pair, DeclaredPairs}
-use Rattle.figures.specs.Limits.{maxEntries, maxName, maxEntrySimples}
-use Rattle.book.specs.Format.{Bytes, Book, Entry, Draft, Parsed, accepted, refused, parse, kindAt, bodyAt, every, exponents, exponentListed, bodyRules, firstBroken, add, simplesOf, typePart, isEntry, entryOf}
+use Rattle.order.specs.Closed.{DeclaredPairs}
+use Rattle.figures.specs.Limits.{maxEntries, maxTargets, maxName, maxEntrySimples}
+use Rattle.book.specs.Format.{Bytes, Book, Entry, accepted, parse, kindAt, bodyAt, every, exponents, exponentListed, bodyRules, firstBroken, add, simplesOf, typePart, isEntry, entryOf}
 use Rattle.book.specs.Check.{GoodUpTo, start, next}
 use Rattle.book.proofs.NoFault.{Kind, basic-type, order-pair, entry, target, no-fault-kind, no-fault-body, name-no-fault, pair-no-fault, entry-no-fault, target-no-fault}
 use Rattle.book.proofs.Layouts.{name-short, entry-shape}
 use Rattle.book.proofs.Keeping.{listed-more}
 use Rattle.book.proofs.SmallestNumber.{fault-clean}
-use Rattle.book.proofs.Parsing.{Comes, whole, stopped, parse-comes}
+use Rattle.book.proofs.Parsing.{accepted-good}
 
 -- No entry has more than 12 simple types.
 abbrev pub AllShort : List Entry → Type 0
@@ -31,18 +29,16 @@ AllListed entries = (e : Entry) → List·Memᴰ e entries → every exponentLis
 abbrev AllNamesShort : List Bytes → Type 0
 AllNamesShort names = (name : Bytes) → List·Memᴰ name names → length name ≤ maxName
 
--- The pairs and the target, if there is one, are declared among the basic types with these names; names and entries are short, exponents listed,
--- and there are not too many entries.
-pub record Declares (names : List Bytes) (listed : List Pair) (entries : List Entry) (seen : Bool) (goal : Basic) : Type 0 where
-  pub names-short : AllNamesShort names
-  pub short : AllShort entries
-  pub exponents-listed : AllListed entries
-  pub few : length entries ≤ maxEntries
-  pub pairs : DeclaredPairs (length names) listed
-  pub target : seen ≡ true → goal < length names
-
-abbrev DraftDeclares : Draft → Type 0
-DraftDeclares d = Declares (d .book .names) (d .book .pairs) (d .book .entries) (d .seen) (d .book .target)
+-- The pairs and the targets are declared among the basic types of a book; names and entries are short, exponents listed, and there are not too
+-- many entries and targets.
+pub record BookDeclares (B : Book) : Type 0 where
+  pub names-short : AllNamesShort (B .names)
+  pub short : AllShort (B .entries)
+  pub exponents-listed : AllListed (B .entries)
+  pub few : length (B .entries) ≤ maxEntries
+  pub pairs : DeclaredPairs (length (B .names)) (B .pairs)
+  pub targets : (t : ℕ) → t < length (B .targets) → getD {A = ℕ} (B .targets) t 0 < length (B .names)
+  pub few-targets : length (B .targets) ≤ maxTargets
 
 -- Two bytes a simple type.
 simples-few : (part : Bytes) → length (simplesOf part) * 2 ≤ length part
@@ -59,24 +55,31 @@ all-more : {A : Type 0} (P : A → Type 0) (l : List A) (a : A) → P a → ((x 
 all-more P l a one all x m =
     ⊎-elim (λ k. all x k) (λ (k : List·Memᴰ x (a ∷ [])). subst P (sym (List·Memᴰ·eq-of-singleton k)) one) (List·Memᴰ·append-cases l m)
 
-declares-add : {kind : ℕ} → Kind kind → (body : Bytes) (d : Draft)
-    → firstBroken (bodyRules kind body (d .book .names) (length (d .book .entries)) (d .seen)) ≡ 0
-    → DraftDeclares d → DraftDeclares (record { book = add kind body (d .book); seen = eqb kind 4 || d .seen })
+-- What holds of each number of a list and of one more holds of each with that one behind them.
+declared-behind : (n : ℕ) (l : List ℕ) (x : ℕ) → x < n → ((t : ℕ) → t < length l → getD {A = ℕ} l t 0 < n) → (t : ℕ) → t < length (l ++ (x ∷ [])) → getD {A = ℕ} (l ++ (x ∷ [])) t 0 < n
+declared-behind n [] x small all zero h = small
+declared-behind n [] x small all (suc t) h = absurd (omega arith)
+declared-behind n (y ∷ l) x small all zero h = all zero (omega arith)
+declared-behind n (y ∷ l) x small all (suc t) h = declared-behind n l x small (λ u k. all (suc u) (omega arith)) t (omega arith)
+
+declares-add : {kind : ℕ} → Kind kind → (body : Bytes) (B : Book) → firstBroken (bodyRules kind body (B .names) (length (B .entries)) (length (B .targets))) ≡ 0
+    → BookDeclares B → BookDeclares (add kind body B)
 unfolding add
-declares-add basic-type body d fine s =
-    let n = length-append (d .book .names) (body ∷ []) in
+declares-add basic-type body B fine s =
+    let n = length-append (B .names) (body ∷ []) in
     let k : length (body ∷ []) ≡ 1 = refl in
-    let layout = name-no-fault body (d .book .names) (length (d .book .entries)) (d .seen) fine .0 in
+    let layout = name-no-fault body (B .names) (length (B .entries)) (length (B .targets)) fine .0 in
     record {
-      names-short = all-more (λ (name : Bytes). length name ≤ maxName) (d .book .names) body (name-short body layout) (s .names-short);
+      names-short = all-more (λ (name : Bytes). length name ≤ maxName) (B .names) body (name-short body layout) (s .names-short);
       short = s .short;
       exponents-listed = s .exponents-listed;
       few = s .few;
       pairs = λ p q m. let t = s .pairs p q m in (omega arith, omega arith);
-      target = λ e. let l = s .target e in omega arith;
+      targets = λ t h. let l = s .targets t h in omega arith;
+      few-targets = s .few-targets;
     }
-declares-add order-pair body d fine s =
-    let two = pair-no-fault body (d .book .names) (length (d .book .entries)) (d .seen) fine in
+declares-add order-pair body B fine s =
+    let two = pair-no-fault body (B .names) (length (B .entries)) (length (B .targets)) fine in
     record {
       names-short = s .names-short;
       short = s .short;
@@ -84,12 +87,13 @@ declares-add order-pair body d fine s =
       few = s .few;
       pairs = λ p q m.
           ⊎-elim (λ l. s .pairs p q l) (λ e. (omega (arith, e .0, two .1), omega (arith, e .1, two .2)))
-          (listed-more (d .book .pairs) (getD {A = ℕ} body 0 0) (getD {A = ℕ} body 1 0) p q .0 m);
-      target = s .target;
+          (listed-more (B .pairs) (getD {A = ℕ} body 0 0) (getD {A = ℕ} body 1 0) p q .0 m);
+      targets = s .targets;
+      few-targets = s .few-targets;
     }
-declares-add entry body d fine s =
-    let formed = entry-no-fault body (d .book .names) (length (d .book .entries)) (d .seen) fine in
-    let entries = d .book .entries in
+declares-add entry body B fine s =
+    let formed = entry-no-fault body (B .names) (length (B .entries)) (length (B .targets)) fine in
+    let entries = B .entries in
     record {
       names-short = s .names-short;
       short = all-more (λ (e : Entry). length (e .type) ≤ maxEntrySimples) entries (entryOf body) (entry-short body (formed .0)) (s .short);
@@ -97,21 +101,23 @@ declares-add entry body d fine s =
           all-more (λ (e : Entry). every exponentListed (exponents (e .type)) ≡ true) entries (entryOf body) (formed .2) (s .exponents-listed);
       few = omega (arith, formed .3, length-append entries (entryOf body ∷ []));
       pairs = s .pairs;
-      target = s .target;
+      targets = s .targets;
+      few-targets = s .few-targets;
     }
-declares-add target body d fine s =
-    let one = target-no-fault body (d .book .names) (length (d .book .entries)) (d .seen) fine in
+declares-add target body B fine s =
+    let one = target-no-fault body (B .names) (length (B .entries)) (length (B .targets)) fine in
     record {
       names-short = s .names-short;
       short = s .short;
       exponents-listed = s .exponents-listed;
       few = s .few;
       pairs = s .pairs;
-      target = λ e. one .1;
+      targets = declared-behind (length (B .names)) (B .targets) (getD {A = ℕ} body 0 0) (one .1) (s .targets);
+      few-targets = omega (arith, one .2, length-append (B .targets) (getD {A = ℕ} body 0 0 ∷ []));
     }
 
 -- Good records declare what they name.
-pub good-declares : {bytes : Bytes} {at : ℕ} {d : Draft} → GoodUpTo bytes at d → DraftDeclares d
+pub good-declares : {bytes : Bytes} {at : ℕ} {B : Book} → GoodUpTo bytes at B → BookDeclares B
 good-declares start =
     record {
       names-short = λ name m. absurd (List·Memᴰ·not-nil m);
@@ -119,24 +125,16 @@ good-declares start =
       exponents-listed = λ e m. absurd (List·Memᴰ·not-nil m);
       few = omega arith;
       pairs = λ p q m. absurd (List·Memᴰ·not-nil m);
-      target = λ e. absurd (false≢true e);
+      targets = λ t h. absurd (omega arith);
+      few-targets = omega arith;
     }
-good-declares {bytes} (next {at} {d} good h never) =
-    let fine = no-fault-body bytes at (d .book .names) (length (d .book .entries)) (d .seen) (fault-clean bytes at d never) refl in
-    let kind = no-fault-kind (bodyAt bytes at) (d .book .names) (length (d .book .entries)) (d .seen) (kindAt bytes at) fine in
-    declares-add kind (bodyAt bytes at) d fine (good-declares good)
-
-abbrev pub BookDeclares : Book → Type 0
-BookDeclares B = Declares (B .names) (B .pairs) (B .entries) true (B .target)
-
--- A property of books for whatever parsing comes to.
-abbrev IfAccepted : Parsed → Type 0
-IfAccepted (accepted B) = BookDeclares B
-IfAccepted (refused number value) = Unit {0}
+good-declares {bytes} (next {at} {B} good h never) =
+    let fine = no-fault-body bytes at (B .names) (length (B .entries)) (length (B .targets)) (fault-clean bytes at B never) refl in
+    let kind = no-fault-kind (bodyAt bytes at) (B .names) (length (B .entries)) (length (B .targets)) (kindAt bytes at) fine in
+    declares-add kind (bodyAt bytes at) B fine (good-declares good)
 
 pub accepted-declares : (bytes : Bytes) (B : Book) → parse bytes ≡ accepted B → BookDeclares B
-accepted-declares bytes B e = subst IfAccepted e (go (parse-comes bytes))
-  where
-    go : {p : Parsed} → Comes bytes p → IfAccepted p
-    go (whole short good) = good-declares good
-    go (stopped cause) = tt
+accepted-declares bytes B e = good-declares (accepted-good bytes B e .0)
+
+pub accepted-some-target : (bytes : Bytes) (B : Book) → parse bytes ≡ accepted B → 0 < length (B .targets)
+accepted-some-target bytes B e = accepted-good bytes B e .1

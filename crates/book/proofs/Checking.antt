@@ -25,7 +25,7 @@ pub no-pairs : (n : ℕ) → NoPairs (replicate n 0)
 unfolding InRows
 no-pairs n p q h = empty-has-none q (rw (zeros n p) at h)
 
-module _ (bytes : Bytes) (s : Store) (types count target : ℕ) (B : Book) (o : Opened bytes s types count target B) where
+module _ (bytes : Bytes) (s : Store) (types count goals : ℕ) (B : Book) (o : Opened bytes s types count goals B) where
   pub opened-rows : DeclaredRows types (s .direct)
   opened-rows = record { few = o .few-types; within = o .within }
 

@@ -1,5 +1,5 @@
--- The format at work, by evaluation: what both books of document 01 hold and answer, and a book for each refusal 1 to 10, with records that
--- break several rules at once.
+-- The format at work, by evaluation: what both books of document 01 hold and answer, a book with several targets, and a book for each refusal
+-- 1 to 10, with records that break several rules at once.
 use Prim.Native.Nat.{ℕ, zero, suc, _+_, _/_, _%_}
 use mathlib.Core.Path.{_≡_, refl}
 use mathlib.Core.List.{List, [], _∷_, _++_, map}
@@ -33,23 +33,38 @@ contents : parse firstBook ≡ accepted (record {
       ∷ entry go (plain 0 ∷ [])
       ∷ entry please (plain 0 ∷ 0 ⁽ negsuc 0 ⁾ ∷ [])
       ∷ [];
-  target = 0;
+  targets = 0 ∷ [];
 })
 unfolding every twoBytes nameByte isName exponentOf simplesOf isEntry exponentListed sameBytes bodyRules recordRules firstBroken add ended recordsFrom parse
 contents = refl
-
--- A book, and what its check answers.
-abbrev Row : Type 0
-Row = Bytes × BookCheck
 
 -- Two types, a and b.
 abbrev ab : Bytes
 ab = typeRecord (97 ∷ []) ++ typeRecord (98 ∷ [])
 
+-- Targets are held in their order, equal ones too.
+targets-in-order : parse (ab ++ targetRecord 1 ++ targetRecord 0 ++ targetRecord 1 ++ targetRecord 1) ≡ accepted (record {
+  names = (97 ∷ []) ∷ (98 ∷ []) ∷ [];
+  pairs = [];
+  entries = [];
+  targets = 1 ∷ 0 ∷ 1 ∷ 1 ∷ [];
+})
+unfolding every twoBytes nameByte isName exponentOf simplesOf isEntry exponentListed sameBytes bodyRules recordRules firstBroken add ended recordsFrom parse
+targets-in-order = refl
+
+-- A book, and what its check answers.
+abbrev Row : Type 0
+Row = Bytes × BookCheck
+
 -- As many basic types as wanted, with names of a letter and two digits.
 typesOf : ℕ → Bytes
 typesOf zero = []
 typesOf (suc n) = typesOf n ++ typeRecord (97 ∷ (48 + n / 10) ∷ (48 + n % 10) ∷ [])
+
+-- As many targets as wanted, all of them a.
+targetsOf : ℕ → Bytes
+targetsOf zero = []
+targetsOf (suc n) = targetsOf n ++ targetRecord 0
 
 abbrev rows : List Row
 rows =
@@ -63,14 +78,16 @@ rows =
     -- 3: kinds 0 and 257; both bytes of the kind count
     ∷ (recordOf 0 [], Refused 3 0)
     ∷ (ab ++ recordOf 257 (99 ∷ []), Refused 3 10)
-    -- 4: a name that starts with a digit; a pair of three bytes; 13 simple types, one of them undeclared and one with a bad exponent
+    -- 4: a name that starts with a digit; a pair of three bytes; 13 simple types, one of them undeclared and one with a bad exponent; a ninth
+    -- target with an empty body
     ∷ (typeRecord (57 ∷ 97 ∷ []), Refused 4 0)
     ∷ (ab ++ recordOf 2 (0 ∷ 1 ∷ 0 ∷ []), Refused 4 10)
     ∷ (ab ++ entryRecord go (9 ∷ 0 ∷ 0 ∷ 100 ∷ replicate 22 0), Refused 4 10)
-    -- 5: a pair with an undeclared type; an entry whose first exponent is bad and whose last type is undeclared; an undeclared second target
+    ∷ (ab ++ targetsOf 8 ++ recordOf 4 [], Refused 4 50)
+    -- 5: a pair with an undeclared type; an entry whose first exponent is bad and whose last type is undeclared; an undeclared ninth target
     ∷ (ab ++ pairRecord 0 2, Refused 5 10)
     ∷ (ab ++ entryRecord go (0 ∷ 9 ∷ 2 ∷ 0 ∷ []), Refused 5 10)
-    ∷ (ab ++ targetRecord 0 ++ targetRecord 2, Refused 5 15)
+    ∷ (ab ++ targetsOf 8 ++ targetRecord 2, Refused 5 50)
     -- 6: exponents 9 and −9; 8 and −8 pass
     ∷ (ab ++ entryRecord go (0 ∷ 0 ∷ 0 ∷ 9 ∷ []), Refused 6 10)
     ∷ (ab ++ entryRecord go (0 ∷ 247 ∷ []), Refused 6 10)
@@ -78,8 +95,10 @@ rows =
     -- 7: a name used before, also by the 65th type
     ∷ (ab ++ typeRecord (98 ∷ []), Refused 7 10)
     ∷ (typesOf 64 ++ typeRecord (97 ∷ 48 ∷ 48 ∷ []), Refused 7 448)
-    -- 8: a second target, also the same one again
-    ∷ (ab ++ targetRecord 0 ++ targetRecord 0, Refused 8 15)
+    -- 8: a ninth target, also one of the eight again; eight pass
+    ∷ (ab ++ targetsOf 9, Refused 8 50)
+    ∷ (ab ++ targetsOf 8 ++ targetRecord 1, Refused 8 50)
+    ∷ (ab ++ targetsOf 8, Accepted 2 0 2)
     -- 9: a 65th basic type
     ∷ (typesOf 65 ++ targetRecord 0, Refused 9 448)
     -- 10: no target; its value is the book's length
@@ -91,7 +110,7 @@ rows =
     ∷ []
 
 evaluated : map (λ (r : Row). bookCheck (r .0)) rows ≡ map (λ (r : Row). r .1) rows
-unfolding every twoBytes nameByte isName exponentOf simplesOf isEntry exponentListed sameBytes bodyRules recordRules firstBroken add ended recordsFrom parse below closedCount total typesOf
+unfolding every twoBytes nameByte isName exponentOf simplesOf isEntry exponentListed sameBytes bodyRules recordRules firstBroken add ended recordsFrom parse below closedCount total typesOf targetsOf
 evaluated = refl
 
 -- What the promises say of them. The first book is accepted with its three values: four types, nine entries, and the five pairs of its closed

@@ -7,8 +7,8 @@ use mathlib.Core.List.{List, [], _∷_}
 use lib.Dec.{leb, eqb}
 use borrow.Author.Tests.{lt-ltb, le-ltb}
 use lib.ListN.{length, getD}
-use Rattle.figures.specs.Limits.{maxTypes, maxEntries}
-use Rattle.figures.specs.Refusals.{kindNotListed, badLayout, undeclaredType, exponentOutside, nameUsed, secondTarget, tooManyRecords}
+use Rattle.figures.specs.Limits.{maxTypes, maxEntries, maxTargets}
+use Rattle.figures.specs.Refusals.{kindNotListed, badLayout, undeclaredType, exponentOutside, nameUsed, tooManyTargets, tooManyRecords}
 use Rattle.book.proofs.Bools.{and-true}
 use Rattle.book.specs.Format.{Bytes, every, between, isName, isEntry, isAmong, declaredAmong, exponentListed, bodyRules, firstBroken, bases, exponents, simplesOf, typePart}
 
@@ -43,21 +43,21 @@ module _ (n : ℕ) (body : Bytes) where
   pub two-yes : length body ≡ 2 → getD {A = ℕ} body 0 0 < n → getD {A = ℕ} body 1 0 < n → every (declaredAmong n) body ≡ true
   two-yes h k l = rw (every-two (declaredAmong n) body h, lt-ltb (getD {A = ℕ} body 0 0) n k, lt-ltb (getD {A = ℕ} body 1 0) n l)
 
-module _ (body : Bytes) (names : List Bytes) (entries : ℕ) (seen : Bool) where
+module _ (body : Bytes) (names : List Bytes) (entries : ℕ) (targets : ℕ) where
   pub name-rules :
-      firstBroken (bodyRules 1 body names entries seen)
+      firstBroken (bodyRules 1 body names entries targets)
       ≡ cond (not (isName body)) badLayout (cond (isAmong names body) nameUsed (cond (leb maxTypes (length names)) tooManyRecords 0))
   unfolding bodyRules firstBroken every
   name-rules = refl
 
   pub pair-rules :
-      firstBroken (bodyRules 2 body names entries seen)
+      firstBroken (bodyRules 2 body names entries targets)
       ≡ cond (not (eqb (length body) 2)) badLayout (cond (not (every (declaredAmong (length names)) body)) undeclaredType 0)
   unfolding bodyRules firstBroken every
   pair-rules = refl
 
   pub entry-rules :
-      firstBroken (bodyRules 3 body names entries seen)
+      firstBroken (bodyRules 3 body names entries targets)
       ≡ cond (not (isEntry body)) badLayout
       (cond (not (every (declaredAmong (length names)) (bases (simplesOf (typePart body))))) undeclaredType
       (cond (not (every exponentListed (exponents (simplesOf (typePart body))))) exponentOutside (cond (leb maxEntries entries) tooManyRecords 0)))
@@ -65,34 +65,34 @@ module _ (body : Bytes) (names : List Bytes) (entries : ℕ) (seen : Bool) where
   entry-rules = refl
 
   pub target-rules :
-      firstBroken (bodyRules 4 body names entries seen)
-      ≡ cond (not (eqb (length body) 1)) badLayout (cond (not (every (declaredAmong (length names)) body)) undeclaredType (cond seen secondTarget 0))
+      firstBroken (bodyRules 4 body names entries targets)
+      ≡ cond (not (eqb (length body) 1)) badLayout (cond (not (every (declaredAmong (length names)) body)) undeclaredType (cond (leb maxTargets targets) tooManyTargets 0))
   unfolding bodyRules firstBroken every
   target-rules = refl
 
   -- The same by the answers of the tests.
   pub name-faults :
       {layout used full : Bool} → isName body ≡ layout → isAmong names body ≡ used → leb maxTypes (length names) ≡ full
-      → firstBroken (bodyRules 1 body names entries seen) ≡ cond (not layout) badLayout (cond used nameUsed (cond full tooManyRecords 0))
+      → firstBroken (bodyRules 1 body names entries targets) ≡ cond (not layout) badLayout (cond used nameUsed (cond full tooManyRecords 0))
   name-faults l u f = rw (name-rules, l, u, f)
 
   pub pair-faults :
       {layout declared : Bool} → eqb (length body) 2 ≡ layout → every (declaredAmong (length names)) body ≡ declared
-      → firstBroken (bodyRules 2 body names entries seen) ≡ cond (not layout) badLayout (cond (not declared) undeclaredType 0)
+      → firstBroken (bodyRules 2 body names entries targets) ≡ cond (not layout) badLayout (cond (not declared) undeclaredType 0)
   pair-faults l d = rw (pair-rules, l, d)
 
   pub entry-faults :
       {layout declared listed full : Bool} → isEntry body ≡ layout
       → every (declaredAmong (length names)) (bases (simplesOf (typePart body))) ≡ declared
       → every exponentListed (exponents (simplesOf (typePart body))) ≡ listed → leb maxEntries entries ≡ full
-      → firstBroken (bodyRules 3 body names entries seen) ≡ cond (not layout) badLayout (cond (not declared) undeclaredType (cond (not listed) exponentOutside (cond full tooManyRecords 0)))
+      → firstBroken (bodyRules 3 body names entries targets) ≡ cond (not layout) badLayout (cond (not declared) undeclaredType (cond (not listed) exponentOutside (cond full tooManyRecords 0)))
   entry-faults l d e f = rw (entry-rules, l, d, e, f)
 
   pub target-faults :
-      {layout declared : Bool} → eqb (length body) 1 ≡ layout → every (declaredAmong (length names)) body ≡ declared
-      → firstBroken (bodyRules 4 body names entries seen) ≡ cond (not layout) badLayout (cond (not declared) undeclaredType (cond seen secondTarget 0))
-  target-faults l d = rw (target-rules, l, d)
+      {layout declared full : Bool} → eqb (length body) 1 ≡ layout → every (declaredAmong (length names)) body ≡ declared → leb maxTargets targets ≡ full
+      → firstBroken (bodyRules 4 body names entries targets) ≡ cond (not layout) badLayout (cond (not declared) undeclaredType (cond full tooManyTargets 0))
+  target-faults l d f = rw (target-rules, l, d, f)
 
-  pub unlisted-faults : (kind : ℕ) → between 1 4 kind ≡ false → firstBroken (bodyRules kind body names entries seen) ≡ kindNotListed
+  pub unlisted-faults : (kind : ℕ) → between 1 4 kind ≡ false → firstBroken (bodyRules kind body names entries targets) ≡ kindNotListed
   unfolding bodyRules firstBroken
   unlisted-faults kind h = rw h

@@ -1,23 +1,23 @@
--- What is kept behind a record that breaks no rule stands for the draft with the record added: a law for each kind of record.
+-- What is kept behind a record that breaks no rule stands for the book read so far with the record added: a law for each kind of record.
 use Prim.Native.Nat.{ℕ, _+_, _≤_, _<_}
 use native.Mathlib.Numerals.{add-one}
 use native.Mathlib.Omega.{arith}
 use native.Mathlib.Decide.{ℕ-discrete}
 use mathlib.Core.Path.{_≡_, refl, sym, ap, ap₂, _∙_}
 use mathlib.Core.Logic.{_↔_, _⊎_, inl, inr, ⊎-elim}
-use mathlib.Core.Bool.{Bool, true}
+use mathlib.Core.Bool.{true}
 use mathlib.Core.List.{List, [], _∷_, _++_, map, map-append, List·Memᴰ, List·Memᴰ·append-cases, Memᴰ·append-left, Memᴰ·append-right, List·Memᴰ·eq-of-singleton, List·Memᴰ·head}
 use lib.Dec.{ltb}
 use lib.ListN.{length, getD, take, set, length-map, length-set}
-use lib.Seq.{take-suc-set, getD-set-same, getD-set-other}
+use lib.Seq.{length-take-le, take-suc-set, getD-set-same, getD-set-other}
 use borrow.Author.Tests.{lt-ltb, ltb-true}
 use Rattle.bits.specs.Bits.{Has, Members}
 use Rattle.pregroup.specs.Held.{InRows}
 use Rattle.order.specs.Closed.{Pair, Within, Listed}
-use Rattle.figures.specs.Limits.{maxTypes, maxEntries}
+use Rattle.figures.specs.Limits.{maxTypes, maxEntries, maxTargets}
 use Rattle.order.specs.Rows.{Hold}
-use Rattle.book.specs.Format.{Bytes, Entry, Draft, twoBytes, bodyAt, nextAt, kindAt, bodyRules, recordRules, firstBroken, entryOf, add, every, declaredAmong}
-use Rattle.book.specs.Kept.{bodiesAt, Whole, Formed, AllFormed, Store, store, Sound, Keeps, Taking, nextFault}
+use Rattle.book.specs.Format.{Bytes, Book, Entry, twoBytes, bodyAt, nextAt, kindAt, bodyRules, recordRules, firstBroken, entryOf, add, every, declaredAmong}
+use Rattle.book.specs.Kept.{bodiesAt, Whole, Formed, AllFormed, TargetsDeclared, Store, store, Sound, Keeps, Taking, nextFault}
 use Rattle.book.specs.declared.Progress.{Progress}
 use Rattle.book.proofs.Bools.{both}
 use Rattle.book.proofs.Names.{bodies-length}
@@ -58,6 +58,17 @@ formed-next bytes offsets types n at room f all i h = go (ℕ-discrete i n)
     go : Dec (i ≡ n) → Formed types (bodyAt bytes (getD {A = ℕ} (set offsets n at) i 0))
     go (yes e) = rw (e, getD-set-same offsets n at 0 room) f
     go (no d) = rw (getD-set-other offsets n i at 0 d) (all i (omega (arith, d)))
+
+-- One target more.
+declared-next : (targets : List ℕ) (types n t : ℕ) → n < length targets → t < types → TargetsDeclared targets types n → TargetsDeclared (set targets n t) types (n + 1)
+declared-next targets types n t room small all i h = go (ℕ-discrete i n)
+  where
+    go : Dec (i ≡ n) → getD {A = ℕ} (set targets n t) i 0 < types
+    go (yes e) = rw (e, getD-set-same targets n t 0 room) small
+    go (no d) = rw (getD-set-other targets n i t 0 d) (all i (omega (arith, d)))
+
+targets-more : (targets : List ℕ) (n t : ℕ) → n < length targets → take (n + 1) (set targets n t) ≡ take n targets ++ (t ∷ [])
+targets-more targets n t room = rw (add-one n) (take-suc-set targets n t room)
 
 -- One pair more.
 pub listed-more :
@@ -111,26 +122,29 @@ module _ (bytes : Bytes) (s : Store) (p : Progress) (sound : Sound bytes s p) wh
   names-count : length (bodiesAt bytes (s .names) (p .types)) ≡ p .types
   names-count = bodies-length bytes (s .names) (p .types) (sound .names-whole .room)
 
-  entries-count : (d : Draft) → Keeps bytes s p d → length (d .book .entries) ≡ p .entries
-  entries-count d k =
+  entries-count : (B : Book) → Keeps bytes s p B → length (B .entries) ≡ p .entries
+  entries-count B k =
       ap length (k .entries) ∙ length-map (bodiesAt bytes (s .entries) (p .entries)) entryOf ∙ bodies-length bytes (s .entries) (p .entries) (sound .entries-whole .room)
+
+  pub targets-count : (B : Book) → Keeps bytes s p B → length (B .targets) ≡ p .targets
+  targets-count B k = ap length (k .targets) ∙ length-take-le (p .targets) (s .targets) (omega (arith, sound .few-targets, sound .roomy .targets-room))
 
   -- The fault of the next record, by what is kept.
   abbrev pub Found : ℕ → Type 0
-  Found fault = fault ≡ firstBroken (recordRules bytes (p .at) (bodiesAt bytes (s .names) (p .types)) (p .entries) (ltb (p .target) maxTypes))
+  Found fault = fault ≡ firstBroken (recordRules bytes (p .at) (bodiesAt bytes (s .names) (p .types)) (p .entries) (p .targets))
 
-  pub fault-kept : (fault : ℕ) → Found fault → (d : Draft) → Keeps bytes s p d → nextFault bytes (p .at) d ≡ fault
-  fault-kept fault found d k =
-      ap (λ (names : List Bytes). firstBroken (recordRules bytes (p .at) names (length (d .book .entries)) (d .seen))) (k .names)
-      ∙ ap₂ (λ (n : ℕ) (seen : Bool). firstBroken (recordRules bytes (p .at) (bodiesAt bytes (s .names) (p .types)) n seen)) (entries-count d k)
-      (k .seen)
+  pub fault-kept : (fault : ℕ) → Found fault → (B : Book) → Keeps bytes s p B → nextFault bytes (p .at) B ≡ fault
+  fault-kept fault found B k =
+      ap (λ (names : List Bytes). firstBroken (recordRules bytes (p .at) names (length (B .entries)) (length (B .targets)))) (k .names)
+      ∙ ap₂ (λ (n m : ℕ). firstBroken (recordRules bytes (p .at) (bodiesAt bytes (s .names) (p .types)) n m)) (entries-count B k)
+      (targets-count B k)
       ∙ sym found
 
   module _ (found : Found 0) where
     pub whole : nextAt bytes (p .at) ≤ length bytes
     whole = no-fault-whole bytes (p .at) _ _ _ (sym found)
 
-    body-fault : {kind : ℕ} → kindAt bytes (p .at) ≡ kind → firstBroken (bodyRules kind (bodyAt bytes (p .at)) (bodiesAt bytes (s .names) (p .types)) (p .entries) (ltb (p .target) maxTypes)) ≡ 0
+    body-fault : {kind : ℕ} → kindAt bytes (p .at) ≡ kind → firstBroken (bodyRules kind (bodyAt bytes (p .at)) (bodiesAt bytes (s .names) (p .types)) (p .entries) (p .targets)) ≡ 0
     body-fault k = no-fault-body bytes (p .at) _ _ _ (sym found) k
 
     -- The places that the code reads and writes are there.
@@ -151,8 +165,9 @@ module _ (bytes : Bytes) (s : Store) (p : Progress) (sound : Sound bytes s p) wh
         let fine = pair-no-fault _ _ _ _ (body-fault kind) in
         (fine .0, omega (arith, names-count), omega (arith, names-count))
 
-    pub target-place : kindAt bytes (p .at) ≡ 4 → (length (bodyAt bytes (p .at)) ≡ 1) × (getD {A = ℕ} (bodyAt bytes (p .at)) 0 0 < p .types)
-    target-place kind = let fine = target-no-fault _ _ _ _ (body-fault kind) in (fine .0, omega (arith, names-count))
+    pub target-place : kindAt bytes (p .at) ≡ 4
+        → (length (bodyAt bytes (p .at)) ≡ 1) × (getD {A = ℕ} (bodyAt bytes (p .at)) 0 0 < p .types) × (p .targets < maxTargets)
+    target-place kind = let fine = target-no-fault _ _ _ _ (body-fault kind) in (fine .0, omega (arith, names-count), fine .2)
 
     -- A record that breaks no rule and is of none of the first three kinds is a target.
     pub kind-left : (n : ℕ) → n ≡ twoBytes bytes (p .at + 2) → (n ≡ 1 → ⊥) → (n ≡ 2 → ⊥) → (n ≡ 3 → ⊥) → kindAt bytes (p .at) ≡ 4
@@ -166,7 +181,7 @@ module _ (bytes : Bytes) (s : Store) (p : Progress) (sound : Sound bytes s p) wh
 
   module _ (found : Found 0) (next : ℕ) (on : next ≡ nextAt bytes (p .at)) where
     pub name-taken : kindAt bytes (p .at) ≡ 1
-        → Taking bytes s p (store (set (s .names) (p .types) (p .at)) (s .entries) (s .direct)) (record { at = next; types = p .types + 1; entries = p .entries; target = p .target })
+        → Taking bytes s p (store (set (s .names) (p .types) (p .at)) (s .entries) (s .direct) (s .targets)) (record { at = next; types = p .types + 1; entries = p .entries; targets = p .targets })
     unfolding add
     name-taken kind =
         let few = name-place found kind in
@@ -179,31 +194,32 @@ module _ (bytes : Bytes) (s : Store) (p : Progress) (sound : Sound bytes s p) wh
               names-room = omega (arith, length-set (s .names) (p .types) (p .at), sound .roomy .names-room);
               entries-room = sound .roomy .entries-room;
               rows = sound .roomy .rows;
+              targets-room = sound .roomy .targets-room;
             };
             few-types = omega arith;
             few-entries = sound .few-entries;
-            target-kept = ⊎-elim inl (λ h. inr (omega arith)) (sound .target-kept);
+            few-targets = sound .few-targets;
             names-whole = whole-more bytes (s .names) (p .types) (p .at) room (whole found) (sound .names-whole);
             entries-whole = sound .entries-whole;
             formed = λ i h. formed-more (p .types) (p .types + 1) _ (omega arith) (sound .formed i h);
+            targets-declared = λ i h. omega (arith, sound .targets-declared i h);
             within = λ a b h. let t = sound .within a b h in (omega arith, omega arith);
           };
           on = on;
-          right = λ d k. (
-            fault-kept 0 found d k,
+          right = λ B k. (
+            fault-kept 0 found B k,
             rw kind
                 (record {
                   names = ap (λ (l : List Bytes). l ++ (bodyAt bytes (p .at) ∷ [])) (k .names) ∙ sym (bodies-more bytes (s .names) (p .types) (p .at) room);
                   pairs = k .pairs;
                   entries = k .entries;
-                  seen = k .seen;
-                  target = k .target;
+                  targets = k .targets;
                 }),
           );
         }
 
     pub entry-taken : kindAt bytes (p .at) ≡ 3
-        → Taking bytes s p (store (s .names) (set (s .entries) (p .entries) (p .at)) (s .direct)) (record { at = next; types = p .types; entries = p .entries + 1; target = p .target })
+        → Taking bytes s p (store (s .names) (set (s .entries) (p .entries) (p .at)) (s .direct) (s .targets)) (record { at = next; types = p .types; entries = p .entries + 1; targets = p .targets })
     unfolding add
     entry-taken kind =
         let few = entry-place found kind in
@@ -216,18 +232,20 @@ module _ (bytes : Bytes) (s : Store) (p : Progress) (sound : Sound bytes s p) wh
               names-room = sound .roomy .names-room;
               entries-room = omega (arith, length-set (s .entries) (p .entries) (p .at), sound .roomy .entries-room);
               rows = sound .roomy .rows;
+              targets-room = sound .roomy .targets-room;
             };
             few-types = sound .few-types;
             few-entries = omega arith;
-            target-kept = sound .target-kept;
+            few-targets = sound .few-targets;
             names-whole = sound .names-whole;
             entries-whole = whole-more bytes (s .entries) (p .entries) (p .at) room (whole found) (sound .entries-whole);
             formed = formed-next bytes (s .entries) (p .types) (p .entries) (p .at) room (entry-formed found kind) (sound .formed);
+            targets-declared = sound .targets-declared;
             within = sound .within;
           };
           on = on;
-          right = λ d k. (
-            fault-kept 0 found d k,
+          right = λ B k. (
+            fault-kept 0 found B k,
             rw kind
                 (record {
                   names = k .names;
@@ -236,15 +254,14 @@ module _ (bytes : Bytes) (s : Store) (p : Progress) (sound : Sound bytes s p) wh
                       ap (λ (l : List Entry). l ++ (entryOf (bodyAt bytes (p .at)) ∷ [])) (k .entries)
                       ∙ sym (map-append entryOf (bodiesAt bytes (s .entries) (p .entries)) (bodyAt bytes (p .at) ∷ []))
                       ∙ ap (map entryOf) (sym (bodies-more bytes (s .entries) (p .entries) (p .at) room));
-                  seen = k .seen;
-                  target = k .target;
+                  targets = k .targets;
                 }),
           );
         }
 
     pub pair-taken : kindAt bytes (p .at) ≡ 2 → (lower upper row : ℕ) → lower ≡ getD {A = ℕ} (bodyAt bytes (p .at)) 0 0 → upper ≡ getD {A = ℕ} (bodyAt bytes (p .at)) 1 0
         → Members row (λ k. Has (getD {A = ℕ} (s .direct) lower 0) k ⊎ (k ≡ upper))
-        → Taking bytes s p (store (s .names) (s .entries) (set (s .direct) lower row)) (record { at = next; types = p .types; entries = p .entries; target = p .target })
+        → Taking bytes s p (store (s .names) (s .entries) (set (s .direct) lower row) (s .targets)) (record { at = next; types = p .types; entries = p .entries; targets = p .targets })
     unfolding add
     pair-taken kind lower upper row lo up members =
         let fine = pair-place found kind in
@@ -257,44 +274,59 @@ module _ (bytes : Bytes) (s : Store) (p : Progress) (sound : Sound bytes s p) wh
               names-room = sound .roomy .names-room;
               entries-room = sound .roomy .entries-room;
               rows = length-set (s .direct) lower row ∙ sound .roomy .rows;
+              targets-room = sound .roomy .targets-room;
             };
             few-types = sound .few-types;
             few-entries = sound .few-entries;
-            target-kept = sound .target-kept;
+            few-targets = sound .few-targets;
             names-whole = sound .names-whole;
             entries-whole = sound .entries-whole;
             formed = sound .formed;
+            targets-declared = sound .targets-declared;
             within = within-more (s .direct) (p .types) lower upper row room (omega (arith, fine .1)) (omega (arith, fine .2)) members (sound .within);
           };
           on = on;
-          right = λ d k. (
-            fault-kept 0 found d k,
+          right = λ B k. (
+            fault-kept 0 found B k,
             rw (kind, ← lo, ← up)
-                (record { names = k .names; pairs = hold-more (s .direct) (d .book .pairs) lower upper row room members (k .pairs); entries = k .entries; seen = k .seen; target = k .target }),
+                (record { names = k .names; pairs = hold-more (s .direct) (B .pairs) lower upper row room members (k .pairs); entries = k .entries; targets = k .targets }),
           );
         }
 
     pub target-taken : kindAt bytes (p .at) ≡ 4 → (t : ℕ) → t ≡ getD {A = ℕ} (bodyAt bytes (p .at)) 0 0
-        → Taking bytes s p s (record { at = next; types = p .types; entries = p .entries; target = t })
+        → Taking bytes s p (store (s .names) (s .entries) (s .direct) (set (s .targets) (p .targets) t)) (record { at = next; types = p .types; entries = p .entries; targets = p .targets + 1 })
     unfolding add
     target-taken kind t e =
-        let few : t < maxTypes = omega (arith, target-place found kind .1, sound .few-types) in
+        let fine = target-place found kind in
+        let room : p .targets < length (s .targets) = omega (arith, fine .2, sound .roomy .targets-room) in
         record {
           sound = record {
             short = sound .short;
             reached = rw on (whole found);
-            roomy = sound .roomy;
+            roomy = record {
+              names-room = sound .roomy .names-room;
+              entries-room = sound .roomy .entries-room;
+              rows = sound .roomy .rows;
+              targets-room = omega (arith, length-set (s .targets) (p .targets) t, sound .roomy .targets-room);
+            };
             few-types = sound .few-types;
             few-entries = sound .few-entries;
-            target-kept = inr (omega (arith, target-place found kind .1));
+            few-targets = omega (arith, fine .2);
             names-whole = sound .names-whole;
             entries-whole = sound .entries-whole;
             formed = sound .formed;
+            targets-declared = declared-next (s .targets) (p .types) (p .targets) t room (omega (arith, fine .1)) (sound .targets-declared);
             within = sound .within;
           };
           on = on;
-          right = λ d k. (
-            fault-kept 0 found d k,
-            rw kind (record { names = k .names; pairs = k .pairs; entries = k .entries; seen = sym (lt-ltb t maxTypes few); target = λ h. sym e }),
+          right = λ B k. (
+            fault-kept 0 found B k,
+            rw (kind, ← e)
+                (record {
+                  names = k .names;
+                  pairs = k .pairs;
+                  entries = k .entries;
+                  targets = ap (λ (l : List ℕ). l ++ (t ∷ [])) (k .targets) ∙ sym (targets-more (s .targets) (p .targets) t room);
+                }),
           );
         }

@@ -15,5 +15,6 @@ pub mod Scanning
 pub mod Checking
 pub mod Accepted
 pub mod Promises
+pub mod TargetAdded
 pub mod PaperBooks
 pub mod Examples

@@ -7,8 +7,8 @@ use mathlib.Core.List.{List}
 use lib.Dec.{leb, eqb}
 use lib.ListN.{length, getD}
 use borrow.Author.Tests.{not-false, eqb-true, ltb-true, leb-false}
-use Rattle.figures.specs.Limits.{maxTypes, maxEntries}
-use Rattle.figures.specs.Refusals.{cutShort, kindNotListed, badLayout, undeclaredType, exponentOutside, nameUsed, secondTarget, tooManyRecords}
+use Rattle.figures.specs.Limits.{maxTypes, maxEntries, maxTargets}
+use Rattle.figures.specs.Refusals.{cutShort, kindNotListed, badLayout, undeclaredType, exponentOutside, nameUsed, tooManyTargets, tooManyRecords}
 use Rattle.book.specs.Format.{Bytes, every, between, declaredAmong, isName, isEntry, isAmong, bases, simplesOf, typePart, exponents, exponentListed, kindAt, bodyAt, nextAt, bodyRules, recordRules, firstBroken}
 use Rattle.book.proofs.Bools.{outside, both}
 use Rattle.book.proofs.Faults.{every-one, every-two, name-rules, pair-rules, entry-rules, target-rules}
@@ -34,53 +34,54 @@ listed-kind (suc (suc (suc zero))) h = entry
 listed-kind (suc (suc (suc (suc zero)))) h = target
 listed-kind (suc (suc (suc (suc (suc n))))) h = absurd (false≢true (sym (outside 1 4 (suc (suc (suc (suc (suc n))))) (omega arith)) ∙ h))
 
-module _ (bytes : Bytes) (at : ℕ) (names : List Bytes) (entries : ℕ) (seen : Bool) where
-  parts : firstBroken (recordRules bytes at names entries seen) ≡ 0
-      → (isCut bytes at ≡ false) × (firstBroken (bodyRules (kindAt bytes at) (bodyAt bytes at) names entries seen) ≡ 0)
+module _ (bytes : Bytes) (at : ℕ) (names : List Bytes) (entries : ℕ) (targets : ℕ) where
+  parts : firstBroken (recordRules bytes at names entries targets) ≡ 0
+      → (isCut bytes at ≡ false) × (firstBroken (bodyRules (kindAt bytes at) (bodyAt bytes at) names entries targets) ≡ 0)
   unfolding recordRules firstBroken isCut
-  parts h = none (isCut bytes at) cutShort (firstBroken (bodyRules (kindAt bytes at) (bodyAt bytes at) names entries seen)) (omega arith) h
+  parts h = none (isCut bytes at) cutShort (firstBroken (bodyRules (kindAt bytes at) (bodyAt bytes at) names entries targets)) (omega arith) h
 
-  pub no-fault-whole : firstBroken (recordRules bytes at names entries seen) ≡ 0 → nextAt bytes at ≤ length bytes
+  pub no-fault-whole : firstBroken (recordRules bytes at names entries targets) ≡ 0 → nextAt bytes at ≤ length bytes
   no-fault-whole h = cut-whole bytes at (parts h .0)
 
-  pub no-fault-body : {kind : ℕ} → firstBroken (recordRules bytes at names entries seen) ≡ 0 → kindAt bytes at ≡ kind → firstBroken (bodyRules kind (bodyAt bytes at) names entries seen) ≡ 0
+  pub no-fault-body : {kind : ℕ} → firstBroken (recordRules bytes at names entries targets) ≡ 0 → kindAt bytes at ≡ kind → firstBroken (bodyRules kind (bodyAt bytes at) names entries targets) ≡ 0
   no-fault-body h k = rw k at (parts h .1)
 
-module _ (body : Bytes) (names : List Bytes) (entries : ℕ) (seen : Bool) where
-  pub name-no-fault : firstBroken (bodyRules 1 body names entries seen) ≡ 0 → (isName body ≡ true) × (length names < maxTypes)
+module _ (body : Bytes) (names : List Bytes) (entries : ℕ) (targets : ℕ) where
+  pub name-no-fault : firstBroken (bodyRules 1 body names entries targets) ≡ 0 → (isName body ≡ true) × (length names < maxTypes)
   name-no-fault h =
-      let layout = none (not (isName body)) badLayout (cond (isAmong names body) nameUsed (cond (leb maxTypes (length names)) tooManyRecords 0)) (omega arith) (sym (name-rules body names entries seen) ∙ h) in
+      let layout = none (not (isName body)) badLayout (cond (isAmong names body) nameUsed (cond (leb maxTypes (length names)) tooManyRecords 0)) (omega arith) (sym (name-rules body names entries targets) ∙ h) in
       let used = none (isAmong names body) nameUsed (cond (leb maxTypes (length names)) tooManyRecords 0) (omega arith) (layout .1) in
       (not-false _ (layout .0), leb-false _ _ (none (leb maxTypes (length names)) tooManyRecords 0 (omega arith) (used .1) .0))
 
-  pub pair-no-fault : firstBroken (bodyRules 2 body names entries seen) ≡ 0 → (length body ≡ 2) × (getD {A = ℕ} body 0 0 < length names) × (getD {A = ℕ} body 1 0 < length names)
+  pub pair-no-fault : firstBroken (bodyRules 2 body names entries targets) ≡ 0 → (length body ≡ 2) × (getD {A = ℕ} body 0 0 < length names) × (getD {A = ℕ} body 1 0 < length names)
   pair-no-fault h =
-      let layout = none (not (eqb (length body) 2)) badLayout (cond (not (every (declaredAmong (length names)) body)) undeclaredType 0) (omega arith) (sym (pair-rules body names entries seen) ∙ h) in
+      let layout = none (not (eqb (length body) 2)) badLayout (cond (not (every (declaredAmong (length names)) body)) undeclaredType 0) (omega arith) (sym (pair-rules body names entries targets) ∙ h) in
       let declared = none (not (every (declaredAmong (length names)) body)) undeclaredType 0 (omega arith) (layout .1) in
       let two = eqb-true (length body) 2 (not-false _ (layout .0)) in
       let each = both _ _ (sym (every-two (declaredAmong (length names)) body two) ∙ not-false _ (declared .0)) in
       (two, ltb-true _ _ (each .0), ltb-true _ _ (each .1))
 
-  pub entry-no-fault : firstBroken (bodyRules 3 body names entries seen) ≡ 0
+  pub entry-no-fault : firstBroken (bodyRules 3 body names entries targets) ≡ 0
       → (isEntry body ≡ true) × (every (declaredAmong (length names)) (bases (simplesOf (typePart body))) ≡ true)
       × (every exponentListed (exponents (simplesOf (typePart body))) ≡ true)
       × (entries < maxEntries)
   entry-no-fault h =
       let numbers = every (declaredAmong (length names)) (bases (simplesOf (typePart body))) in
       let listed = every exponentListed (exponents (simplesOf (typePart body))) in
-      let a = none (not (isEntry body)) badLayout (cond (not numbers) undeclaredType (cond (not listed) exponentOutside (cond (leb maxEntries entries) tooManyRecords 0))) (omega arith) (sym (entry-rules body names entries seen) ∙ h) in
+      let a = none (not (isEntry body)) badLayout (cond (not numbers) undeclaredType (cond (not listed) exponentOutside (cond (leb maxEntries entries) tooManyRecords 0))) (omega arith) (sym (entry-rules body names entries targets) ∙ h) in
       let b = none (not numbers) undeclaredType (cond (not listed) exponentOutside (cond (leb maxEntries entries) tooManyRecords 0)) (omega arith) (a .1) in
       let c = none (not listed) exponentOutside (cond (leb maxEntries entries) tooManyRecords 0) (omega arith) (b .1) in
       let d = none (leb maxEntries entries) tooManyRecords 0 (omega arith) (c .1) in
       (not-false _ (a .0), not-false _ (b .0), not-false _ (c .0), leb-false _ _ (d .0))
 
-  pub target-no-fault : firstBroken (bodyRules 4 body names entries seen) ≡ 0 → (length body ≡ 1) × (getD {A = ℕ} body 0 0 < length names)
+  pub target-no-fault : firstBroken (bodyRules 4 body names entries targets) ≡ 0 → (length body ≡ 1) × (getD {A = ℕ} body 0 0 < length names) × (targets < maxTargets)
   target-no-fault h =
-      let layout = none (not (eqb (length body) 1)) badLayout (cond (not (every (declaredAmong (length names)) body)) undeclaredType (cond seen secondTarget 0)) (omega arith) (sym (target-rules body names entries seen) ∙ h) in
-      let declared = none (not (every (declaredAmong (length names)) body)) undeclaredType (cond seen secondTarget 0) (omega arith) (layout .1) in
+      let layout = none (not (eqb (length body) 1)) badLayout (cond (not (every (declaredAmong (length names)) body)) undeclaredType (cond (leb maxTargets targets) tooManyTargets 0)) (omega arith) (sym (target-rules body names entries targets) ∙ h) in
+      let declared = none (not (every (declaredAmong (length names)) body)) undeclaredType (cond (leb maxTargets targets) tooManyTargets 0) (omega arith) (layout .1) in
+      let few = none (leb maxTargets targets) tooManyTargets 0 (omega arith) (declared .1) in
       let one = eqb-true (length body) 1 (not-false _ (layout .0)) in
-      (one, ltb-true _ _ (sym (every-one (declaredAmong (length names)) body one) ∙ not-false _ (declared .0)))
+      (one, ltb-true _ _ (sym (every-one (declaredAmong (length names)) body one) ∙ not-false _ (declared .0)), leb-false _ _ (few .0))
 
-  pub no-fault-kind : (kind : ℕ) → firstBroken (bodyRules kind body names entries seen) ≡ 0 → Kind kind
+  pub no-fault-kind : (kind : ℕ) → firstBroken (bodyRules kind body names entries targets) ≡ 0 → Kind kind
   unfolding bodyRules firstBroken
   no-fault-kind kind h = listed-kind kind (not-false _ (none (not (between 1 4 kind)) kindNotListed _ (omega arith) h .0))

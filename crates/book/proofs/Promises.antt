@@ -3,22 +3,23 @@
 use Prim.Native.Nat.{ℕ, _≤_, _<_}
 use native.Mathlib.Omega.{arith}
 use mathlib.Core.Path.{_≡_, refl, sym, ap, _∙_}
-use mathlib.Core.List.{[], _∷_}
+use mathlib.Core.List.{List, [], _∷_}
 use lib.ListN.{length}
 use Rattle.figures.specs.Refusals.{Reply, noTarget}
+use Rattle.pregroup.specs.Types.{Basic}
 use Rattle.order.specs.Closed.{Closed, Listed, HasPairs, closedCount}
 use Rattle.order.proofs.PairCount.{closed-has-pairs, pairs-unique}
-use Rattle.book.specs.Format.{Bytes, Book, Parsed, accepted, refused, parse, ended}
+use Rattle.book.specs.Format.{Bytes, Book, Parsed, accepted, refused, parse}
 use Rattle.book.specs.Check.{answerFor, bookCheck, checkReply, Cause, too-long, bad-record, no-target, BookPromised}
 use Rattle.book.proofs.SmallestNumber.{breaks-within}
-use Rattle.book.proofs.Parsing.{end-parse, cause-refuses, Comes, whole, stopped, parse-comes}
+use Rattle.book.proofs.Parsing.{end-parse, ended-some, cause-refuses, Comes, whole, stopped, parse-comes}
 use Rattle.book.proofs.Accepted.{good-declares}
 
 -- The number of a cause is from 1 to 10.
 pub cause-within : {bytes : Bytes} {n v : ℕ} → Cause bytes n v → (0 < n) × (n ≤ noTarget)
 cause-within (too-long h) = omega arith
-cause-within {bytes} (bad-record {at} {n} {d} short good h b least) = let number = breaks-within bytes at d n b in omega arith
-cause-within (no-target short good) = omega arith
+cause-within {bytes} (bad-record {at} {n} {B} short good h b least) = let number = breaks-within bytes at B n b in omega arith
+cause-within (no-target short good none) = omega arith
 
 refused-number : (n m v w : ℕ) → refused n v ≡ refused m w → n ≡ m
 refused-number n m v w e = cc
@@ -32,15 +33,20 @@ not-both B n v e = let z : _≡_ {A = ℕ} 0 1 = cc in omega arith
 same-book : (A B : Book) → accepted A ≡ accepted B → A ≡ B
 same-book A B e = cc
 
+some-length : (l : List Basic) → (l ≡ [] → ⊥) → 0 < length l
+some-length [] h = absurd (h refl)
+some-length (x ∷ l) h = omega arith
+
 module _ (bytes : Bytes) where
   checked : {p : Parsed} → Comes bytes p → parse bytes ≡ p → BookPromised bytes (checkReply (answerFor p))
-  checked (whole {B} short good) parsed =
+  checked (whole {B} short good some) parsed =
       let never : (n v : ℕ) → Cause bytes n v → ⊥ = λ n v cause. not-both _ n v (sym parsed ∙ cause-refuses bytes cause) in
       record {
         accepts = (λ z. never, λ free. refl);
         counts = λ z. record {
           contents = B;
           good = good;
+          some-target = λ none. omega (arith, ap length none);
           pairs = closedCount (length (B .names)) (B .pairs);
           closed = closed-has-pairs (length (B .names)) (B .pairs) (good-declares good .pairs);
           counts = refl;
@@ -68,12 +74,11 @@ module _ (bytes : Bytes) where
 
   module _ (reply : Reply) (promised : BookPromised bytes reply) where
     only : {p : Parsed} → Comes bytes p → parse bytes ≡ p → reply ≡ checkReply (answerFor p)
-    unfolding ended
     only (stopped {n} {v} cause) parsed = promised .refuses n v .1 cause
-    only (whole {B} short good) parsed =
+    only (whole {B} short good some) parsed =
         let zero = promised .accepts .1 (λ n v cause. not-both B n v (sym parsed ∙ cause-refuses bytes cause)) in
         let c = promised .counts zero in
-        let held = same-book (c .contents) B (sym (end-parse bytes short (c .good) (omega arith)) ∙ parsed) in
+        let held = same-book (c .contents) B (sym (end-parse bytes short (c .good) (omega arith) ∙ ended-some bytes (c .contents) (some-length _ (c .some-target))) ∙ parsed) in
         let there : HasPairs (Closed (length (B .names)) (Listed (B .pairs))) (c .pairs) = rw held at (c .closed) in
         let count = pairs-unique there (closed-has-pairs (length (B .names)) (B .pairs) (good-declares good .pairs)) in
         let values : reply .values ≡ length (B .names) ∷ length (B .entries) ∷ closedCount (length (B .names)) (B .pairs) ∷ [] = c .counts ∙ rw (held, count) in

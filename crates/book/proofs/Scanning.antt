@@ -2,103 +2,104 @@
 use Prim.Native.Nat.{ℕ, _≤_, _<_}
 use native.Mathlib.Omega.{arith}
 use mathlib.Core.Path.{_≡_, refl, ap, _∙_}
-use mathlib.Core.Logic.{inl, ⊎-elim}
-use mathlib.Core.Bool.{Bool, cond}
 use mathlib.Core.List.{List, List·Memᴰ·not-nil}
-use lib.ListN.{length}
-use borrow.Author.Tests.{lt-ltb, le-ltb}
-use Rattle.figures.specs.Limits.{maxTypes, maxBook}
+use lib.ListN.{length, take}
+use Rattle.figures.specs.Limits.{maxBook}
 use Rattle.figures.specs.Refusals.{noTarget}
-use Rattle.book.specs.Format.{Bytes, Book, Draft, nothingYet, accepted, refused, parse, ended, nextDraft}
+use Rattle.book.specs.Format.{Bytes, Book, nothingYet, refused, parse, ended, withNext}
 use Rattle.book.specs.Kept.{Whole, Store, Roomy, NoPairs, Sound, Keeps, Taking, Refusing, Opened}
 use Rattle.book.specs.Check.{GoodUpTo, start, next}
 use Rattle.book.specs.declared.Progress.{Progress}
 use Rattle.book.proofs.SmallestNumber.{fault-none}
-use Rattle.book.proofs.Parsing.{bad-refuses, end-parse}
+use Rattle.book.proofs.Parsing.{bad-refuses, end-parse, ended-none, ended-some}
+use Rattle.book.proofs.Keeping.{targets-count}
 
 -- How the reading stands: s₀ is what was lent, s what it holds now.
 pub record Standing (bytes : Bytes) (s₀ s : Store) (p : Progress) : Type 0 where
   pub names-length : length (s .names) ≡ length (s₀ .names)
   pub entries-length : length (s .entries) ≡ length (s₀ .entries)
   pub direct-length : length (s .direct) ≡ length (s₀ .direct)
+  pub targets-length : length (s .targets) ≡ length (s₀ .targets)
   pub sound : Sound bytes s p
-  pub draft : Draft
-  pub keeps : Keeps bytes s p draft
-  pub good : GoodUpTo bytes (p .at) draft
+  pub contents : Book
+  pub keeps : Keeps bytes s p contents
+  pub good : GoodUpTo bytes (p .at) contents
 
 -- Nothing is read yet.
 pub standing-start :
-    (bytes : Bytes) (s : Store) → length bytes ≤ maxBook → Roomy s → NoPairs (s .direct) → Standing bytes s s (record { at = 0; types = 0; entries = 0; target = maxTypes })
+    (bytes : Bytes) (s : Store) → length bytes ≤ maxBook → Roomy s → NoPairs (s .direct) → Standing bytes s s (record { at = 0; types = 0; entries = 0; targets = 0 })
 standing-start bytes s short roomy empty =
     let none-yet : (offsets : List ℕ) → Whole bytes offsets 0 = λ offsets. record { room = omega arith; whole = λ i h. absurd (omega arith) } in
     record {
       names-length = refl;
       entries-length = refl;
       direct-length = refl;
+      targets-length = refl;
       sound = record {
         short = short;
         reached = omega arith;
         roomy = roomy;
         few-types = omega arith;
         few-entries = omega arith;
-        target-kept = inl refl;
+        few-targets = omega arith;
         names-whole = none-yet (s .names);
         entries-whole = none-yet (s .entries);
         formed = λ i h. absurd (omega arith);
+        targets-declared = λ i h. absurd (omega arith);
         within = λ p q h. absurd (empty p q h);
       };
-      draft = nothingYet;
-      keeps = record { names = refl; pairs = λ p q. (λ h. absurd (empty p q h), λ m. absurd (List·Memᴰ·not-nil m)); entries = refl; seen = refl; target = λ h. absurd (omega arith) };
+      contents = nothingYet;
+      keeps = record { names = refl; pairs = λ p q. (λ h. absurd (empty p q h), λ m. absurd (List·Memᴰ·not-nil m)); entries = refl; targets = refl };
       good = start;
     }
 
 module _ (bytes : Bytes) (s₀ s : Store) (p : Progress) (w : Standing bytes s₀ s p) where
   -- One record more.
   pub standing-next : (s′ : Store) (p′ : Progress) → p .at < length bytes → Taking bytes s p s′ p′ → length (s′ .names) ≡ length (s .names)
-      → length (s′ .entries) ≡ length (s .entries) → length (s′ .direct) ≡ length (s .direct) → Standing bytes s₀ s′ p′
-  standing-next s′ p′ h t a b c =
-      let k = t .right (w .draft) (w .keeps) in
+      → length (s′ .entries) ≡ length (s .entries) → length (s′ .direct) ≡ length (s .direct)
+      → length (s′ .targets) ≡ length (s .targets) → Standing bytes s₀ s′ p′
+  standing-next s′ p′ h t a b c d =
+      let k = t .right (w .contents) (w .keeps) in
       record {
         names-length = a ∙ w .names-length;
         entries-length = b ∙ w .entries-length;
         direct-length = c ∙ w .direct-length;
+        targets-length = d ∙ w .targets-length;
         sound = t .sound;
-        draft = nextDraft bytes (p .at) (w .draft);
+        contents = withNext bytes (p .at) (w .contents);
         keeps = k .1;
-        good = rw (t .on) (next (w .good) h (fault-none bytes (p .at) (w .draft) (k .0)));
+        good = rw (t .on) (next (w .good) h (fault-none bytes (p .at) (w .contents) (k .0)));
       }
 
   -- A bad record decides.
   pub standing-bad : (number : ℕ) → p .at < length bytes → Refusing bytes s p number → parse bytes ≡ refused number (p .at)
-  standing-bad number h r = bad-refuses bytes (w .sound .short) (w .good) number h (r .faulty (w .draft) (w .keeps)) (omega (arith, r .some-number))
+  standing-bad number h r = bad-refuses bytes (w .sound .short) (w .good) number h (r .faulty (w .contents) (w .keeps)) (omega (arith, r .some-number))
 
-  at-end : length bytes ≤ p .at → parse bytes ≡ ended bytes (w .draft)
+  at-end : length bytes ≤ p .at → parse bytes ≡ ended bytes (w .contents)
   at-end h = end-parse bytes (w .sound .short) (w .good) h
 
   -- 10: book ends without a target.
-  pub standing-none : length bytes ≤ p .at → p .target ≡ maxTypes → parse bytes ≡ refused noTarget (length bytes)
-  unfolding ended
-  standing-none h e =
-      at-end h ∙ ap (λ (b : Bool). cond b (accepted (w .draft .book)) (refused noTarget (length bytes))) (w .keeps .seen ∙ le-ltb (p .target) maxTypes (omega arith))
+  pub standing-none : length bytes ≤ p .at → p .targets ≡ 0 → parse bytes ≡ refused noTarget (length bytes)
+  standing-none h e = at-end h ∙ ended-none bytes (w .contents) (w .keeps .targets ∙ ap (λ (n : ℕ). take n (s .targets)) e)
 
-  pub standing-some : length bytes ≤ p .at → (p .target ≡ maxTypes → ⊥) → (B : Book) × Opened bytes s (p .types) (p .entries) (p .target) B
-  unfolding ended
+  pub standing-some : length bytes ≤ p .at → (p .targets ≡ 0 → ⊥) → (B : Book) × Opened bytes s (p .types) (p .entries) (p .targets) B
   standing-some h n =
-      let declared : p .target < p .types = ⊎-elim (λ e. absurd (n e)) (λ k. k) (w .sound .target-kept) in
-      let few : p .target < maxTypes = omega (arith, w .sound .few-types) in (
-        w .draft .book,
+      let some : 0 < p .targets = omega (arith, n) in (
+        w .contents,
         record {
-          parsed = at-end h ∙ ap (λ (b : Bool). cond b (accepted (w .draft .book)) (refused noTarget (length bytes))) (w .keeps .seen ∙ lt-ltb (p .target) maxTypes few);
+          parsed = at-end h ∙ ended-some bytes (w .contents) (omega (arith, targets-count bytes s p (w .sound) (w .contents) (w .keeps)));
           few-types = w .sound .few-types;
           few-entries = w .sound .few-entries;
           names-whole = w .sound .names-whole;
           entries-whole = w .sound .entries-whole;
           formed = w .sound .formed;
-          target-declared = declared;
+          some-target = some;
+          few-targets = w .sound .few-targets;
+          targets-declared = w .sound .targets-declared;
           within = w .sound .within;
           names = w .keeps .names;
           pairs = w .keeps .pairs;
           entries = w .keeps .entries;
-          chosen = w .keeps .target few;
+          targets = w .keeps .targets;
         },
       )

@@ -6,7 +6,7 @@ use mathlib.Core.Logic.{⊎-elim}
 use mathlib.Core.Bool.{Bool, true, false, cond, true≢false}
 use mathlib.Core.List.{List, [], _∷_, List·Memᴰ, List·Memᴰ·head, List·Memᴰ·tail, List·Memᴰ·not-nil, List·Memᴰ·cases-cons}
 use Rattle.figures.specs.Refusals.{tooManyRecords}
-use Rattle.book.specs.Format.{Bytes, Draft, bodyRules, recordRules, firstBroken, nextRules}
+use Rattle.book.specs.Format.{Bytes, Book, bodyRules, recordRules, firstBroken, nextRules}
 use Rattle.book.specs.Kept.{nextFault}
 use Rattle.book.specs.Check.{Breaks}
 
@@ -56,39 +56,39 @@ decided k [] rising = clean refl (λ m b. absurd (List·Memᴰ·not-nil b))
 decided k (rule ∷ rules) rising =
     decided-more (rule .0) (rule .1) rules (firstBroken rules) (omega (arith, rising .0)) (broken-above (rule .0) rules (rising .1)) (decided (rule .0) rules (rising .1))
 
-module _ (bytes : Bytes) (at : ℕ) (d : Draft) where
-  rules-rise : Rising 0 (nextRules bytes at d)
+module _ (bytes : Bytes) (at : ℕ) (B : Book) where
+  rules-rise : Rising 0 (nextRules bytes at B)
   unfolding recordRules bodyRules
   rules-rise = (omega arith, (omega arith, (omega arith, (omega arith, (omega arith, (omega arith, (omega arith, (omega arith, tt))))))))
 
-  pub fault-decided : Decided (nextRules bytes at d) (nextFault bytes at d)
-  fault-decided = decided 0 (nextRules bytes at d) rules-rise
+  pub fault-decided : Decided (nextRules bytes at B) (nextFault bytes at B)
+  fault-decided = decided 0 (nextRules bytes at B) rules-rise
 
   -- No fault, no rule broken, and the other way round.
-  pub fault-none : nextFault bytes at d ≡ 0 → (n : ℕ) → Breaks bytes at d n → ⊥
-  fault-none e n b = go (nextFault bytes at d) e fault-decided
+  pub fault-none : nextFault bytes at B ≡ 0 → (n : ℕ) → Breaks bytes at B n → ⊥
+  fault-none e n b = go (nextFault bytes at B) e fault-decided
     where
-      go : (m : ℕ) → m ≡ 0 → Decided (nextRules bytes at d) m → ⊥
+      go : (m : ℕ) → m ≡ 0 → Decided (nextRules bytes at B) m → ⊥
       go m z (clean q never) = never n b
       go m z (broken some c least) = omega arith
 
-  pub fault-smallest : (n : ℕ) → Breaks bytes at d n → ((m : ℕ) → Breaks bytes at d m → n ≤ m) → nextFault bytes at d ≡ n
-  fault-smallest n b least = go (nextFault bytes at d) fault-decided
+  pub fault-smallest : (n : ℕ) → Breaks bytes at B n → ((m : ℕ) → Breaks bytes at B m → n ≤ m) → nextFault bytes at B ≡ n
+  fault-smallest n b least = go (nextFault bytes at B) fault-decided
     where
-      go : (m : ℕ) → Decided (nextRules bytes at d) m → m ≡ n
+      go : (m : ℕ) → Decided (nextRules bytes at B) m → m ≡ n
       go m (clean q never) = absurd (never n b)
       go m (broken some c first) = omega (arith, least m c, first n b)
 
-  rules-within : Within tooManyRecords (nextRules bytes at d)
+  rules-within : Within tooManyRecords (nextRules bytes at B)
   unfolding recordRules bodyRules
   rules-within = (omega arith, (omega arith, (omega arith, (omega arith, (omega arith, (omega arith, (omega arith, (omega arith, tt))))))))
 
-  pub breaks-within : (n : ℕ) → Breaks bytes at d n → (0 < n) × (n ≤ tooManyRecords)
-  breaks-within n b = (broken-above 0 (nextRules bytes at d) rules-rise n b, broken-within tooManyRecords (nextRules bytes at d) rules-within n b)
+  pub breaks-within : (n : ℕ) → Breaks bytes at B n → (0 < n) × (n ≤ tooManyRecords)
+  breaks-within n b = (broken-above 0 (nextRules bytes at B) rules-rise n b, broken-within tooManyRecords (nextRules bytes at B) rules-within n b)
 
-  pub fault-clean : ((n : ℕ) → Breaks bytes at d n → ⊥) → nextFault bytes at d ≡ 0
-  fault-clean never = go (nextFault bytes at d) fault-decided
+  pub fault-clean : ((n : ℕ) → Breaks bytes at B n → ⊥) → nextFault bytes at B ≡ 0
+  fault-clean never = go (nextFault bytes at B) fault-decided
     where
-      go : (m : ℕ) → Decided (nextRules bytes at d) m → m ≡ 0
+      go : (m : ℕ) → Decided (nextRules bytes at B) m → m ≡ 0
       go m (clean q none) = q
       go m (broken some c first) = absurd (never m c)

@@ -49,13 +49,13 @@ kind-other (suc (suc (suc zero))) a b c d = absurd (c refl)
 kind-other (suc (suc (suc (suc zero)))) a b c d = absurd (d refl)
 kind-other (suc (suc (suc (suc (suc n))))) a b c d = outside 1 4 (suc (suc (suc (suc (suc n))))) (omega arith)
 
-module _ (bytes : Bytes) (at : ℕ) (names : List Bytes) (entries : ℕ) (seen : Bool) where
-  pub record-cut : isCut bytes at ≡ true → cutShort ≡ firstBroken (recordRules bytes at names entries seen)
+module _ (bytes : Bytes) (at : ℕ) (names : List Bytes) (entries : ℕ) (targets : ℕ) where
+  pub record-cut : isCut bytes at ≡ true → cutShort ≡ firstBroken (recordRules bytes at names entries targets)
   unfolding recordRules firstBroken isCut
   record-cut h = rw h
 
   -- A whole record of a kind has the fault of its body.
-  pub record-whole : {kind : ℕ} → nextAt bytes at ≤ length bytes → kindAt bytes at ≡ kind → firstBroken (bodyRules kind (bodyAt bytes at) names entries seen) ≡ firstBroken (recordRules bytes at names entries seen)
+  pub record-whole : {kind : ℕ} → nextAt bytes at ≤ length bytes → kindAt bytes at ≡ kind → firstBroken (bodyRules kind (bodyAt bytes at) names entries targets) ≡ firstBroken (recordRules bytes at names entries targets)
   unfolding recordRules firstBroken isCut
   record-whole h k = rw (not-cut bytes at h, k)
 

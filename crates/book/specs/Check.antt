@@ -3,13 +3,13 @@
 use Prim.Native.Nat.{ℕ, _≤_, _<_}
 use mathlib.Core.Path.{_≡_}
 use mathlib.Core.Logic.{_↔_}
-use mathlib.Core.Bool.{true, false}
+use mathlib.Core.Bool.{true}
 use mathlib.Core.List.{List, [], _∷_, List·Memᴰ}
 use lib.ListN.{length}
 use Rattle.figures.specs.Limits.{maxBook}
 use Rattle.figures.specs.Refusals.{Reply, refusal, bookTooLong, noTarget}
 use Rattle.order.specs.Closed.{Closed, Listed, HasPairs, closedCount}
-use Rattle.book.specs.Format.{Bytes, Book, Draft, Parsed, accepted, refused, parse, nothingYet, nextAt, nextRules, nextDraft}
+use Rattle.book.specs.Format.{Bytes, Book, Parsed, accepted, refused, parse, nothingYet, nextAt, nextRules, withNext}
 use Rattle.book.specs.declared.BookCheck.{BookCheck}
 use Rattle.book.specs.declared.BookCheck.the-variants.{Accepted, Refused}
 
@@ -26,26 +26,27 @@ abbrev pub checkReply : BookCheck → Reply
 checkReply (Accepted types entries pairs) = record { number = 0; values = types ∷ entries ∷ pairs ∷ [] }
 checkReply (Refused number value) = refusal number value
 
--- The record at an offset, behind records that hold d, breaks the rule with this number.
-abbrev pub Breaks : Bytes → ℕ → Draft → ℕ → Type 0
-Breaks bytes at d number = List·Memᴰ (number, true) (nextRules bytes at d)
+-- The record at an offset, behind records that hold B, breaks the rule with this number.
+abbrev pub Breaks : Bytes → ℕ → Book → ℕ → Type 0
+Breaks bytes at B number = List·Memᴰ (number, true) (nextRules bytes at B)
 
--- All records before an offset are good, and d is what they hold.
-pub data GoodUpTo (bytes : Bytes) : ℕ → Draft → Type 0 where
+-- All records before an offset are good, and B is what they hold.
+pub data GoodUpTo (bytes : Bytes) : ℕ → Book → Type 0 where
   start : GoodUpTo bytes 0 nothingYet
-  next : {at : ℕ} {d : Draft} → GoodUpTo bytes at d → at < length bytes → ((n : ℕ) → Breaks bytes at d n → ⊥) → GoodUpTo bytes (nextAt bytes at) (nextDraft bytes at d)
+  next : {at : ℕ} {B : Book} → GoodUpTo bytes at B → at < length bytes → ((n : ℕ) → Breaks bytes at B n → ⊥) → GoodUpTo bytes (nextAt bytes at) (withNext bytes at B)
 
 -- What is cause for a refusal, with its number and its value: the book's length (1); or else a record (2 to 9), of which the earliest bad one
 -- decides, and within it the smallest number; or else a missing target (10).
 pub data Cause (bytes : Bytes) : ℕ → ℕ → Type 0 where
   too-long : maxBook < length bytes → Cause bytes bookTooLong 0
-  bad-record : {at n : ℕ} {d : Draft} → length bytes ≤ maxBook → GoodUpTo bytes at d → at < length bytes → Breaks bytes at d n → ((m : ℕ) → Breaks bytes at d m → n ≤ m) → Cause bytes n at
-  no-target : {B : Book} → length bytes ≤ maxBook → GoodUpTo bytes (length bytes) (record { book = B; seen = false }) → Cause bytes noTarget (length bytes)
+  bad-record : {at n : ℕ} {B : Book} → length bytes ≤ maxBook → GoodUpTo bytes at B → at < length bytes → Breaks bytes at B n → ((m : ℕ) → Breaks bytes at B m → n ≤ m) → Cause bytes n at
+  no-target : {B : Book} → length bytes ≤ maxBook → GoodUpTo bytes (length bytes) B → B .targets ≡ [] → Cause bytes noTarget (length bytes)
 
 -- The values of an accepted book: how many basic types its records hold, how many entries, and how many pairs p ≤ q their closed order has.
 pub record AcceptedCounts (bytes : Bytes) (values : List ℕ) : Type 0 where
   pub contents : Book
-  pub good : GoodUpTo bytes (length bytes) (record { book = contents; seen = true })
+  pub good : GoodUpTo bytes (length bytes) contents
+  pub some-target : contents .targets ≡ [] → ⊥
   pub pairs : ℕ
   pub closed : HasPairs (Closed (length (contents .names)) (Listed (contents .pairs))) pairs
   pub counts : values ≡ length (contents .names) ∷ length (contents .entries) ∷ pairs ∷ []

@@ -7,8 +7,8 @@ use mathlib.Core.List.{List, [], _∷_, _++_, map}
 use lib.Dec.{leb, ltb, eqb}
 use lib.IntN.{ℤ, pos, negsuc}
 use lib.ListN.{length, getD, take, drop}
-use Rattle.figures.specs.Limits.{maxBook, maxTypes, maxEntries, maxName, maxWord, maxEntrySimples, maxExponent}
-use Rattle.figures.specs.Refusals.{bookTooLong, cutShort, kindNotListed, badLayout, undeclaredType, exponentOutside, nameUsed, secondTarget, tooManyRecords, noTarget}
+use Rattle.figures.specs.Limits.{maxBook, maxTypes, maxEntries, maxTargets, maxName, maxWord, maxEntrySimples, maxExponent}
+use Rattle.figures.specs.Refusals.{bookTooLong, cutShort, kindNotListed, badLayout, undeclaredType, exponentOutside, nameUsed, tooManyTargets, tooManyRecords, noTarget}
 use Rattle.pregroup.specs.Types.{Basic, Simple, PregroupType, _⁽_⁾}
 use Rattle.order.specs.Closed.{Pair}
 
@@ -20,13 +20,13 @@ pub record Entry : Type 0 where
   pub word : Bytes
   pub type : PregroupType
 
--- A book (a pregroup lexicon with its order and its start type): the names of its basic types, its order pairs, its entries and
--- its target. Basic types and entries are numbered from 0 as they stand.
+-- A book (a pregroup lexicon with its order and its start types): the names of its basic types, its order pairs, its entries and its
+-- targets. Basic types, entries and targets are numbered from 0 as they stand. A target is a basic type and stands for its plain type.
 pub record Book : Type 0 where
   pub names : List Bytes
   pub pairs : List Pair
   pub entries : List Entry
-  pub target : Basic
+  pub targets : List Basic
 
 -- What a list of bytes is as a book: accepted, or refused with a number and the value returned with it.
 pub data Parsed : Type 0 where
@@ -137,66 +137,62 @@ abbrev pub isAmong : List Bytes → Bytes → Bool
 isAmong names body = not (every (λ name. not (sameBytes body name)) names)
 
 -- The rules for a record that is there whole, each a number and whether the record is refused with it. Of the records before it they look at
--- the names of the basic types, the number of entries, and whether there was a target.
-unfoldable pub bodyRules : ℕ → Bytes → List Bytes → ℕ → Bool → List (ℕ × Bool)
-bodyRules kind body names entries seen =
+-- the names of the basic types, the number of entries, and that of targets.
+unfoldable pub bodyRules : ℕ → Bytes → List Bytes → ℕ → ℕ → List (ℕ × Bool)
+bodyRules kind body names entries targets =
     let type = simplesOf (typePart body) in
     (kindNotListed, not (between 1 4 kind))
     ∷ (badLayout, not (byKind kind (isName body) (eqb (length body) 2) (isEntry body) (eqb (length body) 1)))
     ∷ (undeclaredType, not (every (declaredAmong (length names)) (byKind kind [] body (bases type) body)))
     ∷ (exponentOutside, not (every exponentListed (byKind kind [] [] (exponents type) [])))
     ∷ (nameUsed, byKind kind (isAmong names body) false false false)
-    ∷ (secondTarget, byKind kind false false false seen)
+    ∷ (tooManyTargets, byKind kind false false false (leb maxTargets targets))
     ∷ (tooManyRecords, byKind kind (leb maxTypes (length names)) false (leb maxEntries entries) false)
     ∷ []
 
 -- The rules for the record at an offset.
-unfoldable pub recordRules : Bytes → ℕ → List Bytes → ℕ → Bool → List (ℕ × Bool)
-recordRules bytes at names entries seen =
+unfoldable pub recordRules : Bytes → ℕ → List Bytes → ℕ → ℕ → List (ℕ × Bool)
+recordRules bytes at names entries targets =
     (cutShort, ltb (length bytes) (at + headLength) || ltb (length bytes) (nextAt bytes at))
-    ∷ bodyRules (kindAt bytes at) (bodyAt bytes at) names entries seen
+    ∷ bodyRules (kindAt bytes at) (bodyAt bytes at) names entries targets
 
 -- Within a record the smallest number: that of the first rule that it breaks, or 0.
 unfoldable pub firstBroken : List (ℕ × Bool) → ℕ
 firstBroken [] = 0
 firstBroken (rule ∷ rules) = cond (rule .1) (rule .0) (firstBroken rules)
 
--- What has been read of a book: what it holds so far, and whether there was a target. Until there is one, 0 stands in its place.
-pub record Draft : Type 0 where
-  pub book : Book
-  pub seen : Bool
-
-abbrev pub nothingYet : Draft
-nothingYet = record { book = record { names = []; pairs = []; entries = []; target = 0 }; seen = false }
+-- A book of which nothing has been read.
+abbrev pub nothingYet : Book
+nothingYet = record { names = []; pairs = []; entries = []; targets = [] }
 
 -- A record's contents put behind those of the records before it.
 unfoldable pub add : ℕ → Bytes → Book → Book
 add kind body B =
     let pair : Pair = record { lower = getD {A = ℕ} body 0 0; upper = getD {A = ℕ} body 1 0 } in
     byKind {A = Book} kind
-    (record { names = B .names ++ (body ∷ []); pairs = B .pairs; entries = B .entries; target = B .target })
-    (record { names = B .names; pairs = B .pairs ++ (pair ∷ []); entries = B .entries; target = B .target })
-    (record { names = B .names; pairs = B .pairs; entries = B .entries ++ (entryOf body ∷ []); target = B .target })
-    (record { names = B .names; pairs = B .pairs; entries = B .entries; target = getD {A = ℕ} body 0 0 })
+    (record { names = B .names ++ (body ∷ []); pairs = B .pairs; entries = B .entries; targets = B .targets })
+    (record { names = B .names; pairs = B .pairs ++ (pair ∷ []); entries = B .entries; targets = B .targets })
+    (record { names = B .names; pairs = B .pairs; entries = B .entries ++ (entryOf body ∷ []); targets = B .targets })
+    (record { names = B .names; pairs = B .pairs; entries = B .entries; targets = B .targets ++ (getD {A = ℕ} body 0 0 ∷ []) })
 
--- The record at an offset behind what has been read: its rules, and what has been read with it.
-abbrev pub nextRules : Bytes → ℕ → Draft → List (ℕ × Bool)
-nextRules bytes at d = recordRules bytes at (d .book .names) (length (d .book .entries)) (d .seen)
+-- The record at an offset behind those that hold B: its rules, and what they hold with it.
+abbrev pub nextRules : Bytes → ℕ → Book → List (ℕ × Bool)
+nextRules bytes at B = recordRules bytes at (B .names) (length (B .entries)) (length (B .targets))
 
-abbrev pub nextDraft : Bytes → ℕ → Draft → Draft
-nextDraft bytes at d = record { book = add (kindAt bytes at) (bodyAt bytes at) (d .book); seen = eqb (kindAt bytes at) 4 || d .seen }
+abbrev pub withNext : Bytes → ℕ → Book → Book
+withNext bytes at B = add (kindAt bytes at) (bodyAt bytes at) B
 
 -- The book's end: without a target it is refused.
-unfoldable pub ended : Bytes → Draft → Parsed
-ended bytes d = cond (d .seen) (accepted (d .book)) (refused noTarget (length bytes))
+unfoldable pub ended : Bytes → Book → Parsed
+ended bytes B = cond (eqb (length (B .targets)) 0) (refused noTarget (length bytes)) (accepted B)
 
--- The records from an offset on. The first number bounds how many there can be.
-unfoldable pub recordsFrom : ℕ → Bytes → ℕ → Draft → Parsed
-recordsFrom zero bytes at d = ended bytes d
-recordsFrom (suc more) bytes at d =
-    let fault = firstBroken (nextRules bytes at d) in
-    let rest = recordsFrom more bytes (nextAt bytes at) (nextDraft bytes at d) in
-    cond (ltb at (length bytes)) (cond (eqb fault 0) rest (refused fault at)) (ended bytes d)
+-- The records from an offset on, behind those that hold B. The first number bounds how many there can be.
+unfoldable pub recordsFrom : ℕ → Bytes → ℕ → Book → Parsed
+recordsFrom zero bytes at B = ended bytes B
+recordsFrom (suc more) bytes at B =
+    let fault = firstBroken (nextRules bytes at B) in
+    let rest = recordsFrom more bytes (nextAt bytes at) (withNext bytes at B) in
+    cond (ltb at (length bytes)) (cond (eqb fault 0) rest (refused fault at)) (ended bytes B)
 
 -- A record takes at least four bytes, so a book has fewer records than bytes.
 unfoldable pub parse : Bytes → Parsed

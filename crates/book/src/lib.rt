@@ -2,6 +2,7 @@
 ghost use mathlib.Core.Path.{_≡_};
 ghost use Rattle.book.specs.Check.{bookCheck, checkReply, BookPromised};
 use figures::limits::MAX_ENTRIES;
+use figures::limits::MAX_TARGETS;
 use figures::limits::MAX_TYPES;
 
 pub mod layout;
@@ -15,13 +16,12 @@ pub struct RecordReader<'a> {
     pub at: usize,
 }
 
-// How far a book has been read: the offset of the next record, how many basic types and entries there were, and the target, or
-// `UNSET_TARGET` where there was none.
+// How far a book has been read: the offset of the next record, and how many basic types, entries and targets there were.
 pub struct Progress {
     pub at: usize,
     pub types: usize,
     pub entries: usize,
-    pub target: u8,
+    pub targets: usize,
 }
 
 // What taking a record in gives: the progress behind it, or the number that it is refused with.
@@ -30,12 +30,12 @@ pub enum Taken {
     Bad(u32),
 }
 
-// What reading all records gives: the book's counts and its target, or the number of the refusal and the value returned with it.
+// What reading all records gives: how many basic types, entries and targets the book has, or the number of the refusal and the value returned with it.
 pub enum Scan {
     Accepted {
         types: usize,
         entries: usize,
-        target: u8,
+        targets: usize,
     },
     Refused {
         number: u32,
@@ -66,13 +66,14 @@ pub fn check_book(book: &[u8]) -> BookCheck
     let mut names = [0u16; MAX_TYPES];
     let mut entries = [0u16; MAX_ENTRIES];
     let mut direct = [0u64; MAX_TYPES];
-    let scan = records::scan_book(book, &mut names, &mut entries, &mut direct);
+    let mut targets = [0u8; MAX_TARGETS];
+    let scan = records::scan_book(book, &mut names, &mut entries, &mut direct, &mut targets);
     match scan {
         Scan::Refused { number, value } => BookCheck::Refused { number, value },
         Scan::Accepted {
             types,
             entries: count,
-            target: _,
+            targets: _,
         } => {
             let order = order::close(&direct, types);
             let pairs = order::count_pairs(order);

@@ -21,13 +21,13 @@ pub fn next_fault<'a, 'b>(
     names: &'b [u16],
     types: usize,
     entries: usize,
-    seen: bool,
+    targets: usize,
 ) -> u32
     requires { ⌜ (r .at ≤ length (now (r .book))) × Whole (now (r .book)) (now names) types ⌝ }
     ensures { λ n. ⌜ n ≡ firstBroken (recordRules (now (r .entry .book)) (r .entry .at)
-        (bodiesAt (now (r .entry .book)) (now (names .entry)) types) entries seen) ⌝ }
+        (bodiesAt (now (r .entry .book)) (now (names .entry)) types) entries targets) ⌝ }
 {
-    record_fault(r.book, r.at, names, types, entries, seen)
+    record_fault(r.book, r.at, names, types, entries, targets)
 }
 
 // The same for a caller that has the book and the offset.
@@ -37,11 +37,11 @@ pub fn fault_at(
     names: &[u16],
     types: usize,
     entries: usize,
-    seen: bool,
+    targets: usize,
 ) -> u32
     requires { ⌜ (at ≤ length (now book)) × Whole (now book) (now names) types ⌝ }
     ensures { λ r. ⌜ r ≡ firstBroken (recordRules (now (book .entry)) at (bodiesAt (now (book .entry)) (now (names .entry)) types) entries
-        seen) ⌝ }
+        targets) ⌝ }
 {
-    next_fault(reader_at(book, at), names, types, entries, seen)
+    next_fault(reader_at(book, at), names, types, entries, targets)
 }

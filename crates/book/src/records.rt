@@ -8,14 +8,10 @@ use crate::record_reader::fault_at;
 use bytewise::widths::two_bytes;
 use bytewise::widths::wide_byte;
 use figures::limits::MAX_BOOK;
-use figures::limits::MAX_TYPES;
 use figures::refusals::BOOK_TOO_LONG;
 use figures::refusals::NO_TARGET;
 ghost use Prim.Native.Nat.{_+_, _<_};
 ghost use Rattle.book.specs.Kept.{store, Roomy, NoPairs, Sound, TakenSays, ScanSays};
-
-// What is kept for the target before there is one: no basic type has this number.
-const UNSET_TARGET: u8 = MAX_TYPES as u8;
 
 // Takes the next record in: its offset, its pair or its target is kept, or it is refused.
 fn take_record(
@@ -23,17 +19,18 @@ fn take_record(
     names: &mut [u16],
     entries: &mut [u16],
     direct: &mut [u64],
+    targets: &mut [u8],
     p: Progress,
 ) -> Taken
-    requires { ⌜ Sound (now book) (store (now names) (now entries) (now direct)) p ⌝ }
-    ensures { λ r. ⌜ TakenSays (now (book .entry)) (store (now (names .entry)) (now (entries .entry)) (now (direct .entry))) p
-        (store (now (names .exit)) (now (entries .exit)) (now (direct .exit))) r ⌝ }
+    requires { ⌜ Sound (now book) (store (now names) (now entries) (now direct) (now targets)) p ⌝ }
+    ensures { λ r. ⌜ TakenSays (now (book .entry)) (store (now (names .entry)) (now (entries .entry)) (now (direct .entry)) (now (targets .entry))) p
+        (store (now (names .exit)) (now (entries .exit)) (now (direct .exit)) (now (targets .exit))) r ⌝ }
 {
     let at = p.at;
     let types = p.types;
     let count = p.entries;
-    let target = p.target;
-    let fault = fault_at(book, at, names, types, count, target < UNSET_TARGET);
+    let goals = p.targets;
+    let fault = fault_at(book, at, names, types, count, goals);
     if fault != 0 {
         return Taken::Bad(fault);
     }
@@ -47,7 +44,7 @@ fn take_record(
                 at: next,
                 types: types + 1,
                 entries: count,
-                target,
+                targets: goals,
             })
         }
         2 => {
@@ -57,7 +54,7 @@ fn take_record(
                 at: next,
                 types,
                 entries: count,
-                target,
+                targets: goals,
             })
         }
         3 => {
@@ -66,22 +63,31 @@ fn take_record(
                 at: next,
                 types,
                 entries: count + 1,
-                target,
+                targets: goals,
             })
         }
-        _ => Taken::Next(Progress {
-            at: next,
-            types,
-            entries: count,
-            target: body[0],
-        }),
+        _ => {
+            targets[goals] = body[0];
+            Taken::Next(Progress {
+                at: next,
+                types,
+                entries: count,
+                targets: goals + 1,
+            })
+        }
     }
 }
 
-// Reads all records of a book. Of an accepted book the arrays hold where its basic types and entries stand, and its pairs.
-pub fn scan_book(book: &[u8], names: &mut [u16], entries: &mut [u16], direct: &mut [u64]) -> Scan
-    requires { ⌜ Roomy (store (now names) (now entries) (now direct)) × NoPairs (now direct) ⌝ }
-    ensures { λ r. ⌜ ScanSays (now (book .entry)) (store (now (names .exit)) (now (entries .exit)) (now (direct .exit))) r ⌝ }
+// Reads all records of a book. Of an accepted book the arrays hold where its basic types and entries stand, its pairs, and its targets.
+pub fn scan_book(
+    book: &[u8],
+    names: &mut [u16],
+    entries: &mut [u16],
+    direct: &mut [u64],
+    targets: &mut [u8],
+) -> Scan
+    requires { ⌜ Roomy (store (now names) (now entries) (now direct) (now targets)) × NoPairs (now direct) ⌝ }
+    ensures { λ r. ⌜ ScanSays (now (book .entry)) (store (now (names .exit)) (now (entries .exit)) (now (direct .exit)) (now (targets .exit))) r ⌝ }
 {
     if MAX_BOOK < book.len() {
         return Scan::Refused {
@@ -93,10 +99,10 @@ pub fn scan_book(book: &[u8], names: &mut [u16], entries: &mut [u16], direct: &m
         at: 0,
         types: 0,
         entries: 0,
-        target: UNSET_TARGET,
+        targets: 0,
     };
     while p.at < book.len() {
-        let taken = take_record(book, names, entries, direct, p);
+        let taken = take_record(book, names, entries, direct, targets, p);
         match taken {
             Taken::Next(next) => p = next,
             Taken::Bad(number) => return Scan::Refused {
@@ -105,7 +111,7 @@ pub fn scan_book(book: &[u8], names: &mut [u16], entries: &mut [u16], direct: &m
             },
         }
     }
-    if p.target == UNSET_TARGET {
+    if p.targets == 0 {
         return Scan::Refused {
             number: NO_TARGET,
             value: book.len(),
@@ -114,6 +120,6 @@ pub fn scan_book(book: &[u8], names: &mut [u16], entries: &mut [u16], direct: &m
     Scan::Accepted {
         types: p.types,
         entries: p.entries,
-        target: p.target,
+        targets: p.targets,
     }
 }

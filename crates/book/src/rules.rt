@@ -11,17 +11,17 @@ use bytewise::widths::two_bytes;
 use bytewise::widths::wide_byte;
 use bytewise::widths::wide_number;
 use figures::limits::MAX_ENTRIES;
+use figures::limits::MAX_TARGETS;
 use figures::limits::MAX_TYPES;
 use figures::refusals::BAD_LAYOUT;
 use figures::refusals::CUT_SHORT;
 use figures::refusals::EXPONENT_OUTSIDE;
 use figures::refusals::KIND_NOT_LISTED;
 use figures::refusals::NAME_USED;
-use figures::refusals::SECOND_TARGET;
 use figures::refusals::TOO_MANY_RECORDS;
+use figures::refusals::TOO_MANY_TARGETS;
 use figures::refusals::UNDECLARED_TYPE;
 ghost use mathlib.Core.Path.{_≡_};
-ghost use mathlib.Core.Bool.{Bool};
 ghost use mathlib.Core.List.{List};
 ghost use Prim.Native.Nat.{ℕ, _+_, _%_, _≤_, _<_};
 ghost use lib.ListN.{length};
@@ -76,8 +76,8 @@ fn name_used(book: &[u8], names: &[u16], types: usize, body: &[u8]) -> bool
 // The rules for a basic type: its layout, a name used before, one too many.
 fn name_fault(book: &[u8], names: &[u16], types: usize, body: &[u8]) -> u32
     requires { ⌜ Whole (now book) (now names) types ⌝ }
-    ensures { λ r. ⌜ ((entries : ℕ) (seen : Bool) → r ≡ firstBroken
-        (bodyRules 1 (now (body .entry)) (bodiesAt (now (book .entry)) (now (names .entry)) types) entries seen)) ⌝ }
+    ensures { λ r. ⌜ ((entries targets : ℕ) → r ≡ firstBroken
+        (bodyRules 1 (now (body .entry)) (bodiesAt (now (book .entry)) (now (names .entry)) types) entries targets)) ⌝ }
 {
     if !is_name(body) {
         return BAD_LAYOUT;
@@ -93,8 +93,8 @@ fn name_fault(book: &[u8], names: &[u16], types: usize, body: &[u8]) -> u32
 
 // The rules for an order pair: its layout, and two declared type numbers.
 fn pair_fault(body: &[u8], types: usize) -> u32
-    ensures { λ r. ⌜ ((names : List Bytes) (entries : ℕ) (seen : Bool) → length names ≡ types → r ≡ firstBroken
-        (bodyRules 2 (now (body .entry)) names entries seen)) ⌝ }
+    ensures { λ r. ⌜ ((names : List Bytes) (entries targets : ℕ) → length names ≡ types → r ≡ firstBroken
+        (bodyRules 2 (now (body .entry)) names entries targets)) ⌝ }
 {
     if body.len() != 2 {
         return BAD_LAYOUT;
@@ -110,8 +110,8 @@ fn pair_fault(body: &[u8], types: usize) -> u32
 
 // The rules for an entry: its layout, declared type numbers, exponents from -8 to 8, one too many.
 fn entry_fault(body: &[u8], types: usize, entries: usize) -> u32
-    ensures { λ r. ⌜ ((names : List Bytes) (seen : Bool) → length names ≡ types → r ≡ firstBroken
-        (bodyRules 3 (now (body .entry)) names entries seen)) ⌝ }
+    ensures { λ r. ⌜ ((names : List Bytes) (targets : ℕ) → length names ≡ types → r ≡ firstBroken
+        (bodyRules 3 (now (body .entry)) names entries targets)) ⌝ }
 {
     if !is_entry(body) {
         return BAD_LAYOUT;
@@ -129,10 +129,10 @@ fn entry_fault(body: &[u8], types: usize, entries: usize) -> u32
     0
 }
 
-// The rules for a target: its layout, a declared type number, no target before.
-fn target_fault(body: &[u8], types: usize, seen: bool) -> u32
+// The rules for a target: its layout, a declared type number, fewer than eight targets before.
+fn target_fault(body: &[u8], types: usize, targets: usize) -> u32
     ensures { λ r. ⌜ ((names : List Bytes) (entries : ℕ) → length names ≡ types → r ≡ firstBroken
-        (bodyRules 4 (now (body .entry)) names entries seen)) ⌝ }
+        (bodyRules 4 (now (body .entry)) names entries targets)) ⌝ }
 {
     if body.len() != 1 {
         return BAD_LAYOUT;
@@ -140,8 +140,8 @@ fn target_fault(body: &[u8], types: usize, seen: bool) -> u32
     if types <= wide_byte(body[0]) {
         return UNDECLARED_TYPE;
     }
-    if seen {
-        return SECOND_TARGET;
+    if MAX_TARGETS <= targets {
+        return TOO_MANY_TARGETS;
     }
     0
 }
@@ -153,11 +153,11 @@ pub(crate) fn record_fault(
     names: &[u16],
     types: usize,
     entries: usize,
-    seen: bool,
+    targets: usize,
 ) -> u32
     requires { ⌜ (at ≤ length (now book)) × Whole (now book) (now names) types ⌝ }
     ensures { λ r. ⌜ r ≡ firstBroken (recordRules (now (book .entry)) at (bodiesAt (now (book .entry)) (now (names .entry)) types) entries
-        seen) ⌝ }
+        targets) ⌝ }
 {
     if book.len() - at < HEAD {
         return CUT_SHORT;
@@ -172,7 +172,7 @@ pub(crate) fn record_fault(
         1 => name_fault(book, names, types, body),
         2 => pair_fault(body, types),
         3 => entry_fault(body, types, entries),
-        4 => target_fault(body, types, seen),
+        4 => target_fault(body, types, targets),
         _ => KIND_NOT_LISTED,
     }
 }

@@ -1,6 +1,6 @@
 // A book written as text: items with a comma between them, which no item holds. N and K are numbers in digits.
 //
-//     N BODY     a record of kind N: 1 is a basic type, 2 an order pair, 3 an entry, 4 the target
+//     N BODY     a record of kind N: 1 is a basic type, 2 an order pair, 3 an entry, 4 a target
 //     N/K        a record's head alone, with the length N and the kind K
 //     'BYTES     bytes as they are
 //     N#         N basic types: a00, a01, and so on

@@ -6,6 +6,7 @@ mod limits;
 mod longest;
 mod paper;
 mod rows;
+mod targets;
 
 fn main() {
     let mut book = [0u8; cases::buffer::ROOM];
@@ -15,4 +16,5 @@ fn main() {
     limits::rows(&mut book, &mut lines);
     longest::rows(&mut book, &mut lines);
     bad_books::rows(&mut book, &mut lines);
+    targets::rows(&mut book, &mut lines);
 }

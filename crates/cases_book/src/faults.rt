@@ -5,7 +5,6 @@ use cases::buffer::Space;
 pub fn rows(buf: &mut Space) {
     one_record(buf);
     past_the_limits(buf);
-    targets(buf);
     cut_bodies(buf);
     two_bad_records(buf);
     no_target(buf);
@@ -43,17 +42,6 @@ fn past_the_limits(buf: &mut Space) {
           entry-1025-type-1:1 a,4 \x00,1024*3 \x01x,3 \x01x\x01\x09\n\
           entry-1025-bad-word:1 a,4 \x00,1024*3 \x01x,3 \x01\x20\x01\x09\n\
           entry-1025-another-spelling:1 a,4 \x00,1024*3 \x01x,3 \x01X\n",
-    );
-}
-
-// The second target stands at offset 15.
-fn targets(buf: &mut Space) {
-    check_each(
-        buf,
-        b"second-target-equal:1 a,1 b,4 \x00,4 \x00\n\
-          second-target-other:1 a,1 b,4 \x00,4 \x01\n\
-          second-target-2:1 a,1 b,4 \x00,4 \x02\n\
-          second-target-of-2:1 a,1 b,4 \x00,4 \x00\x00\n",
     );
 }
 

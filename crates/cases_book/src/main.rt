@@ -4,6 +4,7 @@ mod layout;
 mod limits;
 mod pairs;
 mod rows;
+mod targets;
 
 fn main() {
     let mut space = [0u8; cases::buffer::ROOM];
@@ -11,4 +12,5 @@ fn main() {
     limits::rows(&mut space);
     faults::rows(&mut space);
     pairs::rows(&mut space);
+    targets::rows(&mut space);
 }

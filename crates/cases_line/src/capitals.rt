@@ -31,8 +31,8 @@ fn table(buf: &mut Space, at: usize) {
           go-Urgently-URGENTLY:go Urgently URGENTLY;PLEASE-go-urgentlY:PLEASE go urgentlY;aDMIT-wARD7:aDMIT wARD7;\
           Admit-Site:Admit Site;Go-gO:Go gO;FETCH-site:FETCH site;",
     );
-    against(buf, at, b"FETCH-BED4:FETCH BED4;", 6, Show::Buffer);
     against(buf, at, b"FETCH-BED4:FETCH BED4;", 7, Show::Buffer);
+    against(buf, at, b"FETCH-BED4:FETCH BED4;", 8, Show::Buffer);
 }
 
 // Capitals with the highest bit set, and signs that are 32 less than G and O. Words of 32 and of 31 capitals, 25 and 24 words, and an unknown one.

@@ -9,6 +9,7 @@ mod paper;
 mod rows;
 mod signs;
 mod spellings;
+mod targets;
 mod thesis;
 
 fn main() {
@@ -24,4 +25,5 @@ fn main() {
     signs::rows(&mut space);
     long_words::rows(&mut space);
     lookups::rows(&mut space);
+    targets::rows(&mut space);
 }

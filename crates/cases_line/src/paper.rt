@@ -14,7 +14,7 @@ pub fn rows(buf: &mut Space) {
           go-urgently-urgently:go urgently urgently;please-go-urgently:please go urgently;admit-ward7:admit ward7;\
           admit-site:admit site;go-go:go go;fetch-site:fetch site;empty-line:;",
     );
-    lending(buf, at, b"fetch-bed4:fetch bed4;", 8);
+    lending(buf, at, b"fetch-bed4:fetch bed4;", 9);
     let at = second_book(buf);
     answers(buf, at, b"log-go-urgently:log go urgently;");
 }

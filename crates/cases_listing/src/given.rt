@@ -16,7 +16,7 @@ pub fn rows(buf: &mut Space) {
 
 // A refusal is listed as it is given, whatever book, line and buffer are.
 fn refusals() {
-    refusal(b"refused-16-and-7", 16, 7);
+    refusal(b"refused-16-and-8", 16, 8);
     refusal(b"refused-0-and-0", 0, 0);
     refusal(
         b"refused-with-the-greatest-numbers",
@@ -32,7 +32,7 @@ fn refusal(label: &[u8], number: u32, value: usize) {
         b"",
         b"\x7f",
         LineAnswer::Refused { number, value },
-        &[1, 7, 1, 1],
+        &[0, 1, 7, 1, 1],
     );
 }
 
@@ -41,12 +41,13 @@ fn cut(buf: &Space, at: usize) {
     listings(
         buf,
         at,
-        b"cut-to-0:fetch bed4 ward7:0 3 1 2 3 5 1 5 4 3 2;cut-to-1:fetch bed4 ward7:1 3 1 2 3 5 1 5 4 3 2;\
-          cut-to-2:fetch bed4 ward7:2 3 1 2 3 5 1 5 4 3 2;cut-to-3:fetch bed4 ward7:3 3 1 2 3 5 1 5 4 3 2;\
-          cut-to-4:fetch bed4 ward7:4 3 1 2 3 5 1 5 4 3 2;cut-to-5:fetch bed4 ward7:5 3 1 2 3 5 1 5 4 3 2;\
-          cut-to-7:fetch bed4 ward7:7 3 1 2 3 5 1 5 4 3 2;cut-to-9:fetch bed4 ward7:9 3 1 2 3 5 1 5 4 3 2;\
-          whole:fetch bed4 ward7:10 3 1 2 3 5 1 5 4 3 2;more-behind:fetch bed4 ward7:12 3 1 2 3 5 1 5 4 3 2 8 9;\
-          buffer-shorter-than-the-count:fetch bed4 ward7:99999 3 1 2;no-buffer:go:4;",
+        b"cut-to-0:fetch bed4 ward7:0 0 3 1 2 3 5 1 5 4 3 2;cut-to-1:fetch bed4 ward7:1 0 3 1 2 3 5 1 5 4 3 2;\
+          cut-to-2:fetch bed4 ward7:2 0 3 1 2 3 5 1 5 4 3 2;cut-to-3:fetch bed4 ward7:3 0 3 1 2 3 5 1 5 4 3 2;\
+          cut-to-4:fetch bed4 ward7:4 0 3 1 2 3 5 1 5 4 3 2;cut-to-5:fetch bed4 ward7:5 0 3 1 2 3 5 1 5 4 3 2;\
+          cut-to-6:fetch bed4 ward7:6 0 3 1 2 3 5 1 5 4 3 2;cut-to-8:fetch bed4 ward7:8 0 3 1 2 3 5 1 5 4 3 2;\
+          cut-to-10:fetch bed4 ward7:10 0 3 1 2 3 5 1 5 4 3 2;whole:fetch bed4 ward7:11 0 3 1 2 3 5 1 5 4 3 2;\
+          more-behind:fetch bed4 ward7:13 0 3 1 2 3 5 1 5 4 3 2 8 9;\
+          buffer-shorter-than-the-count:fetch bed4 ward7:99999 0 3 1 2;no-buffer:go:5;",
     );
 }
 
@@ -55,9 +56,9 @@ fn counts(buf: &Space, at: usize) {
     listings(
         buf,
         at,
-        b"more-entries-than-values:go:4 5 7 1 1;greatest-count-of-entries:go:2 65535 7;more-partners-than-values:go:4 1 7 9 1;\
-          greatest-count-of-partners:go:3 1 7 65535;no-entries:go:4 0 1 7 1;no-partners:go:3 1 7 0;\
-          fewer-partners-than-types:go urgently:5 2 7 4 1 2;more-partners-than-types:go:6 1 7 3 1 2 3;",
+        b"more-entries-than-values:go:5 0 5 7 1 1;greatest-count-of-entries:go:3 0 65535 7;more-partners-than-values:go:5 0 1 7 9 1;\
+          greatest-count-of-partners:go:4 0 1 7 65535;no-entries:go:5 0 0 1 7 1;no-partners:go:4 0 1 7 0;\
+          fewer-partners-than-types:go urgently:6 0 2 7 4 1 2;more-partners-than-types:go:7 0 1 7 3 1 2 3;",
     );
 }
 
@@ -66,8 +67,8 @@ fn entries(buf: &Space, at: usize) {
     listings(
         buf,
         at,
-        b"entry-9-of-9:go:4 1 9 1 1;greatest-entry:go:4 1 65535 1 1;entry-missing-between:go go go:8 3 7 9 4 3 1 2 3;\
-          entry-of-another-word:go:6 1 0 3 1 3 2;greatest-partner:go:4 1 7 1 65535;partner-0:go:4 1 7 1 0;",
+        b"entry-9-of-9:go:5 0 1 9 1 1;greatest-entry:go:5 0 1 65535 1 1;entry-missing-between:go go go:9 0 3 7 9 4 3 1 2 3;\
+          entry-of-another-word:go:7 0 1 0 3 1 3 2;greatest-partner:go:5 0 1 7 1 65535;partner-0:go:5 0 1 7 1 0;",
     );
 }
 
@@ -76,12 +77,12 @@ fn lines(buf: &Space, at: usize) {
     listings(
         buf,
         at,
-        b"more-words-than-entries:go urgently site:4 1 7 1 1;fewer-words-than-entries:go:7 2 7 4 3 2 1 3;\
-          empty-line-given:  :4 1 7 1 1;empty-line-without-values::0;unknown-word-given:go nobody:7 2 7 4 3 2 1 3;\
-          line-without-a-reading:admit site:7 2 5 6 3 1 3 2;bad-byte:go go \x7f:4 1 7 1 1;\
-          long-word:go abcdefghijklmnopqrstuvwxyz012345:4 1 7 1 1;\
-          words-25-given:a a a a a a a a a a a a a a a a a a a a a a a a  go:4 1 7 1 1;\
-          bad-byte-behind-a-long-word:abcdefghijklmnopqrstuvwxyz012345\x7f:4 1 7 1 1;\
-          words-24-given:a a a a a a a a a a a a a a a a a a a a a a a abcdefghijklmnopqrstuvwxyz01234:4 1 7 1 1;",
+        b"more-words-than-entries:go urgently site:5 0 1 7 1 1;fewer-words-than-entries:go:8 0 2 7 4 3 2 1 3;\
+          empty-line-given:  :5 0 1 7 1 1;empty-line-without-values::0;unknown-word-given:go nobody:8 0 2 7 4 3 2 1 3;\
+          line-without-a-reading:admit site:8 0 2 5 6 3 1 3 2;bad-byte:go go \x7f:5 0 1 7 1 1;\
+          long-word:go abcdefghijklmnopqrstuvwxyz012345:5 0 1 7 1 1;\
+          words-25-given:a a a a a a a a a a a a a a a a a a a a a a a a  go:5 0 1 7 1 1;\
+          bad-byte-behind-a-long-word:abcdefghijklmnopqrstuvwxyz012345\x7f:5 0 1 7 1 1;\
+          words-24-given:a a a a a a a a a a a a a a a a a a a a a a a abcdefghijklmnopqrstuvwxyz01234:5 0 1 7 1 1;",
     );
 }

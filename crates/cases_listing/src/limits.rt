@@ -16,18 +16,18 @@ fn refused_books(buf: &mut Space) {
     listings(
         buf,
         ROOM,
-        b"book-of-65536:\x7f;book-of-65536-given:go:4 1 7 1 1;",
+        b"book-of-65536:\x7f;book-of-65536-given:go:5 0 1 7 1 1;",
     );
     let at = put_items(buf, 0, b"1 a,3 \x02go\x00\x00");
     listings(
         buf,
         at,
-        b"book-without-a-target:\x7f;book-without-a-target-given:\x7f:4 1 0 1 1;",
+        b"book-without-a-target:\x7f;book-without-a-target-given:\x7f:5 0 1 0 1 1;",
     );
     listings(
         buf,
         13,
-        b"book-cut-short:\x7f;book-cut-short-given:go:4 1 0 1 1;",
+        b"book-cut-short:\x7f;book-cut-short-given:go:5 0 1 0 1 1;",
     );
     listings(buf, 0, b"empty-book:go;empty-book-and-line:;");
 }

@@ -27,7 +27,7 @@ pub fn rows(buf: &mut Space) {
           middle.abcdefghijklmnopqrstuvwx right.abcdefghijklmnopqrstuvwxy right.abcdefghijklmnopqrstuvwxy right.abcdefghijklmnopqrstuvwxy \
           right.abcdefghijklmnopqrstuvwxy right.abcdefghijklmnopqrstuvwxy right.abcdefghijklmnopqrstuvwxy right.abcdefghijklmnopqrstuvwxy \
           right.abcdefghijklmnopqrstuvwxy right.abcdefghijklmnopqrstuvwxy right.abcdefghijklmnopqrstuvwxy right.abcdefghijklmnopqrstuvwxy;\
-          longer-than-any-answer:x:31 30 1021 1021 1021 1021 1021 1021 1021 1021 1021 1021 1021 1021 1021 1021 1021 \
+          longer-than-any-answer:x:32 0 30 1021 1021 1021 1021 1021 1021 1021 1021 1021 1021 1021 1021 1021 1021 1021 \
           1021 1021 1021 1021 1021 1021 1021 1021 1021 1021 1021 1021 1021 1021 1021;",
     );
 }

@@ -6,6 +6,7 @@ mod longest;
 mod paper;
 mod rooms;
 mod rows;
+mod targets;
 mod words;
 
 fn main() {
@@ -16,4 +17,5 @@ fn main() {
     capitals::rows(&mut space);
     longest::rows(&mut space);
     given::rows(&mut space);
+    targets::rows(&mut space);
 }

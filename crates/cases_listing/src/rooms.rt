@@ -5,7 +5,7 @@ use crate::rows::counted;
 use crate::rows::outcome;
 
 // The longest buffer that is lent.
-const LAST: usize = 24;
+const LAST: usize = 26;
 
 // How many bytes a row shows.
 const SHOWN: usize = 28;

@@ -17,7 +17,7 @@ use Rattle.pregroup.specs.Vanish.{Vanish}
 use Rattle.pregroup.specs.Held.{held}
 use Rattle.graph.specs.Graph.{Graph, labelOf, Labelled, EntersBy, by, Path, here, take as takes-node, enter, VanishTo, along, Boundary, Spells, ended, more}
 use Rattle.chart.proofs.Recurrence.{path-append}
-use Rattle.table.specs.Table.{stringOf, Right}
+use Rattle.table.specs.Table.{stringOf}
 use Rattle.table.proofs.Stretches.{length-string, string-kept, string-more}
 use Rattle.table.proofs.TableLaws.{right-begins}
 use Rattle.choice.specs.Completion.{Finishes, finishes, SlotChoice, done, choose, Scanned, ends, takes}
@@ -37,7 +37,7 @@ pub data Ahead (g : Graph) (u : ℕ) (slots : List ℕ) : PregroupType → ℕ �
   ahead : {T X : PregroupType} {b end : ℕ} → Spells g u T b → SlotChoice g b slots X end → Ahead g u slots (T ++ X) end
 
 pub record Choosing (Le : Relation) (g : Graph) (string slots table leaving finishing : List ℕ) (end u words places : ℕ) : Type 0 where
-  pub below : u ≤ end
+  pub below : u < g .count
   pub few : places + words ≤ u
   pub grown : Grown Le g (stringOf string places) end places table leaving finishing
   pub walked : Path g 0 (stringOf string places) u
@@ -84,14 +84,14 @@ module _ (Le : Relation) (g : Graph) (rows string slots table leaving finishing 
   place-left simple = of (now .finished)
     where
       of : Finishes Le g (stringOf string places) u end → places + 1 ≤ maxPlaces
-      of (finishes p v) = omega (arith, few-behind p, takes-some (pre .ends) simple p)
+      of (finishes p v) = omega (arith, few-behind p, takes-some (pre .ends .boundary) simple p)
 
 -- At a simple node.
 module _ (Le : Relation) (g : Graph) (rows string slots table leaving finishing : List ℕ) (end u words places : ℕ) (pre : Choosable Le g rows end)
     (roomy : Roomy (g .count) string slots table leaving) (now : Choosing Le g string slots table leaving finishing end u words places) (away : u ≡ end → ⊥)
     (simple : getD (g .nexts) u 0 ≡ 0 → ⊥) where
   small : u < g .count
-  small = omega (arith, now .below, pre .last)
+  small = now .below
 
   room : places + 1 ≤ maxPlaces
   room = place-left Le g rows string slots table leaving finishing end u words places pre now simple
@@ -130,11 +130,11 @@ module _ (Le : Relation) (g : Graph) (rows string slots table leaving finishing 
       let grown = grown-more Le g rows string′ (stringOf string places) end places finishing table leaving table′ leaving′ finishing′ (pre .upward) (pre .filled)
       (now .grown) spells grew in
       record {
-        below = omega (arith, simple-up .1, pre .last);
+        below = simple-up .1;
         few = omega (arith, simple-up .0, now .few);
         grown = subst (λ (P : PregroupType). Grown Le g P end (places + 1) table′ leaving′ finishing′) (sym spells) grown;
         walked = rw longer (path-append (now .walked) (takes-node node-label here));
-        finished = rw longer (finishes-take (pre .ends) node-label (now .finished));
+        finished = rw longer (finishes-take (pre .ends .boundary) node-label (now .finished));
         scan = λ after r. now .scan after (rest-take node-label (rw longer at r));
         spell = λ after X a. rw (longer, append-assoc) (now .spell after (labelOf g u ∷ X) (ahead-take node-label a));
       }
@@ -172,7 +172,7 @@ module _ (Le : Relation) (g : Graph) (rows string slots table leaving finishing 
     (roomy : Roomy (g .count) string slots table leaving) (now : Choosing Le g string slots table leaving finishing end u words places) (away : u ≡ end → ⊥)
     (boundary : getD (g .nexts) u 0 ≡ 0) where
   node-small : u < g .count
-  node-small = omega (arith, now .below, pre .last)
+  node-small = now .below
 
   few-so-far : places ≤ maxPlaces
   few-so-far = few-places Le g rows string slots table leaving finishing end u words places pre now
@@ -213,7 +213,7 @@ module _ (Le : Relation) (g : Graph) (rows string slots table leaving finishing 
 
     pub entered-turn : Choosing Le g string (set slots words r) table leaving finishing end (getD (g .enters) r 0) (words + 1) places
     entered-turn = record {
-      below = omega (arith, slot-up .1, pre .last);
+      below = slot-up .1;
       few = omega (arith, slot-up .0, now .few);
       grown = now .grown;
       walked = rw append-nil at (path-append (now .walked) (enter (by r slot-enters) here));
@@ -234,19 +234,16 @@ module _ {Le : Relation} {g : Graph} where
 
 module _ (Le : Relation) (g : Graph) (rows string slots table leaving finishing : List ℕ) (end words places : ℕ) (pre : Choosable Le g rows end)
     (now : Choosing Le g string slots table leaving finishing end end words places) where
-  end-closed : (s w : ℕ) → EntersBy g end s w → ⊥
-  end-closed s w e = let on = pre .upward .enters-up end s w (omega (arith, pre .last)) e in omega (arith, pre .last)
-
   scan-whole : Scanned Le g end [] 0 (take words slots)
   scan-whole =
-      let v : Vanish Le (stringOf string places) = vanish-at-end (pre .ends) end-closed (now .finished) in
-      rw append-nil at (now .scan [] (rest (ended (pre .ends)) (ends (rw append-nil v))))
+      let v : Vanish Le (stringOf string places) = vanish-at-end (pre .ends .boundary) (pre .ends .closed) (now .finished) in
+      rw append-nil at (now .scan [] (rest (ended (pre .ends .boundary)) (ends (rw append-nil v))))
 
   pub chose : Chose Le g string slots table end words places
   chose = record {
     scanned = scan-whole;
-    first = scanned-is-first (pre .ends) end-closed scan-whole;
-    spelled = rw (append-nil, append-nil) at (now .spell [] [] (ahead (ended (pre .ends)) (done (pre .ends))));
+    first = scanned-is-first (pre .ends .boundary) (pre .ends .closed) scan-whole;
+    spelled = rw (append-nil, append-nil) at (now .spell [] [] (ahead (ended (pre .ends .boundary)) (done (pre .ends .boundary))));
     right = now .grown .right;
     few = now .few;
     few-places = few-places Le g rows string slots table leaving finishing end end words places pre now;
@@ -303,7 +300,7 @@ module _ (Le : Relation) (g : Graph) (rows string slots table leaving table′ l
   pub start-choosing : Choosing Le g string slots table′ leaving′ finishing end 0 0 0
   unfolding stringOf
   start-choosing = record {
-    below = omega arith;
+    below = omega (arith, pre .inside);
     few = omega arith;
     grown = start-grown;
     walked = here;

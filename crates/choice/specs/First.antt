@@ -1,6 +1,5 @@
 -- What the first choice asks and gives.
 use Prim.Native.Nat.{ℕ, _+_, _≤_, _<_}
-use mathlib.Core.Path.{_≡_}
 use mathlib.Core.List.{List, []}
 use lib.ListN.{length, take}
 use Rattle.figures.specs.Limits.{maxPlaces}
@@ -8,6 +7,7 @@ use Rattle.bits.specs.Rows.{HasRow}
 use Rattle.pregroup.specs.Types.{PregroupType}
 use Rattle.pregroup.specs.Order.{Relation}
 use Rattle.graph.specs.Graph.{Graph, Upward, Path, VanishTo, Boundary}
+use Rattle.graph.specs.Layout.{End}
 use Rattle.chart.specs.Chart.{FilledFrom}
 use Rattle.table.specs.Table.{stringOf, Right}
 use Rattle.choice.specs.Completion.{SlotChoice, FirstChoice, Scanned}
@@ -19,14 +19,14 @@ pub record Roomy (count : ℕ) (string slots table leaving : List ℕ) : Type 0 
   pub table-rows : (j : ℕ) → j ≤ maxPlaces → HasRow table j
   pub leaving-rows : (j : ℕ) → j ≤ maxPlaces → HasRow leaving j
 
--- The chart is filled, the line reads, it begins and ends at a boundary, the last node, and no path has too many simple types.
+-- The chart is filled, the line reads, it begins at a boundary and comes to an end, and no path has too many simple types.
 pub record Choosable (Le : Relation) (g : Graph) (rows : List ℕ) (end : ℕ) : Type 0 where
   pub upward : Upward g
   pub filled : FilledFrom Le g rows 0
   pub rows-there : (u : ℕ) → u < g .count → HasRow rows u
-  pub last : end + 1 ≡ g .count
+  pub inside : end < g .count
   pub begins : Boundary g 0
-  pub ends : Boundary g end
+  pub ends : End g end
   pub reads : VanishTo Le g 0 end
   pub brief : {X : PregroupType} → Path g 0 X end → length X ≤ maxPlaces
 

@@ -1,7 +1,7 @@
 -- Document 01, "The book's bytes": the limits of books and lines, those of batches, and the sizes that follow from them. `src/limits.rt` has the same figures.
 use Prim.Native.Nat.{ℕ, _+_, _*_, _/_}
 
--- Bytes, basic types and entries of a book.
+-- Bytes, basic types, entries and targets of a book.
 abbrev pub maxBook : ℕ
 maxBook = 65535
 
@@ -10,6 +10,9 @@ maxTypes = 64
 
 abbrev pub maxEntries : ℕ
 maxEntries = 1024
+
+abbrev pub maxTargets : ℕ
+maxTargets = 8
 
 -- Bytes of a name and of a word, simple types of an entry.
 abbrev pub maxName : ℕ
@@ -32,16 +35,16 @@ maxWords = 24
 abbrev pub maxLineSimples : ℕ
 maxLineSimples = 512
 
--- Simple types of a choice, and with the target behind it.
+-- Simple types of a choice, and with a target behind it.
 abbrev pub maxString : ℕ
 maxString = maxWords * maxEntrySimples
 
 abbrev pub maxPlaces : ℕ
 maxPlaces = maxString + 1
 
--- Values of an answer: the number of words and that of simple types, an entry for each word, a partner for each simple type.
+-- Values of an answer: the target's number, the number of words and that of simple types, an entry for each word, a partner for each simple type.
 abbrev pub maxValues : ℕ
-maxValues = 2 + maxWords + maxString
+maxValues = 3 + maxWords + maxString
 
 -- A value of an answer has 16 bits: it is below this.
 abbrev pub valueBound : ℕ
@@ -61,9 +64,9 @@ maxPart = 2 + maxValues
 abbrev pub maxBatchValues : ℕ
 maxBatchValues = maxLines * maxPart
 
--- Nodes of a line's graph: a boundary for each word and one behind the last, the simple types, the target and the end.
+-- Nodes of a line's graph: a boundary for each word and one behind the last, the simple types, and two for each target.
 abbrev pub maxNodes : ℕ
-maxNodes = maxWords + maxLineSimples + 3
+maxNodes = maxWords + maxLineSimples + 1 + 2 * maxTargets
 
 -- Words of 64 bits that hold a set of nodes, and the members that they have room for.
 abbrev pub rowWords : ℕ

@@ -40,9 +40,9 @@ exponentOutside = 6
 abbrev pub nameUsed : ℕ
 nameUsed = 7
 
--- Second target.
-abbrev pub secondTarget : ℕ
-secondTarget = 8
+-- Ninth target.
+abbrev pub tooManyTargets : ℕ
+tooManyTargets = 8
 
 -- 65th basic type or 1,025th entry.
 abbrev pub tooManyRecords : ℕ

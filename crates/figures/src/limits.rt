@@ -1,11 +1,13 @@
 // The limits of books, lines and batches, and the sizes of lists that follow from them. `specs/Limits` has the same figures for contracts.
 
-// How many bytes a book has at most, and how many basic types and entries.
+// How many bytes a book has at most, and how many basic types, entries and targets.
 pub const MAX_BOOK: usize = 65535;
 
 pub const MAX_TYPES: usize = 64;
 
 pub const MAX_ENTRIES: usize = 1024;
+
+pub const MAX_TARGETS: usize = 8;
 
 // How many bytes a name and a word have at most, and how many simple types an entry.
 pub const MAX_NAME: usize = 15;
@@ -22,13 +24,14 @@ pub const MAX_WORDS: usize = 24;
 
 pub const MAX_LINE_SIMPLES: usize = 512;
 
-// How many simple types a choice has at most, and how many with the target behind it.
+// How many simple types a choice has at most, and how many with a target behind it.
 pub const MAX_STRING: usize = MAX_WORDS * MAX_ENTRY_SIMPLES;
 
 pub const MAX_PLACES: usize = MAX_STRING + 1;
 
-// How many values an answer has at most: the number of words and that of simple types, an entry for each word, a partner for each simple type.
-pub const MAX_VALUES: usize = 2 + MAX_WORDS + MAX_STRING;
+// How many values an answer has at most: the target's number, the number of words and that of simple types, an entry for each word, a partner
+// for each simple type.
+pub const MAX_VALUES: usize = 3 + MAX_WORDS + MAX_STRING;
 
 // How many bytes and how many lines a batch has at most.
 pub const MAX_BATCH: usize = 65535;
@@ -40,8 +43,8 @@ pub const MAX_PART: usize = 2 + MAX_VALUES;
 
 pub const MAX_BATCH_VALUES: usize = MAX_LINES * MAX_PART;
 
-// How many nodes a line's graph has at most: a boundary for each word and one behind the last, the simple types, the target and the end.
-pub const MAX_NODES: usize = MAX_WORDS + MAX_LINE_SIMPLES + 3;
+// How many nodes a line's graph has at most: a boundary for each word and one behind the last, the simple types, and two for each target.
+pub const MAX_NODES: usize = MAX_WORDS + MAX_LINE_SIMPLES + 1 + 2 * MAX_TARGETS;
 
 // How many words of 64 bits a set of nodes takes, and how many members it has room for.
 pub const ROW_WORDS: usize = (MAX_NODES + 63) / 64;

@@ -21,8 +21,8 @@ pub const EXPONENT_OUTSIDE: u32 = 6;
 // Type name used before.
 pub const NAME_USED: u32 = 7;
 
-// Second target.
-pub const SECOND_TARGET: u32 = 8;
+// Ninth target.
+pub const TOO_MANY_TARGETS: u32 = 8;
 
 // 65th basic type or 1,025th entry.
 pub const TOO_MANY_RECORDS: u32 = 9;

@@ -3,4 +3,5 @@ pub mod RaiseLaws
 pub mod TypeLaws
 pub mod EntryLaws
 pub mod WordLaws
+pub mod GoalLaws
 pub mod LineLaws

@@ -20,7 +20,7 @@ use Rattle.graph.specs.declared.Place.{Place}
 use Rattle.graph.proofs.TypeLaws.{continues-back, continues-less, same-set, no-edge}
 
 pub laid-boundary : {g : Graph} {numbers : List ℕ} {t : Basic} {u end : ℕ} {words : Words} → Laid g numbers t u words end → Boundary g u
-laid-boundary (goal b range e) = b
+laid-boundary (goal e spelt only) = e .boundary
 laid-boundary (word b slots rest) = b
 
 -- The lists' own graph is as the lists say.

@@ -1,5 +1,6 @@
--- A line's words laid out as a graph: each word's entries as the slots of a boundary, in the book's order, and the target's right adjoint as a
--- last word of one entry. A second empty entry of a word fares as the first did, so only the first one has a slot.
+-- A line's words laid out as a graph: each word's entries as the slots of a boundary, in the book's order, and the targets' right adjoints as
+-- the entries of a last word, each with an end of its own. A second empty entry of a word fares as the first did, so only the first one has a
+-- slot.
 use Prim.Native.Nat.{ℕ, _+_}
 use mathlib.Core.Path.{_≡_}
 use mathlib.Core.Bool.{Bool, true, false}
@@ -8,7 +9,7 @@ use lib.IntN.{pos}
 use lib.ListN.{getD}
 use Rattle.pregroup.specs.Types.{Basic, PregroupType, _⁽_⁾}
 use Rattle.linking.specs.Reading.{NumberedEntry, Words}
-use Rattle.graph.specs.Graph.{Graph, Boundary, Spells}
+use Rattle.graph.specs.Graph.{Graph, EntersBy, Path, Boundary, Spells}
 
 abbrev pub hasNone : PregroupType → Bool
 hasNone [] = true
@@ -30,10 +31,16 @@ pub data Slots (g : Graph) (numbers : List ℕ) (b : ℕ) : ℕ → ℕ → List
       → getD (numbers) s 0 ≡ e .number → Spells g (getD (g .enters) s 0) (e .type) b → Slots g numbers b (s + 1) to es
       → Slots g numbers b s to (e ∷ es)
 
--- From the boundary u on the graph is that of these words, and then of the target t, up to `end`.
+-- A boundary without slots: no path leads on from it.
+pub record End (g : Graph) (end : ℕ) : Type 0 where
+  pub boundary : Boundary g end
+  pub closed : (s v : ℕ) → EntersBy g end s v → ⊥
+
+-- From the boundary u on the graph is that of these words, and then of the target t, up to `end`, which of the last boundary's slots only
+-- that of t leads to.
 pub data Laid (g : Graph) (numbers : List ℕ) (t : Basic) : ℕ → Words → ℕ → Type 0 where
-  goal : {u end : ℕ} → Boundary g u → getD (g .froms) u 0 + 1 ≡ getD (g .tos) u 0
-      → Spells g (getD (g .enters) (getD (g .froms) u 0) 0) (t ⁽ pos 1 ⁾ ∷ []) end → Laid g numbers t u [] end
+  goal : {u s v end : ℕ} → EntersBy g u s v → Spells g v (t ⁽ pos 1 ⁾ ∷ []) end
+      → ((r w : ℕ) (X : PregroupType) → EntersBy g u r w → Path g w X end → r ≡ s) → Laid g numbers t u [] end
   word : {u b end : ℕ} {es : List NumberedEntry} {words : Words}
       → Boundary g u → Slots g numbers b (getD (g .froms) u 0) (getD (g .tos) u 0) (slotted false es) → Laid g numbers t b words end
       → Laid g numbers t u (es ∷ words) end

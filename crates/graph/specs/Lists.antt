@@ -1,16 +1,18 @@
--- What the code writes while it lays out the words of a line, from left to right, and then the target.
-use Prim.Native.Nat.{ℕ, _+_, _≤_, _<_}
+-- What the code writes while it lays out the words of a line, from left to right, and then the targets.
+use Prim.Native.Nat.{ℕ, _+_, _*_, _≤_, _<_}
 use mathlib.Core.Path.{_≡_}
 use mathlib.Core.List.{List, []}
-use lib.ListN.{length, getD}
-use Rattle.figures.specs.Limits.{maxWords, maxLineSimples, maxNodes}
-use Rattle.pregroup.specs.Types.{Basic}
-use Rattle.linking.specs.Reading.{NumberedEntry, Words}
+use lib.IntN.{pos}
+use lib.ListN.{length, getD, set}
+use Rattle.figures.specs.Limits.{maxWords, maxLineSimples, maxTargets, maxNodes}
+use Rattle.pregroup.specs.Types.{Basic, _⁽_⁾}
+use Rattle.pregroup.specs.Held.{held}
+use Rattle.linking.specs.Reading.{NumberedEntry, Words, targetAt}
 use Rattle.book.specs.Format.{Bytes}
 use Rattle.lookup.specs.Entries.{simplesIn, simplesOfWords}
 use Rattle.lookup.specs.Threads.{Thread, Threads}
 use Rattle.graph.specs.Graph.{Graph, graph, Upward}
-use Rattle.graph.specs.Layout.{Laid}
+use Rattle.graph.specs.Layout.{End, Laid}
 use Rattle.graph.specs.Cells.{Cells, cells, Same, Continues, Edges, Lexicon}
 use Rattle.graph.specs.declared.Place.{Place}
 
@@ -79,37 +81,68 @@ pub record ThreadedWords (bytes : Bytes) (offsets : List ℕ) (count : ℕ) (sam
   pub threads : Threads bytes offsets count same firsts 0 all
   pub as-many : length all ≡ words
 
--- All words of a line can be laid from the place p on, and the target behind them.
+-- All words of a line can be laid from the place p on, with a boundary behind them.
 pub record WordsFit (bytes : Bytes) (offsets : List ℕ) (count : ℕ) (same firsts : List ℕ) (words : ℕ) (p : Place) (l : Lists) : Type 0 where
   pub looked-up : ThreadedWords bytes offsets count same firsts words
   pub standing : Standing p l
   pub numbers-room : maxNodes ≤ length (l .cells .numbers)
-  pub fits : p .node + (simplesOfWords (looked-up .all) + words) + 3 ≤ maxNodes
+  pub fits : p .node + (simplesOfWords (looked-up .all) + words) < maxNodes
 
--- The target is laid at the boundary of the place p, with two nodes behind it: its right adjoint and the end.
-pub record Ended (target : Basic) (p : Place) (l l′ : Lists) (count : ℕ) : Type 0 where
-  pub nodes : count ≡ p .node + 3
-  pub kept : Follows p l (graphOf count l′) (l′ .cells .numbers)
-  pub upward : Upward (graphOf count l′)
-  pub laid : (numbers : List ℕ) → Laid (graphOf count l′) numbers target (p .node) [] (p .node + 2)
+-- Each target takes two nodes behind the last boundary: its right adjoint and its end.
+abbrev pub goalAt : ℕ → ℕ → ℕ
+goalAt last t = last + 1 + 2 * t
+
+abbrev pub endAt : ℕ → ℕ → ℕ
+endAt last t = last + 2 + 2 * t
+
+-- The number of nodes with n targets.
+abbrev pub nodesWith : ℕ → ℕ → ℕ
+nodesWith last n = last + 1 + 2 * n
+
+-- A target can be laid at a node, with a slot that leads to it.
+pub record GoalFits (node slot : ℕ) (c : Cells) : Type 0 where
+  pub node-fits : node + 1 < maxNodes
+  pub slot-fits : slot < maxNodes
+  pub simples-room : maxNodes ≤ length (c .simples)
+  pub nexts-room : maxNodes ≤ length (c .nexts)
+  pub enters-room : maxNodes ≤ length (c .enters)
+
+-- It is laid: the slot leads to its right adjoint, and that to the node behind it.
+pub record GoalLaid (target : Basic) (node slot : ℕ) (c c′ : Cells) : Type 0 where
+  pub simple : ℕ
+  pub holds : held simple ≡ target ⁽ pos 1 ⁾
+  pub simples : c′ .simples ≡ set (c .simples) node simple
+  pub nexts : c′ .nexts ≡ set (c .nexts) node (node + 1)
+  pub enters : c′ .enters ≡ set (c .enters) slot node
+
+-- The targets are laid at the boundary of the place p, which is the last one.
+pub record Ended (targets : List Basic) (p : Place) (l l′ : Lists) : Type 0 where
+  pub kept : Follows p l (graphOf 0 l′) (l′ .cells .numbers)
+  pub upward : Upward (graphOf (nodesWith (p .node) (length targets)) l′)
+  pub ends : (t : ℕ) → t < length targets → End (graphOf (nodesWith (p .node) (length targets)) l′) (endAt (p .node) t)
+  pub laid : (numbers : List ℕ) (t : ℕ) → t < length targets
+      → Laid (graphOf (nodesWith (p .node) (length targets)) l′) numbers (targetAt targets t) (p .node) [] (endAt (p .node) t)
 
 -- Nothing is in the lists: every node is a boundary without slots.
 pub record Empty (l : Lists) : Type 0 where
   pub nexts : (x : ℕ) → getD {A = ℕ} (l .cells .nexts) x 0 ≡ 0
   pub tos : (x : ℕ) → getD {A = ℕ} (l .tos) x 0 ≡ 0
 
--- A line whose words are looked up, within its limits, can be laid out in empty lists.
-pub record LineFits (bytes : Bytes) (offsets : List ℕ) (count : ℕ) (same firsts : List ℕ) (words : ℕ) (l : Lists) : Type 0 where
+-- A line whose words are looked up, within its limits, can be laid out in empty lists, with so many targets.
+pub record LineFits (bytes : Bytes) (offsets : List ℕ) (count : ℕ) (same firsts : List ℕ) (words goals : ℕ) (l : Lists) : Type 0 where
   pub looked-up : ThreadedWords bytes offsets count same firsts words
   pub few : words ≤ maxWords
   pub small : simplesOfWords (looked-up .all) ≤ maxLineSimples
+  pub few-targets : goals ≤ maxTargets
   pub room : Room l
   pub numbers-room : maxNodes ≤ length (l .cells .numbers)
   pub empty : Empty l
 
--- The line is laid out: the graph goes up, and from node 0 it is that of the line's words and the target, up to its last node.
-pub record LaidOut (words : Words) (target : Basic) (l : Lists) (count : ℕ) : Type 0 where
-  pub few : count ≤ maxNodes
-  pub some-nodes : 0 < count
-  pub upward : Upward (graphOf count l)
-  pub laid : (end : ℕ) → end + 1 ≡ count → Laid (graphOf count l) (l .cells .numbers) target 0 words end
+-- The line is laid out, with this last boundary: the graph goes up, and from node 0 it is that of the line's words and of each target, up to
+-- the target's end.
+pub record LaidOut (words : Words) (targets : List Basic) (l : Lists) (last : ℕ) : Type 0 where
+  pub few : nodesWith last (length targets) ≤ maxNodes
+  pub upward : Upward (graphOf (nodesWith last (length targets)) l)
+  pub ends : (t : ℕ) → t < length targets → End (graphOf (nodesWith last (length targets)) l) (endAt last t)
+  pub laid : (t : ℕ) → t < length targets
+      → Laid (graphOf (nodesWith last (length targets)) l) (l .cells .numbers) (targetAt targets t) 0 words (endAt last t)

@@ -1,4 +1,4 @@
-// Lays a line out whose words are looked up: each word a boundary, then the simple types of its entries, and behind the last word the target.
+// Lays a line out whose words are looked up: each word a boundary, then the simple types of its entries, and behind the last word the targets.
 use crate::Place;
 use book::layout::LEAST_EXPONENT;
 use book::layout::body_at;
@@ -20,7 +20,7 @@ ghost use Rattle.book.specs.Format.{exponentOf, exponentListed, simplesOf};
 ghost use Rattle.linking.specs.Reading.{NumberedEntry, Words};
 ghost use Rattle.lookup.specs.Threads.{Thread, Threads};
 ghost use Rattle.graph.specs.Cells.{cells, nodes, TypeFits, Typed, SlotFits, Lays, EntriesFit};
-ghost use Rattle.graph.specs.Lists.{lists, WordFits, WordsFit, Lined, Ended, Standing, LineFits, LaidOut};
+ghost use Rattle.graph.specs.Lists.{lists, WordFits, WordsFit, Lined, nodesWith, GoalFits, GoalLaid, Ended, Standing, LineFits, LaidOut};
 
 // An exponent of the book, a byte in two's complement, as it is held: raised, so that it is never negative.
 fn raise(exponent: u8) -> u8
@@ -232,37 +232,62 @@ fn lay_words(
     place
 }
 
-// Lays the target behind the last word: a boundary with one slot, the target's right adjoint, and the end. The number of nodes is
-// returned.
+// Lays a target at a node: the slot leads to its right adjoint, and that to the node behind it.
 fn lay_goal(
     target: u8,
+    node: usize,
+    slot: usize,
+    simples: &mut [u16],
+    nexts: &mut [u16],
+    enters: &mut [u16],
+)
+    requires { ⌜ GoalFits node slot (cells (now simples) (now nexts) (now enters) []) ⌝ }
+    ensures { λ _. ⌜ GoalLaid target node slot (cells (now (simples .entry)) (now (nexts .entry)) (now (enters .entry)) [])
+        (cells (now (simples .exit)) (now (nexts .exit)) (now (enters .exit)) []) ⌝ }
+{
+    let end = node + 1;
+    let simple = hold_simple(target, 1);
+    enters[slot] = node as u16;
+    simples[node] = simple;
+    nexts[node] = end as u16;
+}
+
+// Lays the targets behind the last word: a boundary with a slot for each, in their order, and for each its right adjoint and an end of its own.
+fn lay_goals(
+    targets: &[u8],
     p: Place,
     simples: &mut [u16],
     nexts: &mut [u16],
     froms: &mut [u16],
     tos: &mut [u16],
     enters: &mut [u16],
-) -> usize
-    requires { ⌜ Standing p (lists (now simples) (now nexts) (now froms) (now tos) (now enters) []) × (p .node + 3 ≤ maxNodes) ⌝ }
-    ensures { λ r. ⌜ Ended target p (lists (now (simples .entry)) (now (nexts .entry)) (now (froms .entry)) (now (tos .entry))
+)
+    requires { ⌜ Standing p (lists (now simples) (now nexts) (now froms) (now tos) (now enters) [])
+        × (nodesWith (p .node) (length (now targets)) ≤ maxNodes) ⌝ }
+    ensures { λ _. ⌜ Ended (now (targets .entry)) p (lists (now (simples .entry)) (now (nexts .entry)) (now (froms .entry)) (now (tos .entry))
         (now (enters .entry)) []) (lists (now (simples .exit)) (now (nexts .exit)) (now (froms .exit)) (now (tos .exit))
-        (now (enters .exit)) []) r ⌝ }
+        (now (enters .exit)) []) ⌝ }
 {
     let node = p.node;
     let slot = p.slot;
-    let goal = node + 1;
-    let end = node + 2;
-    let simple = hold_simple(target, 1);
+    let mut t = 0;
+    while t < targets.len() {
+        lay_goal(
+            targets[t],
+            node + 1 + 2 * t,
+            slot + t,
+            simples,
+            nexts,
+            enters,
+        );
+        t += 1;
+    }
     froms[node] = slot as u16;
-    tos[node] = (slot + 1) as u16;
-    enters[slot] = goal as u16;
-    simples[goal] = simple;
-    nexts[goal] = end as u16;
-    node + 3
+    tos[node] = (slot + t) as u16;
 }
 
-// Lays a line out in empty lists and returns the number of nodes: a graph that goes up, from node 0 that of the line's words and the
-// target, to its last node. The words are looked up before: `firsts` has the first entry of each, and `same` leads to the others.
+// Lays a line out in empty lists and returns its last boundary: a graph that goes up, from node 0 that of the line's words and the targets.
+// The words are looked up before: `firsts` has the first entry of each, and `same` leads to the others.
 pub fn lay_out(
     book: &[u8],
     offsets: &[u16],
@@ -270,7 +295,7 @@ pub fn lay_out(
     same: &[u16],
     firsts: &[u16],
     words: usize,
-    target: u8,
+    targets: &[u8],
     simples: &mut [u16],
     nexts: &mut [u16],
     froms: &mut [u16],
@@ -278,11 +303,11 @@ pub fn lay_out(
     enters: &mut [u16],
     numbers: &mut [u16],
 ) -> usize
-    requires { ⌜ LineFits (now book) (now offsets) count (now same) (now firsts) words
+    requires { ⌜ LineFits (now book) (now offsets) count (now same) (now firsts) words (length (now targets))
         (lists (now simples) (now nexts) (now froms) (now tos) (now enters) (now numbers)) ⌝ }
     ensures { λ r. ⌜ ((ws : Words) → Threads (now (book .entry)) (now (offsets .entry)) count (now (same .entry)) (now (firsts .entry)) 0 ws
-        → length ws ≡ words → LaidOut ws target (lists (now (simples .exit)) (now (nexts .exit)) (now (froms .exit)) (now (tos .exit))
-        (now (enters .exit)) (now (numbers .exit))) r) ⌝ }
+        → length ws ≡ words → LaidOut ws (now (targets .entry)) (lists (now (simples .exit)) (now (nexts .exit)) (now (froms .exit))
+        (now (tos .exit)) (now (enters .exit)) (now (numbers .exit))) r) ⌝ }
 {
     let first = Place {
         node: 0,
@@ -304,5 +329,6 @@ pub fn lay_out(
         enters,
         numbers,
     );
-    lay_goal(target, last, simples, nexts, froms, tos, enters)
+    lay_goals(targets, last, simples, nexts, froms, tos, enters);
+    last.node
 }

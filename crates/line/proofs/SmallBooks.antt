@@ -8,7 +8,7 @@ use lib.Dec.{eqb, ltb}
 use lib.ListN.{length, getD, drop, length-append, length-map}
 use Rattle.figures.specs.Limits.{maxBook}
 use Rattle.figures.specs.Refusals.{bookTooLong, cutShort, noTarget}
-use Rattle.book.specs.Format.{Bytes, Book, Entry, Draft, Parsed, accepted, refused, every, between, headLength, twoBytes, kindAt, bodyAt, nextAt, byKind, recordOf, entryBody, isEntry, entryOf, bodyRules, recordRules, firstBroken, add, nextRules, nextDraft, ended, recordsFrom, parse}
+use Rattle.book.specs.Format.{Bytes, Book, Entry, Parsed, accepted, refused, every, between, headLength, twoBytes, kindAt, bodyAt, nextAt, byKind, recordOf, entryBody, isEntry, entryOf, bodyRules, recordRules, firstBroken, add, nextRules, withNext, ended, recordsFrom, parse}
 use Rattle.book.proofs.RecordLaws.{size-first, kind-first, body-first, rest-first, size-at, kind-at, body-at, rest-at, word-part, type-part}
 use Rattle.lookup.specs.Capitals.{smallBytes, DifferInCase, same-rest, same-record, respelt}
 use Rattle.lookup.proofs.CapitalLaws.{small-every, same-exactly, same-length}
@@ -76,18 +76,18 @@ module _ (v w type : Bytes) (e : smallBytes v ≡ smallBytes w) where
   entry-same = rw (word-part v type, word-part w type, type-part v type, type-part w type, e)
 
 -- The rules see no difference ..
-rules-same : {kind : ℕ} {p q : Bytes} → SameBody kind p q → (names : List Bytes) (entries : ℕ) (seen : Bool) → bodyRules kind p names entries seen ≡ bodyRules kind q names entries seen
+rules-same : {kind : ℕ} {p q : Bytes} → SameBody kind p q → (names : List Bytes) (entries targets : ℕ) → bodyRules kind p names entries targets ≡ bodyRules kind q names entries targets
 unfolding bodyRules
-rules-same equal names entries seen = refl
-rules-same (recased v w type e) names entries seen = rw (layout-same v w type e, type-part v type, type-part w type)
+rules-same equal names entries targets = refl
+rules-same (recased v w type e) names entries targets = rw (layout-same v w type e, type-part v type, type-part w type)
 
 -- .. and the books stay the same but for case with a record more.
 abbrev withEntry : Book → Entry → Book
-withEntry B x = record { names = B .names; pairs = B .pairs; entries = B .entries ++ (x ∷ []); target = B .target }
+withEntry B x = record { names = B .names; pairs = B .pairs; entries = B .entries ++ (x ∷ []); targets = B .targets }
 
 with-entry-small : (B : Book) (x : Entry) → smallBook (withEntry B x) ≡ withEntry (smallBook B) (smallEntry x)
 with-entry-small B x =
-    ap (λ (es : List Entry). record { names = B .names; pairs = B .pairs; entries = es; target = B .target }) (map-append smallEntry (B .entries) (x ∷ []))
+    ap (λ (es : List Entry). record { names = B .names; pairs = B .pairs; entries = es; targets = B .targets }) (map-append smallEntry (B .entries) (x ∷ []))
 
 -- Two books that are the same but for case.
 record SameBook (B C : Book) : Type 0 where
@@ -110,66 +110,61 @@ add-same : {kind : ℕ} {p q : Bytes} → SameBody kind p q → {B C : Book} →
 unfolding add
 add-same {kind} {p} equal t =
     by-kind kind
-    (record { small = ap (λ (S : Book). record { names = S .names ++ (p ∷ []); pairs = S .pairs; entries = S .entries; target = S .target }) (t .small) })
-    (record { small = ap (λ (S : Book). record { names = S .names; pairs = S .pairs ++ (record { lower = getD {A = ℕ} p 0 0; upper = getD {A = ℕ} p 1 0 } ∷ []); entries = S .entries; target = S .target }) (t .small) })
+    (record { small = ap (λ (S : Book). record { names = S .names ++ (p ∷ []); pairs = S .pairs; entries = S .entries; targets = S .targets }) (t .small) })
+    (record { small = ap (λ (S : Book). record { names = S .names; pairs = S .pairs ++ (record { lower = getD {A = ℕ} p 0 0; upper = getD {A = ℕ} p 1 0 } ∷ []); entries = S .entries; targets = S .targets }) (t .small) })
     (with-entry-same t (entryOf p) (entryOf p) refl)
-    (record { small = ap (λ (S : Book). record { names = S .names; pairs = S .pairs; entries = S .entries; target = getD {A = ℕ} p 0 0 }) (t .small) })
+    (record { small = ap (λ (S : Book). record { names = S .names; pairs = S .pairs; entries = S .entries; targets = S .targets ++ (getD {A = ℕ} p 0 0 ∷ []) }) (t .small) })
 add-same (recased v w type e) t = with-entry-same t (entryOf (entryBody v type)) (entryOf (entryBody w type)) (entry-same v w type e)
 
--- What has been read of two books, the same but for case.
-record SameDraft (d e : Draft) : Type 0 where
-  books : SameBook (d .book) (e .book)
-  seen : d .seen ≡ e .seen
+targets-same : {B C : Book} → SameBook B C → B .targets ≡ C .targets
+targets-same t = ap (λ (S : Book). S .targets) (t .small)
 
-module _ {a b : Bytes} {at : ℕ} (s : Step a b at) {d e : Draft} (t : SameDraft d e) where
-  rules-at : bodyRules (kindAt a at) (bodyAt a at) (d .book .names) (length (d .book .entries)) (d .seen) ≡ bodyRules (kindAt b at) (bodyAt b at) (e .book .names) (length (e .book .entries)) (e .seen)
+module _ {a b : Bytes} {at : ℕ} (s : Step a b at) {B C : Book} (t : SameBook B C) where
+  rules-at : bodyRules (kindAt a at) (bodyAt a at) (B .names) (length (B .entries)) (length (B .targets)) ≡ bodyRules (kindAt b at) (bodyAt b at) (C .names) (length (C .entries)) (length (C .targets))
   rules-at =
-      rules-same (s .body) (d .book .names) (length (d .book .entries)) (d .seen)
-      ∙ rw (s .kind, ap (λ (B : Book). B .names) (t .books .small), entries, t .seen)
+      rules-same (s .body) (B .names) (length (B .entries)) (length (B .targets))
+      ∙ rw (s .kind, ap (λ (S : Book). S .names) (t .small), entries, targets-same t)
     where
-      entries : length (d .book .entries) ≡ length (e .book .entries)
-      entries = sym (length-map (d .book .entries) smallEntry) ∙ ap (λ (B : Book). length (B .entries)) (t .books .small) ∙ length-map (e .book .entries) smallEntry
+      entries : length (B .entries) ≡ length (C .entries)
+      entries = sym (length-map (B .entries) smallEntry) ∙ ap (λ (S : Book). length (S .entries)) (t .small) ∙ length-map (C .entries) smallEntry
 
   cut-at : length a ≡ length b → ltb (length a) (at + headLength) || ltb (length a) (nextAt a at) ≡ ltb (length b) (at + headLength) || ltb (length b) (nextAt b at)
   cut-at lengths = rw (lengths, s .size)
 
-  fault-same : length a ≡ length b → firstBroken (nextRules a at d) ≡ firstBroken (nextRules b at e)
+  fault-same : length a ≡ length b → firstBroken (nextRules a at B) ≡ firstBroken (nextRules b at C)
   unfolding recordRules
   fault-same lengths = ap firstBroken (ap₂ (λ (t : Bool) (rules : List (ℕ × Bool)). (cutShort, t) ∷ rules) (cut-at lengths) rules-at)
 
-  draft-same : SameDraft (nextDraft a at d) (nextDraft b at e)
-  draft-same = record {
-    books = rw (← s .kind) (add-same (s .body) (t .books));
-    seen = rw (s .kind, t .seen);
-  }
+  next-same : SameBook (withNext a at B) (withNext b at C)
+  next-same = rw (← s .kind) (add-same (s .body) t)
 
 -- Both are refused alike, or accepted and the same but for case.
 pub record SameParsed (p q : Parsed) : Type 0 where
   pub small : smallParsed p ≡ smallParsed q
 
-ended-same : (a b : Bytes) {d e : Draft} → length a ≡ length b → SameDraft d e → SameParsed (ended a d) (ended b e)
+ended-same : (a b : Bytes) {B C : Book} → length a ≡ length b → SameBook B C → SameParsed (ended a B) (ended b C)
 unfolding ended
-ended-same a b {d} {e} lengths t = rw (t .seen, lengths) (go (e .seen))
+ended-same a b {B} {C} lengths t = rw (ap length (targets-same t), lengths) (go (eqb (length (C .targets)) 0))
   where
-    go : (u : Bool) → SameParsed (cond u (accepted (d .book)) (refused noTarget (length b))) (cond u (accepted (e .book)) (refused noTarget (length b)))
-    go true = record { small = ap accepted (t .books .small) }
-    go false = record { small = refl }
+    go : (u : Bool) → SameParsed (cond u (refused noTarget (length b)) (accepted B)) (cond u (refused noTarget (length b)) (accepted C))
+    go true = record { small = refl }
+    go false = record { small = ap accepted (t .small) }
 
 one-of : {p q x y : Parsed} (u v : Bool) (n m : ℕ) → SameParsed p q → SameParsed x y → SameParsed (cond u (cond v p (refused n m)) x) (cond u (cond v q (refused n m)) y)
 one-of true true n m f g = f
 one-of true false n m f g = record { small = refl }
 one-of false v n m f g = g
 
-records-same : (more : ℕ) (a b : Bytes) (at : ℕ) {d e : Draft} → length a ≡ length b → DifferInCase (drop at a) (drop at b) → SameDraft d e
-    → SameParsed (recordsFrom more a at d) (recordsFrom more b at e)
+records-same : (more : ℕ) (a b : Bytes) (at : ℕ) {B C : Book} → length a ≡ length b → DifferInCase (drop at a) (drop at b) → SameBook B C
+    → SameParsed (recordsFrom more a at B) (recordsFrom more b at C)
 unfolding recordsFrom
 records-same zero a b at lengths r t = ended-same a b lengths t
-records-same (suc more) a b at {d} {e} lengths r t =
+records-same (suc more) a b at {B} {C} lengths r t =
     let s = step a b at r in
-    let next = records-same more a b (nextAt a at) lengths (s .rest) (draft-same s t) in
-    let place : ℕ → Type 0 = λ n. SameParsed (recordsFrom more a (nextAt a at) (nextDraft a at d)) (recordsFrom more b (at + headLength + n) (nextDraft b at e)) in
+    let next = records-same more a b (nextAt a at) lengths (s .rest) (next-same s t) in
+    let place : ℕ → Type 0 = λ n. SameParsed (recordsFrom more a (nextAt a at) (withNext a at B)) (recordsFrom more b (at + headLength + n) (withNext b at C)) in
     rw (lengths, fault-same s t lengths)
-    (one-of (ltb at (length b)) (eqb (firstBroken (nextRules b at e)) 0) (firstBroken (nextRules b at e)) at (subst place (s .size) next) (ended-same a b lengths t))
+    (one-of (ltb at (length b)) (eqb (firstBroken (nextRules b at C)) 0) (firstBroken (nextRules b at C)) at (subst place (s .size) next) (ended-same a b lengths t))
 
 same-size : {a b : Bytes} → DifferInCase a b → length a ≡ length b
 same-size same-rest = refl
@@ -180,7 +175,7 @@ same-size (respelt v w type {a} {b} h r) =
 pub parse-same : (a b : Bytes) → DifferInCase a b → SameParsed (parse a) (parse b)
 unfolding parse
 parse-same a b r =
-    rw (same-size r) (go (ltb maxBook (length b)) (records-same (length b) a b 0 (same-size r) r (record { books = record { small = refl }; seen = refl })))
+    rw (same-size r) (go (ltb maxBook (length b)) (records-same (length b) a b 0 (same-size r) r (record { small = refl })))
   where
     go : (u : Bool) {p q : Parsed} → SameParsed p q → SameParsed (cond u (refused bookTooLong 0) p) (cond u (refused bookTooLong 0) q)
     go true s = record { small = refl }

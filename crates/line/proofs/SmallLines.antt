@@ -19,7 +19,7 @@ abbrev pub smallEntry : Entry → Entry
 smallEntry e = record { word = smallBytes (e .word); type = e .type }
 
 abbrev pub smallBook : Book → Book
-smallBook B = record { names = B .names; pairs = B .pairs; entries = map smallEntry (B .entries); target = B .target }
+smallBook B = record { names = B .names; pairs = B .pairs; entries = map smallEntry (B .entries); targets = B .targets }
 
 abbrev smallWord : Word → Word
 smallWord w = record { at = w .at; bytes = smallBytes (w .bytes) }

@@ -1,5 +1,5 @@
 -- Partner lists compared position by position, and what that says of their order as lists: `at-most-of-compared`. The order has at most
--- one least list: `at-most-both`.
+-- one least list: `at-most-both`. Raising the first numbers of both lists changes nothing: `at-most-raised`.
 use Prim.Native.Nat.{ℕ, zero, suc, _-_, _≤_, _<_}
 use mathlib.Core.Path.{_≡_, refl, sym, ap, subst, _∙_}
 use mathlib.Core.List.{List, [], _∷_}
@@ -74,3 +74,9 @@ both (later {a} h) (later g) e f = ap (λ (l : List ℕ). a ∷ l) (both h g (cc
 
 pub at-most-both : {P Q : List ℕ} → AtMost P Q → AtMost Q P → P ≡ Q
 at-most-both h g = both h g refl refl
+
+-- The first numbers both raised by one.
+pub at-most-raised : {t u : ℕ} {A B : List ℕ} → AtMost (t ∷ A) (u ∷ B) → AtMost (suc t ∷ A) (suc u ∷ B)
+at-most-raised equal = equal
+at-most-raised {t} {u} (first l) = first {a = suc t} {b = suc u} (omega arith)
+at-most-raised (later m) = later m

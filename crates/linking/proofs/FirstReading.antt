@@ -1,25 +1,26 @@
 -- `firstReading` is right, over a test that decides the order and for words whose entry numbers ascend.
 -- `first-reading-some`, `first-reading-none`: what it gives is the first reading, and it gives none exactly when there is none.
 -- `first-reading-unique`: any first reading is what it gives.
-use Prim.Native.Nat.{ℕ, suc, _<_}
+use Prim.Native.Nat.{ℕ, zero, suc, _<_}
+use native.Mathlib.Omega.{arith}
 use mathlib.Core.Path.{_≡_, refl, sym, ap, _∙_}
 use mathlib.Core.Logic.{_↔_}
 use mathlib.Core.Option.{Option, none, some, Option·some-ne-none}
 use mathlib.Core.List.{List, [], _∷_, _++_, append-nil, append-assoc, List·Memᴰ, List·Memᴰ·head, List·Memᴰ·tail, List·Memᴰ·not-nil}
-use lib.ListN.{length, drop, take as take-front}
+use lib.ListN.{length, getD, drop, take as take-front}
 use lib.Seq.{take-append-seam, drop-append-seam}
 use Rattle.pregroup.specs.Types.{Basic, PregroupType}
 use Rattle.pregroup.specs.Order.{Relation}
 use Rattle.pregroup.specs.Tests.{Test, Decides}
 use Rattle.linking.specs.Linking.{IsLinking, AtMost, first, later}
-use Rattle.linking.specs.Reading.{NumberedEntry, Words, Choice, empty, take, IsReading, IsFirst, Answer, firstEntry, firstBehind, firstReading}
+use Rattle.linking.specs.Reading.{NumberedEntry, Words, Choice, empty, take, IsReading, IsFirst, Answer, answer, Selection, firstEntry, firstBehind, firstTarget, firstReading}
 use Rattle.linking.specs.Ascending.{Ascending, empty, more, AllAscending}
-use Rattle.linking.proofs.Comparison.{at-most-both}
+use Rattle.linking.proofs.Comparison.{at-most-both, at-most-raised}
 use Rattle.linking.proofs.FirstLinking.{FirstLinking, least, no-linking, first-linking}
 
 -- What is said of the outcome of a search over the choices of some words, joined behind A: the first entry numbers and linking, or that
 -- there are none.
-data Behind (Le : Relation) (s : Basic) (words : Words) (A : PregroupType) : Option Answer → Type 0 where
+data Behind (Le : Relation) (s : Basic) (words : Words) (A : PregroupType) : Option Selection → Type 0 where
   read : {ns P : List ℕ} {X : PregroupType} → Choice words ns X → IsLinking Le s (A ++ X) P
       → ((ns′ P′ : List ℕ) (X′ : PregroupType) → Choice words ns′ X′ → IsLinking Le s (A ++ X′) P′ → AtMost (ns ++ P) (ns′ ++ P′))
       → Behind Le s words A (some (ns, P))
@@ -49,7 +50,7 @@ module _ {Le : Relation} {s : Basic} {A : PregroupType} where
 
   -- An entry whose type, behind A, has no reading with the rest: the other entries decide.
   behind-other :
-      {e : NumberedEntry} {es : List NumberedEntry} {rest : Words} {o : Option Answer}
+      {e : NumberedEntry} {es : List NumberedEntry} {rest : Words} {o : Option Selection}
       → ((ns P : List ℕ) (X : PregroupType) → Choice rest ns X → IsLinking Le s ((A ++ e .type) ++ X) P → ⊥) → Behind Le s (es ∷ rest) A o
       → Behind Le s ((e ∷ es) ∷ rest) A o
   behind-other {e} {es} {rest} n (read {ns} {P} (take m c) t f) = read (take (List·Memᴰ·tail m) c) t (λ ns′ P′ X′ d. at P′ (chosen d))
@@ -78,7 +79,7 @@ module _ {Le : Relation} {s : Basic} {A : PregroupType} where
 
   -- One entry, then the others of the word.
   behind-step :
-      {e : NumberedEntry} {es : List NumberedEntry} {rest : Words} {o r : Option Answer} → ((f : NumberedEntry) → List·Memᴰ f es → e .number < f .number)
+      {e : NumberedEntry} {es : List NumberedEntry} {rest : Words} {o r : Option Selection} → ((f : NumberedEntry) → List·Memᴰ f es → e .number < f .number)
       → Behind Le s rest (A ++ e .type) o → Behind Le s (es ∷ rest) A r
       → Behind Le s ((e ∷ es) ∷ rest) A (elim o [ none ↦ r | some a ↦ some (e .number ∷ a .0, a .1) ])
   behind-step lower (read c t f) others = behind-this lower c t f
@@ -92,7 +93,7 @@ module _ {Le : Relation} {s : Basic} {A : PregroupType} where
 
   -- `firstEntry` is right where the search over the rest is.
   first-entry :
-      {rest : Words} {f : PregroupType → Option Answer} {es : List NumberedEntry} → ((Y : PregroupType) → Behind Le s rest Y (f Y)) → Ascending es
+      {rest : Words} {f : PregroupType → Option Selection} {es : List NumberedEntry} → ((Y : PregroupType) → Behind Le s rest Y (f Y)) → Ascending es
       → Behind Le s (es ∷ rest) A (firstEntry f A es)
   unfolding firstEntry
   first-entry b empty = behind-no-entry
@@ -105,17 +106,59 @@ module _ {le : Test} {Le : Relation} (decides : Decides le Le) (s : Basic) where
   first-behind (more up ups) A = first-entry (λ Y. first-behind ups Y) up
 
 -- What is said of the outcome of a search for the first reading: the first reading, or that there is none.
-pub data FirstReading (Le : Relation) (s : Basic) (words : Words) : Option Answer → Type 0 where
-  is-first : {ns P : List ℕ} → IsFirst Le s words ns P → FirstReading Le s words (some (ns, P))
-  no-reading : ((ns P : List ℕ) → IsReading Le s words ns P → ⊥) → FirstReading Le s words none
+pub data FirstReading (Le : Relation) (targets : List Basic) (words : Words) : Option Answer → Type 0 where
+  is-first : {t : ℕ} {ns P : List ℕ} → IsFirst Le targets words t ns P → FirstReading Le targets words (some (answer t ns P))
+  no-reading : ((t : ℕ) (ns P : List ℕ) → IsReading Le targets words t ns P → ⊥) → FirstReading Le targets words none
 
-first-of-behind : {Le : Relation} {s : Basic} {words : Words} {o : Option Answer} → Behind Le s words [] o → FirstReading Le s words o
-first-of-behind (read {X = X} c t f) =
-    is-first (record {
-      reading = record { type = X; chosen = c; linking = t };
-      least = λ ns′ P′ r. f ns′ P′ (r .type) (r .chosen) (r .linking);
-    })
-first-of-behind (unread n) = no-reading (λ ns P r. n ns P (r .type) (r .chosen) (r .linking))
+-- A reading for one of some targets is for the first of them or for one of the others, where its number is one less.
+data For (Le : Relation) (s : Basic) (targets : List Basic) (words : Words) (ns P : List ℕ) : ℕ → Type 0 where
+  first-one : {X : PregroupType} → Choice words ns X → IsLinking Le s X P → For Le s targets words ns P 0
+  another : {t : ℕ} → IsReading Le targets words t ns P → For Le s targets words ns P (suc t)
+
+module _ {Le : Relation} {s : Basic} {targets : List Basic} {words : Words} where
+  reading-for : {ns P : List ℕ} (t : ℕ) → IsReading Le (s ∷ targets) words t ns P → For Le s targets words ns P t
+  reading-for zero r = first-one (r .chosen) (r .linking)
+  reading-for (suc t) r = another {t = t} (record { target-there = omega (arith, r .target-there); type = r .type; chosen = r .chosen; linking = r .linking })
+
+  reading-of-another : {ns P : List ℕ} {t : ℕ} → IsReading Le targets words t ns P → IsReading Le (s ∷ targets) words (suc t) ns P
+  reading-of-another r = record { target-there = omega (arith, r .target-there); type = r .type; chosen = r .chosen; linking = r .linking }
+
+  -- The first target has a reading: its first one is the first of all.
+  first-here : {ns P : List ℕ} {X : PregroupType} → Choice words ns X → IsLinking Le s X P
+      → ((ns′ P′ : List ℕ) (X′ : PregroupType) → Choice words ns′ X′ → IsLinking Le s X′ P′ → AtMost (ns ++ P) (ns′ ++ P′))
+      → IsFirst Le (s ∷ targets) words 0 ns P
+  first-here {ns} {P} {X} c l f = record {
+    reading = record { target-there = omega arith; type = X; chosen = c; linking = l };
+    least = λ t′ ns′ P′ r. at (reading-for t′ r);
+  }
+    where
+      at : {t′ : ℕ} {ns′ P′ : List ℕ} → For Le s targets words ns′ P′ t′ → AtMost (0 ∷ (ns ++ P)) (t′ ∷ (ns′ ++ P′))
+      at {ns′} {P′} (first-one {X = X′} c′ l′) = later (f ns′ P′ X′ c′ l′)
+      at (another {t} r) = first {a = 0} {b = suc t} (omega arith)
+
+  -- It has none: the first reading for the others is the first of all.
+  first-of-others : {t : ℕ} {ns P : List ℕ} → ((ns P : List ℕ) (X : PregroupType) → Choice words ns X → IsLinking Le s X P → ⊥) → IsFirst Le targets words t ns P
+      → IsFirst Le (s ∷ targets) words (suc t) ns P
+  first-of-others {t} {ns} {P} n i = record { reading = reading-of-another (i .reading); least = λ t′ ns′ P′ r. at (reading-for t′ r) }
+    where
+      at : {t′ : ℕ} {ns′ P′ : List ℕ} → For Le s targets words ns′ P′ t′ → AtMost (suc t ∷ (ns ++ P)) (t′ ∷ (ns′ ++ P′))
+      at {ns′} {P′} (first-one {X} c l) = absurd (n ns′ P′ X c l)
+      at {ns′} {P′} (another {t = t′} r) = at-most-raised (i .least t′ ns′ P′ r)
+
+  none-of-others : ((ns P : List ℕ) (X : PregroupType) → Choice words ns X → IsLinking Le s X P → ⊥) → ((t : ℕ) (ns P : List ℕ) → IsReading Le targets words t ns P → ⊥)
+      → (t : ℕ) (ns P : List ℕ) → IsReading Le (s ∷ targets) words t ns P → ⊥
+  none-of-others n m t ns P r = at (reading-for t r)
+    where
+      at : {t : ℕ} → For Le s targets words ns P t → ⊥
+      at (first-one {X} c l) = n ns P X c l
+      at (another {t} r′) = m t ns P r′
+
+  -- One target, then the others.
+  first-step : {o : Option Selection} {r : Option Answer} → Behind Le s words [] o → FirstReading Le targets words r → FirstReading Le (s ∷ targets) words (firstTarget o r)
+  unfolding firstTarget
+  first-step (read c l f) others = is-first (first-here c l f)
+  first-step (unread n) (is-first i) = is-first (first-of-others n i)
+  first-step (unread n) (no-reading m) = no-reading (none-of-others n m)
 
 pub choice-length : {words : Words} {ns : List ℕ} {X : PregroupType} → Choice words ns X → length ns ≡ length words
 choice-length empty = refl
@@ -128,37 +171,42 @@ joined-same ns P ns′ P′ n e = (
   sym (drop-append-seam ns P) ∙ ap (drop (length ns)) e ∙ ap (λ (k : ℕ). drop k (ns′ ++ P′)) n ∙ drop-append-seam ns′ P′,
 )
 
-none-iff : {Le : Relation} {s : Basic} {words : Words} {o : Option Answer} → FirstReading Le s words o → (o ≡ none) ↔ ((ns P : List ℕ) → IsReading Le s words ns P → ⊥)
-none-iff (is-first {ns} {P} f) = (λ e. absurd (Option·some-ne-none (ns, P) e), λ n. absurd (n ns P (f .reading)))
+none-iff : {Le : Relation} {targets : List Basic} {words : Words} {o : Option Answer} → FirstReading Le targets words o
+    → (o ≡ none) ↔ ((t : ℕ) (ns P : List ℕ) → IsReading Le targets words t ns P → ⊥)
+none-iff (is-first {t} {ns} {P} f) = (λ e. absurd (Option·some-ne-none (answer t ns P) e), λ n. absurd (n t ns P (f .reading)))
 none-iff (no-reading n) = (λ e. n, λ m. refl)
 
-module _ {Le : Relation} {s : Basic} {words : Words} {ns P : List ℕ} where
-  some-first : FirstReading Le s words (some (ns, P)) → IsFirst Le s words ns P
+module _ {Le : Relation} {targets : List Basic} {words : Words} {t : ℕ} {ns P : List ℕ} where
+  some-first : FirstReading Le targets words (some (answer t ns P)) → IsFirst Le targets words t ns P
   some-first (is-first f) = f
 
   -- At most one reading is the first.
-  unique : {o : Option Answer} → FirstReading Le s words o → IsFirst Le s words ns P → o ≡ some (ns, P)
-  unique (is-first {ns = ns′} {P = P′} f) t =
-      let length-same = choice-length (f .reading .chosen) ∙ sym (choice-length (t .reading .chosen)) in
-      let e = joined-same ns′ P′ ns P length-same (at-most-both (f .least ns P (t .reading)) (t .least ns′ P′ (f .reading))) in
-      let e₀ = e .0 in
-      let e₁ = e .1 in
+  unique : {o : Option Answer} → FirstReading Le targets words o → IsFirst Le targets words t ns P → o ≡ some (answer t ns P)
+  unique (is-first {t = t′} {ns = ns′} {P = P′} f) i =
+      let length-same = choice-length (f .reading .chosen) ∙ sym (choice-length (i .reading .chosen)) in
+      let both = at-most-both (f .least t ns P (i .reading)) (i .least t′ ns′ P′ (f .reading)) in
+      let e = joined-same ns′ P′ ns P length-same (ap (drop 1) both) in
+      let e₀ : t′ ≡ t = ap (λ (l : List ℕ). getD l 0 0) both in
+      let e₁ = e .0 in
+      let e₂ = e .1 in
       cc
-  unique (no-reading n) t = absurd (n ns P (t .reading))
+  unique (no-reading n) i = absurd (n t ns P (i .reading))
 
-module _ {le : Test} {Le : Relation} (decides : Decides le Le) (s : Basic) {words : Words} (ascending : AllAscending words) where
-  pub first-reading : FirstReading Le s words (firstReading le s words)
+module _ {le : Test} {Le : Relation} (decides : Decides le Le) {words : Words} (ascending : AllAscending words) where
+  pub first-reading : (targets : List Basic) → FirstReading Le targets words (firstReading le targets words)
   unfolding firstReading
-  first-reading = first-of-behind (first-behind decides s ascending [])
+  first-reading [] = no-reading (λ t ns P r. absurd (omega (arith, r .target-there)))
+  first-reading (s ∷ targets) = first-step (first-behind decides s ascending []) (first-reading targets)
 
-  -- What `firstReading` gives is the first reading.
-  pub first-reading-some : {ns P : List ℕ} → firstReading le s words ≡ some (ns, P) → IsFirst Le s words ns P
-  first-reading-some e = some-first (rw e at first-reading)
+  module _ {targets : List Basic} where
+    -- What `firstReading` gives is the first reading.
+    pub first-reading-some : {t : ℕ} {ns P : List ℕ} → firstReading le targets words ≡ some (answer t ns P) → IsFirst Le targets words t ns P
+    first-reading-some e = some-first (rw e at (first-reading targets))
 
-  -- It gives none exactly when there is no reading.
-  pub first-reading-none : (firstReading le s words ≡ none) ↔ ((ns P : List ℕ) → IsReading Le s words ns P → ⊥)
-  first-reading-none = none-iff first-reading
+    -- It gives none exactly when there is no reading.
+    pub first-reading-none : (firstReading le targets words ≡ none) ↔ ((t : ℕ) (ns P : List ℕ) → IsReading Le targets words t ns P → ⊥)
+    first-reading-none = none-iff (first-reading targets)
 
-  -- Any first reading is what it gives.
-  pub first-reading-unique : {ns P : List ℕ} → IsFirst Le s words ns P → firstReading le s words ≡ some (ns, P)
-  first-reading-unique t = unique first-reading t
+    -- Any first reading is what it gives.
+    pub first-reading-unique : {t : ℕ} {ns P : List ℕ} → IsFirst Le targets words t ns P → firstReading le targets words ≡ some (answer t ns P)
+    first-reading-unique i = unique (first-reading targets) i

@@ -8,4 +8,5 @@ pub mod Comparison
 pub mod Greedy
 pub mod FirstLinking
 pub mod FirstReading
+pub mod Targets
 pub mod Derivation

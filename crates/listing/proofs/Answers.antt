@@ -1,5 +1,5 @@
--- What `read_line` answers is listed whole: a row for each word, with its entry, and a row for each simple type of the reading's choice, with its
--- partner. Nothing of what `listing` says of other values is needed for it.
+-- What `read_line` answers is listed whole: the target's number in the first row, a row for each word, with its entry, and a row for each simple
+-- type of the reading's choice, with its partner. Nothing of what `listing` says of other values is needed for it.
 use Prim.Native.Nat.{ℕ, suc, _+_, _-_, _≤_, _<_}
 use native.Mathlib.Numerals.{add-one}
 use native.Mathlib.Omega.{arith}
@@ -10,7 +10,7 @@ use mathlib.Core.List.{List, [], _∷_, _++_, map, List·Memᴰ, List·Memᴰ·n
 use lib.ListN.{length, take, drop}
 use lib.Seq.{take-append-seam, drop-append-add, getD-append-seam, take-length}
 use Rattle.pregroup.specs.Types.{PregroupType}
-use Rattle.linking.specs.Reading.{NumberedEntry, Words, Choice, empty, IsFirst}
+use Rattle.linking.specs.Reading.{NumberedEntry, Words, Choice, empty, IsFirst, answer}
 use Rattle.linking.specs.Reading.{take as chosen-entry}
 use Rattle.book.specs.Format.{Bytes, Entry, Book}
 use Rattle.line.specs.LineWords.{Word, wordsOf}
@@ -69,37 +69,41 @@ module _ (B : Book) where
       let r = choice-joined c typed behind in
       (rw (← number, t .2, r .0), omega (arith, r .1), λ n k. ⊎-elim (λ q. omega (arith, t .1)) (λ l. r .2 n l) (List·Memᴰ·cases-cons k))
 
--- The parts of an answer's values are its entry numbers and its partners.
-module _ (entries partners : List ℕ) where
-  entries-counted : counted (valuesOf (entries, partners)) 0 ≡ entries
+-- The parts of an answer's values are the target's number, its entry numbers and its partners.
+module _ (target : ℕ) (entries partners : List ℕ) where
+  entries-counted : counted (valuesOf (answer target entries partners)) 1 ≡ entries
   entries-counted = take-append-seam entries (length partners ∷ partners)
 
-  partners-counted : counted (valuesOf (entries, partners)) (suc (length entries)) ≡ partners
+  partners-counted : counted (valuesOf (answer target entries partners)) (suc (suc (length entries))) ≡ partners
   partners-counted =
       let values = entries ++ (length partners ∷ partners) in
       let behind = ap (λ (n : ℕ). drop n values) (sym (add-one (length entries))) ∙ drop-append-add entries (length partners ∷ partners) 1 in
       rw (getD-append-seam entries (length partners) partners 0) (ap (take (length partners)) behind ∙ take-length partners)
 
   answer-rows : (names : List Bytes) (of-book : List Entry) (words : List Word)
-      → answerRows names of-book words (valuesOf (entries, partners)) ≡ readingRows names of-book words entries partners
-  answer-rows names of-book words = rw (entries-counted, partners-counted)
+      → answerRows names of-book words (valuesOf (answer target entries partners)) ≡ readingRows names of-book words target entries partners
+  answer-rows names of-book words =
+      let values = valuesOf (answer target entries partners) in
+      ap (λ (chosen : List ℕ). readingRows names of-book words target chosen (counted values (suc (suc (length chosen))))) entries-counted
+      ∙ ap (readingRows names of-book words target entries) partners-counted
 
 -- The listing of a reading.
 pub record ListsReading (book line text : Bytes) : Type 0 where
   pub contents : Book
   pub words : Words
+  pub target : ℕ
   pub entries : List ℕ
   pub partners : List ℕ
   pub type : PregroupType
   -- It is the first reading of the line, by this choice.
   pub readable : Readable book line contents words
-  pub first : IsFirst (OrderOf contents) (contents .target) words entries partners
+  pub first : IsFirst (OrderOf contents) (contents .targets) words target entries partners
   pub chosen : Choice words entries type
   -- Each word has an entry, each simple type a partner, and the simple types are those of the entries.
   pub entry-each : length entries ≡ length (wordsOf line)
   pub partner-each : length partners ≡ length type
   pub joins : joined (contents .entries) entries ≡ type
-  pub rows : text ≡ readingRows (contents .names) (contents .entries) (wordsOf line) entries partners
+  pub rows : text ≡ readingRows (contents .names) (contents .entries) (wordsOf line) target entries partners
 
 -- What is promised of an answer makes its listing that of the first reading.
 pub answer-listed : (book line : Bytes) (buffer after : List ℕ) (n : ℕ) → Promised book line buffer (Read n) after → ListsReading book line (listing book line (Read n) after)
@@ -113,6 +117,7 @@ answer-listed book line buffer after n p =
     record {
       contents = B;
       words = a .1;
+      target = w .target;
       entries = w .entries;
       partners = w .partners;
       type = reading .type;
@@ -122,5 +127,5 @@ answer-listed book line buffer after n p =
       entry-each = each .1;
       partner-each = reading .linking .count;
       joins = each .0;
-      rows = rw (a .2 .book-accepted, passes .bytes-fine, passes .words-fine, w .whole) (answer-rows (w .entries) (w .partners) (B .names) (B .entries) (wordsOf line));
+      rows = rw (a .2 .book-accepted, passes .bytes-fine, passes .words-fine, w .whole) (answer-rows (w .target) (w .entries) (w .partners) (B .names) (B .entries) (wordsOf line));
     }

@@ -95,7 +95,7 @@ module _ (book : Bytes) (names : List ℕ) (types : ℕ) (offsets : List ℕ) (c
       by (inr h) = shown [] (no-type book offsets count (kept .entries-kept) number h) (omega arith)
 
   module _ (line : Bytes) (starts ends : List ℕ) (words : ℕ) (l : LineKept line starts ends words) where
-    module _ (chosen partners : List ℕ) (c : Narrow chosen) (p : Narrow partners) (few : length chosen < 65536) where
+    module _ (target : ℕ) (chosen partners : List ℕ) (t : target < 65536) (c : Narrow chosen) (p : Narrow partners) (few : length chosen < 65536) where
       abbrev all-names : List Bytes
       all-names = bodiesAt book names types
 
@@ -124,15 +124,16 @@ module _ (book : Bytes) (names : List ℕ) (types : ℕ) (offsets : List ℕ) (c
           word-rows-within 41 chosen (λ i. omega (arith, decimal-length 4 (getD {A = ℕ} chosen i 0) (omega (arith, c i)))) 0
           (wordsOf line) (l .split .words-fine)
 
-      reading-countable : length partners < placeBound → Countable 0 (readingRows all-names of-book (wordsOf line) chosen partners)
+      reading-countable : length partners < placeBound → Countable 0 (readingRows all-names of-book (wordsOf line) target chosen partners)
       reading-countable many =
           record {
             small = omega (
               arith,
-              reading-length all-names of-book (wordsOf line) chosen partners,
-              row-of-three yes (decimal (length chosen)) (decimal (length partners)),
+              reading-length all-names of-book (wordsOf line) target chosen partners,
+              row-of-four yes (decimal (length chosen)) (decimal (length partners)) (decimal target),
               decimal-short (length chosen) (omega arith),
               decimal-short (length partners) many,
+              decimal-short target (omega arith),
               word-rows-short,
               words-few 0 (wordsOf line) (omega arith) (l .split .words-fine),
               type-rows-within 65554 all-names partners 0 (joined of-book chosen) (λ j x h m. type-row-short j x (omega arith) m),
@@ -143,7 +144,7 @@ module _ (book : Bytes) (names : List ℕ) (types : ℕ) (offsets : List ℕ) (c
     pub values-countable : (values : List ℕ) → Narrow values
         → Countable 0 (answerRows (bodiesAt book names types) (entriesKept book offsets count) (wordsOf line) values)
     values-countable values n =
-        let chosen = counted values 0 in
-        let partners = counted values (suc (length chosen)) in
-        reading-countable chosen partners (narrow-counted values n 0) (narrow-counted values n (suc (length chosen))) (few-counted values n 0)
-        (omega (arith, few-counted values n (suc (length chosen))))
+        let chosen = counted values 1 in
+        let behind = suc (suc (length chosen)) in
+        reading-countable (getD {A = ℕ} values 0 0) chosen (counted values behind) (n 0) (narrow-counted values n 1) (narrow-counted values n behind)
+        (few-counted values n 1) (omega (arith, few-counted values n behind))

@@ -77,10 +77,10 @@ joined-within most entries short (number ∷ chosen) =
       λ x m. ⊎-elim (λ k. short number .signs x k) (λ k. rest .1 x k) (List·Memᴰ·append-cases (typeOf entries number) m),
     )
 
-pub reading-length : (names : List Bytes) (entries : List Entry) (words : List Word) (chosen partners : List ℕ)
-    → length (readingRows names entries words chosen partners)
-    ≡ length (firstRow (length chosen) (length partners)) + length (wordRows chosen 0 words) + length (typeRows names partners 0 (joined entries chosen))
-reading-length names entries words chosen partners =
+pub reading-length : (names : List Bytes) (entries : List Entry) (words : List Word) (target : ℕ) (chosen partners : List ℕ)
+    → length (readingRows names entries words target chosen partners)
+    ≡ length (firstRow (length chosen) (length partners) target) + length (wordRows chosen 0 words) + length (typeRows names partners 0 (joined entries chosen))
+reading-length names entries words target chosen partners =
     let of-words = wordRows chosen 0 words in
     let of-types = typeRows names partners 0 (joined entries chosen) in
-    omega (arith, length-append (firstRow (length chosen) (length partners)) (of-words ++ of-types), length-append of-words of-types)
+    omega (arith, length-append (firstRow (length chosen) (length partners) target) (of-words ++ of-types), length-append of-words of-types)

@@ -26,7 +26,7 @@ use Rattle.listing.specs.Listing.{yes, firstRow, refusalRow, typeRow, wo
 use Rattle.listing.specs.Placed.{placeBound}
 use Rattle.listing.proofs.Decimals.{decimal-length}
 use Rattle.listing.proofs.Bounds.{refusal-row-short}
-use Rattle.listing.proofs.Lengths.{row-of-three, row-of-four, word-rows-within, type-rows-within, TypeShort, joined-within, reading-length}
+use Rattle.listing.proofs.Lengths.{row-of-four, word-rows-within, type-rows-within, TypeShort, joined-within, reading-length}
 use Rattle.listing.proofs.Answers.{choice-joined, ListsReading, answer-listed}
 
 -- What holds of all of a list, and of what counts where nothing is there, holds at every place.
@@ -96,13 +96,14 @@ module _ (book line text : Bytes) (r : ListsReading book line text) where
       at-each (λ (number : ℕ). number < maxEntries) (r .entries) 0 (omega arith)
       (λ number m. omega (arith, choice-joined (r .contents) (r .chosen) (wordsOf line) (passes .words-are) .2 number m, within .few))
 
-  first-row-short : length (firstRow (length (r .entries)) (length (r .partners))) ≤ 11
+  first-row-short : length (firstRow (length (r .entries)) (length (r .partners)) (r .target)) ≤ 13
   first-row-short =
       omega (
         arith,
-        row-of-three yes (decimal (length (r .entries))) (decimal (length (r .partners))),
+        row-of-four yes (decimal (length (r .entries))) (decimal (length (r .partners))) (decimal (r .target)),
         decimal-length 1 (length (r .entries)) (omega (arith, r .entry-each, few-words)),
         decimal-length 2 (length (r .partners)) (omega (arith, partner-each, few-simples)),
+        decimal-length 0 (r .target) (omega (arith, r .first .reading .target-there, within .few-targets)),
       )
 
   word-rows-short : length (wordRows (r .entries) 0 (wordsOf line)) ≤ length (wordsOf line) * 40
@@ -129,7 +130,7 @@ module _ (book line text : Bytes) (r : ListsReading book line text) where
       omega (
         arith,
         ap length (r .rows),
-        reading-length names (r .contents .entries) (wordsOf line) (r .entries) (r .partners),
+        reading-length names (r .contents .entries) (wordsOf line) (r .target) (r .entries) (r .partners),
         first-row-short,
         word-rows-short,
         few-words,

@@ -1,10 +1,9 @@
 -- Rendering: a piece that was counted is written if there is room for it; and the listing by its cases: book, line and values.
-use Prim.Native.Nat.{ℕ, _+_, _≤_, _<_}
-use native.Mathlib.Numerals.{add-one}
+use Prim.Native.Nat.{ℕ, suc, _+_, _≤_, _<_}
 use native.Mathlib.Omega.{arith}
 use mathlib.Core.Path.{_≡_, refl, ap, _∙_}
 use mathlib.Core.List.{List, _++_}
-use lib.ListN.{length, drop}
+use lib.ListN.{length, getD, drop}
 use lib.Seq.{sets-eq}
 use Rattle.book.specs.Format.{Bytes, Entry, Book, refused, parse}
 use Rattle.book.specs.Kept.{Store, Opened, bodiesAt}
@@ -19,22 +18,23 @@ use Rattle.listing.specs.Placed.{Placed}
 use Rattle.listing.specs.Parts.{BookKept}
 
 -- The piece was counted, with no room at all, and is then put where there is room.
-pub renders-written : (piece : Bytes) {text nowhere nothing after : Bytes} {needed behind : ℕ} → Placed nowhere 0 piece nothing needed → needed ≤ length text
+pub renders-written : (piece text : Bytes) {after : Bytes} {needed behind : ℕ} → needed ≡ 0 + length piece → needed ≤ length text
     → Placed text 0 piece after behind → Renders piece text (Written needed) after
-renders-written piece {text} {needed = needed} count room p =
-    let size : needed ≡ length piece = omega (arith, count .next) in
+renders-written piece text size room p =
     let start : 0 + length piece ≡ length piece = omega arith in
-    (size, omega arith, p .put ∙ sets-eq piece text 0 (omega arith) ∙ ap (λ (n : ℕ). piece ++ drop n text) start)
+    (size ∙ start, omega arith, p .put ∙ sets-eq piece text 0 (omega arith) ∙ ap (λ (n : ℕ). piece ++ drop n text) start)
 
-pub renders-short : (piece text : Bytes) {nowhere nothing : Bytes} {needed : ℕ} → Placed nowhere 0 piece nothing needed → length text < needed
-    → Renders piece text (TooShort needed) text
-renders-short piece text {needed = needed} count short = let size : needed ≡ length piece = omega (arith, count .next) in (size, omega arith, refl)
+pub renders-short : (piece text : Bytes) {needed : ℕ} → needed ≡ 0 + length piece → length text < needed → Renders piece text (TooShort needed) text
+renders-short piece text size short = (omega arith, omega arith, refl)
 
 module _ (names : List Bytes) (entries : List Entry) where
   -- The parts of the values are those that are counted.
-  pub answer-parts : (words : List Word) (values chosen partners : List ℕ) → chosen ≡ counted values 0 → partners ≡ counted values (length chosen + 1)
-      → readingRows names entries words chosen partners ≡ answerRows names entries words values
-  answer-parts words values chosen partners c p = rw (p, add-one (length chosen), c)
+  pub answer-parts : (words : List Word) (values : List ℕ) (target : ℕ) (chosen partners : List ℕ)
+      → target ≡ getD {A = ℕ} values 0 0 → chosen ≡ counted values 1 → partners ≡ counted values (length chosen + 2)
+      → readingRows names entries words target chosen partners ≡ answerRows names entries words values
+  answer-parts words values target chosen partners t c p =
+      let behind : length chosen + 2 ≡ suc (suc (length chosen)) = omega arith in
+      rw (p, behind, c, t)
 
   pub line-stopped : {line : Bytes} {number value : ℕ} (values : List ℕ) → Stopped line number value → refusalRow number value ≡ lineRows names entries line values
   line-stopped values (at-byte e) = rw e
@@ -48,7 +48,7 @@ pub book-refused : (book line : Bytes) (values : List ℕ) (number value : ℕ) 
 book-refused book line values number value e = rw e
 
 -- What is kept of an accepted book serves its listings.
-module _ (book : Bytes) (s : Store) (types count target : ℕ) (B : Book) (o : Opened book s types count target B) where
+module _ (book : Bytes) (s : Store) (types count goals : ℕ) (B : Book) (o : Opened book s types count goals B) where
   pub opened-kept : BookKept book (s .names) types (s .entries) count
   opened-kept =
       record {

@@ -23,9 +23,9 @@ yes = 121 ∷ 101 ∷ 115 ∷ []
 abbrev pub no : Bytes
 no = 110 ∷ 111 ∷ []
 
--- The first row of an answer: word count, simple type count.
-abbrev pub firstRow : ℕ → ℕ → Bytes
-firstRow words simples = row (yes ∷ decimal words ∷ decimal simples ∷ [])
+-- The first row of an answer: word count, simple type count, the target's number.
+abbrev pub firstRow : ℕ → ℕ → ℕ → Bytes
+firstRow words simples target = row (yes ∷ decimal words ∷ decimal simples ∷ decimal target ∷ [])
 
 -- A word's row: its number, the word as it is typed, its entry.
 abbrev pub wordRow : ℕ → Bytes → ℕ → Bytes
@@ -58,18 +58,19 @@ unfoldable pub joined : List Entry → List ℕ → PregroupType
 joined entries [] = []
 joined entries (number ∷ chosen) = typeOf entries number ++ joined entries chosen
 
--- The rows of a reading, by its entry numbers and its partners, with the names and the entries of its book.
-abbrev pub readingRows : List Bytes → List Entry → List Word → List ℕ → List ℕ → Bytes
-readingRows names entries words chosen partners =
-    firstRow (length chosen) (length partners) ++ (wordRows chosen 0 words ++ typeRows names partners 0 (joined entries chosen))
+-- The rows of a reading, by its target's number, its entry numbers and its partners, with the names and the entries of its book.
+abbrev pub readingRows : List Bytes → List Entry → List Word → ℕ → List ℕ → List ℕ → Bytes
+readingRows names entries words target chosen partners =
+    firstRow (length chosen) (length partners) target ++ (wordRows chosen 0 words ++ typeRows names partners 0 (joined entries chosen))
 
 -- The values that stand behind their count.
 abbrev pub counted : List ℕ → ℕ → List ℕ
 counted values at = take (getD {A = ℕ} values at 0) (drop (suc at) values)
 
--- The rows of an answer's values: n, the n entry numbers, m, the m partners.
+-- The rows of an answer's values: the target's number, n, the n entry numbers, m, the m partners. A first value that is not there counts as 0.
 abbrev pub answerRows : List Bytes → List Entry → List Word → List ℕ → Bytes
-answerRows names entries words values = readingRows names entries words (counted values 0) (counted values (suc (length (counted values 0))))
+answerRows names entries words values =
+    readingRows names entries words (getD {A = ℕ} values 0 0) (counted values 1) (counted values (suc (suc (length (counted values 1)))))
 
 -- A line that breaks 11 or 12 has no words to list: its refusal is listed.
 abbrev pub orRefused : ℕ → Option ℕ → Bytes → Bytes
@@ -94,10 +95,10 @@ abbrev pub listing : Bytes → Bytes → LineAnswer → List ℕ → Bytes
 listing book line (Read n) buffer = listed book line (take n buffer)
 listing book line (Refused number value) buffer = refusalRow number value
 
--- How many bytes the listing of what `read_line` answers has at most: 11 for its first row, 40 for each word and 27 for each simple type.
--- `src/lib.rt` has the same figure.
+-- How many bytes the listing of what `read_line` answers has at most: 13 for its first row (`yes 24 288 7` and the byte that ends it),
+-- 40 for each word and 27 for each simple type. `src/lib.rt` has the same figure.
 abbrev pub maxListing : ℕ
-maxListing = 11 + 40 * maxWords + 27 * maxString
+maxListing = 13 + 40 * maxWords + 27 * maxString
 
 -- A listing for which there is room is written whole, and the bytes behind it stay. For a longer one the bytes needed are returned, and
 -- nothing is written.

@@ -7,14 +7,16 @@ use book::Scan;
 use book::records::scan_book;
 use figures::limits::MAX_ENTRIES;
 use figures::limits::MAX_STRING;
+use figures::limits::MAX_TARGETS;
 use figures::limits::MAX_TYPES;
 use figures::limits::MAX_WORDS;
 use line::CheckedLine;
 use line::split::split;
 use parts::counted;
+use parts::value_at;
 use reader::LineAnswer;
-use rows::put_head_row;
 use rows::put_reading;
+use rows::put_refusal_row;
 ghost use Prim.Native.Nat.{_≤_};
 ghost use Rattle.book.specs.Kept.{bodiesAt};
 ghost use Rattle.line.specs.LineWords.{wordsOf};
@@ -22,9 +24,9 @@ ghost use Rattle.lookup.specs.Entries.{entriesKept};
 ghost use Rattle.listing.specs.Listing.{refusalRow, answerRows, lineRows, listed, listing, Renders};
 ghost use Rattle.listing.specs.Parts.{BookKept, LineKept};
 
-// How many bytes the listing of what `read_line` answers has at most: 11 for its first row, 40 for each word and 27 for each simple type.
-// specs/Listing has the same figure; proofs/Longest proves it enough.
-pub const MAX_LISTING: usize = 11 + 40 * MAX_WORDS + 27 * MAX_STRING;
+// How many bytes the listing of what `read_line` answers has at most: 13 for its first row (`yes 24 288 7` and the byte that ends it),
+// 40 for each word and 27 for each simple type. specs/Listing has the same figure; proofs/Longest proves it enough.
+pub const MAX_LISTING: usize = 13 + 40 * MAX_WORDS + 27 * MAX_STRING;
 
 // What rendering a listing gives. `Written`: the buffer holds the listing, of so many bytes, and those behind it are as they were.
 // `TooShort`: the listing takes so many bytes, and the buffer is as it was.
@@ -39,11 +41,11 @@ fn render_refusal(number: u32, value: usize, text: &mut [u8]) -> Rendered
 {
     let number = number as usize;
     let mut nothing = [0u8; 0];
-    let bytes = put_head_row(b"no", number, value, &mut nothing, 0);
+    let bytes = put_refusal_row(number, value, &mut nothing, 0);
     if text.len() < bytes {
         return Rendered::TooShort { needed: bytes };
     }
-    put_head_row(b"no", number, value, text, 0);
+    put_refusal_row(number, value, text, 0);
     Rendered::Written { bytes }
 }
 
@@ -65,8 +67,9 @@ fn render_values(
     ensures { λ r. ⌜ Renders (answerRows (bodiesAt (now (book .entry)) (now (names .entry)) types) (entriesKept (now (book .entry)) (now (offsets .entry)) count)
         (wordsOf (now (line .entry))) (now (values .entry))) (now (text .entry)) r (now (text .exit)) ⌝ }
 {
-    let chosen = counted(values, 0);
-    let partners = counted(values, chosen.len() + 1);
+    let target = value_at(values, 0);
+    let chosen = counted(values, 1);
+    let partners = counted(values, chosen.len() + 2);
     let mut nothing = [0u8; 0];
     let needed = put_reading(
         book,
@@ -78,6 +81,7 @@ fn render_values(
         starts,
         ends,
         words,
+        target,
         chosen,
         partners,
         &mut nothing,
@@ -95,6 +99,7 @@ fn render_values(
         starts,
         ends,
         words,
+        target,
         chosen,
         partners,
         text,
@@ -145,13 +150,14 @@ fn render_answer(book: &[u8], line: &[u8], values: &[u16], text: &mut [u8]) -> R
     let mut names = [0u16; MAX_TYPES];
     let mut entries = [0u16; MAX_ENTRIES];
     let mut direct = [0u64; MAX_TYPES];
-    let scan = scan_book(book, &mut names, &mut entries, &mut direct);
+    let mut targets = [0u8; MAX_TARGETS];
+    let scan = scan_book(book, &mut names, &mut entries, &mut direct, &mut targets);
     match scan {
         Scan::Refused { number, value } => render_refusal(number, value, text),
         Scan::Accepted {
             types,
             entries: count,
-            target: _,
+            targets: _,
         } => render_line(book, &names, types, &entries, count, line, values, text),
     }
 }

@@ -8,15 +8,13 @@ use crate::text::put_text;
 use bytewise::widths::wide_byte;
 use bytewise::widths::wide_number;
 ghost use mathlib.Core.Path.{_≡_};
-ghost use mathlib.Core.List.{[], _∷_};
 ghost use Prim.Native.Nat.{_%_, _≤_};
 ghost use lib.ListN.{length};
 ghost use Rattle.book.specs.Format.{exponentOf, simplesOf};
 ghost use Rattle.book.specs.Kept.{Whole, bodiesAt};
 ghost use Rattle.line.specs.LineWords.{wordsOf};
 ghost use Rattle.lookup.specs.Entries.{entriesKept};
-ghost use Rattle.listing.specs.Text.{decimal, row};
-ghost use Rattle.listing.specs.Listing.{wordRow, typeRow, wordRows, typeRows, joined, readingRows};
+ghost use Rattle.listing.specs.Listing.{firstRow, wordRow, typeRow, refusalRow, wordRows, typeRows, joined, readingRows};
 ghost use Rattle.listing.specs.Parts.{BookKept, LineKept};
 ghost use Rattle.listing.specs.Placed.{Countable, Placed};
 
@@ -24,20 +22,25 @@ const SPACE: u8 = 32;
 
 const ROW_END: u8 = 10;
 
-// A row of a word and two numbers: the first row of an answer, and the row of a refusal.
-pub(crate) fn put_head_row(
-    word: &[u8],
-    first: usize,
-    second: usize,
-    text: &mut [u8],
-    at: usize,
-) -> usize
-    requires { ⌜ Countable at (row (now word ∷ decimal first ∷ decimal second ∷ [])) ⌝ }
-    ensures { λ r. ⌜ Placed (now (text .entry)) at (row (now (word .entry) ∷ decimal first ∷ decimal second ∷ [])) (now (text .exit)) r ⌝ }
+// The row of a refusal.
+pub(crate) fn put_refusal_row(number: usize, value: usize, text: &mut [u8], at: usize) -> usize
+    requires { ⌜ Countable at (refusalRow number value) ⌝ }
+    ensures { λ r. ⌜ Placed (now (text .entry)) at (refusalRow number value) (now (text .exit)) r ⌝ }
 {
-    let at = put_text(word, SPACE, text, at);
-    let at = put_number(first, SPACE, text, at);
-    put_number(second, ROW_END, text, at)
+    let at = put_text(b"no", SPACE, text, at);
+    let at = put_number(number, SPACE, text, at);
+    put_number(value, ROW_END, text, at)
+}
+
+// The first row of an answer.
+fn put_first_row(words: usize, simples: usize, target: usize, text: &mut [u8], at: usize) -> usize
+    requires { ⌜ Countable at (firstRow words simples target) ⌝ }
+    ensures { λ r. ⌜ Placed (now (text .entry)) at (firstRow words simples target) (now (text .exit)) r ⌝ }
+{
+    let at = put_text(b"yes", SPACE, text, at);
+    let at = put_number(words, SPACE, text, at);
+    let at = put_number(simples, SPACE, text, at);
+    put_number(target, ROW_END, text, at)
 }
 
 // A word's row.
@@ -165,17 +168,18 @@ pub(crate) fn put_reading(
     starts: &[usize],
     ends: &[usize],
     words: usize,
+    target: usize,
     chosen: &[u16],
     partners: &[u16],
     text: &mut [u8],
 ) -> usize
     requires { ⌜ BookKept (now book) (now names) types (now offsets) count × LineKept (now line) (now starts) (now ends) words ⌝ }
-    requires { ⌜ Countable 0 (readingRows (bodiesAt (now book) (now names) types) (entriesKept (now book) (now offsets) count) (wordsOf (now line)) (now chosen) (now partners)) ⌝ }
+    requires { ⌜ Countable 0 (readingRows (bodiesAt (now book) (now names) types) (entriesKept (now book) (now offsets) count) (wordsOf (now line)) target (now chosen) (now partners)) ⌝ }
     ensures { λ r. ⌜ Placed (now (text .entry)) 0
         (readingRows (bodiesAt (now (book .entry)) (now (names .entry)) types) (entriesKept (now (book .entry)) (now (offsets .entry)) count)
-        (wordsOf (now (line .entry))) (now (chosen .entry)) (now (partners .entry))) (now (text .exit)) r ⌝ }
+        (wordsOf (now (line .entry))) target (now (chosen .entry)) (now (partners .entry))) (now (text .exit)) r ⌝ }
 {
-    let at = put_head_row(b"yes", chosen.len(), partners.len(), text, 0);
+    let at = put_first_row(chosen.len(), partners.len(), target, text, 0);
     let at = put_word_rows(line, starts, ends, words, chosen, text, at);
     put_type_rows(
         book,

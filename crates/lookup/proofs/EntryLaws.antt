@@ -22,7 +22,7 @@ simples-length (number ∷ []) h = absurd (omega arith)
 simples-length (number ∷ exponent ∷ rest) h = let e = simples-length rest (omega arith) in omega arith
 
 -- An accepted book's entries are kept.
-pub opened-entries : {bytes : Bytes} {s : Store} {types count target : ℕ} {B : Book} → Opened bytes s types count target B → Entries bytes (s .entries) count
+pub opened-entries : {bytes : Bytes} {s : Store} {types count goals : ℕ} {B : Book} → Opened bytes s types count goals B → Entries bytes (s .entries) count
 opened-entries o = record { few = o .few-entries; whole = o .entries-whole; layouts = λ i h. o .formed i h .layout }
 
 module _ (bytes : Bytes) (offsets : List ℕ) (count : ℕ) (word : Bytes) where

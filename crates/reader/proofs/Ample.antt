@@ -25,8 +25,8 @@ use Rattle.reader.proofs.Refusals.{NamedParse, parse-named, NamedLine, 
 use Rattle.reader.proofs.Promises.{Given, no-answer, too-short, enough, given-is, values-count, is-first, firstOf}
 
 -- A reading of a line that breaks nothing takes at most so many values.
-pub reading-within : {book line : Bytes} {B : Book} {words : Words} → Readable book line B words → {entries partners : List ℕ}
-    → IsReading (OrderOf B) (B .target) words entries partners → 2 + length entries + length partners ≤ maxValues
+pub reading-within : {book line : Bytes} {B : Book} {words : Words} → Readable book line B words → {t : ℕ} {entries partners : List ℕ}
+    → IsReading (OrderOf B) (B .targets) words t entries partners → 3 + length entries + length partners ≤ maxValues
 reading-within {book} {line} {B} {words} r i =
     let passing = line-passing B line words (r .line-passed) in
     let few = words-few 0 (wordsOf line) (omega arith) (passing .words-fine) in
@@ -42,7 +42,7 @@ readReply (some a) = record { number = 0; values = valuesOf a }
 
 abbrev checkedReply : Book → LineCheck → Reply
 checkedReply B (stopped number value) = refusal number value
-checkedReply B (passed words) = readReply (firstReading (below (length (B .names)) (B .pairs)) (B .target) words)
+checkedReply B (passed words) = readReply (firstReading (below (length (B .names)) (B .pairs)) (B .targets) words)
 
 abbrev pub ampleReply : Parsed → Bytes → Reply
 ampleReply (refused number value) line = refusal number value

@@ -1,8 +1,8 @@
--- No path through a line's graph has more simple types than a choice of its entries and the target: 12 for each word, and one.
+-- No path through a line's graph has more simple types than a choice of its entries and a target: 12 for each word, and one.
 use Prim.Native.Nat.{ℕ, _+_, _*_, _≤_, _<_}
 use native.Mathlib.Omega.{arith}
 use native.Mathlib.Decide.{ℕ-discrete}
-use mathlib.Core.Path.{_≡_, refl, ap, subst, _∙_}
+use mathlib.Core.Path.{_≡_, refl, sym, ap, subst, _∙_}
 use mathlib.Core.Bool.{Bool, true, false}
 use mathlib.Core.List.{List, [], _∷_, _++_, List·Memᴰ·head, List·Memᴰ·tail}
 use lib.IntN.{pos}
@@ -12,10 +12,12 @@ use Rattle.pregroup.specs.Types.{Basic, PregroupType, _⁽_⁾}
 use Rattle.linking.specs.Reading.{NumberedEntry, Words}
 use Rattle.line.specs.Passing.{Brief, AllBrief, brief}
 use Rattle.line.proofs.Passed.{brief-cons}
-use Rattle.graph.specs.Graph.{Graph, EntersBy, Spells}
+use Rattle.graph.specs.Graph.{Graph, EntersBy, Path, Spells}
 use Rattle.graph.specs.Layout.{hasNone, slotted, Slots, none as no-slot, slot, Laid, goal, word}
 use Rattle.choice.specs.Completion.{SlotChoice, done, choose}
-use Rattle.choice.proofs.Choices.{SameEntry, same-entry, entry-same}
+use Rattle.chart.proofs.Recurrence.{path-append}
+use Rattle.choice.proofs.Completion.{path-of-entry}
+use Rattle.choice.proofs.Choices.{SameEntry, same-entry, entry-same, path-of-choice}
 
 -- The entries with a slot are among all.
 slotted-brief : (seen : Bool) (es : List NumberedEntry) → Brief es → Brief (slotted seen es)
@@ -47,6 +49,17 @@ module _ {g : Graph} where
       at (yes i) later = same-brief (b e (List·Memᴰ·head refl)) (entry-same w (subst (λ (j : ℕ). Spells g (getD (g .enters) j 0) T c) i q))
       at (no d) later = later (omega (arith, d))
 
+-- Only slot s of the boundary u leads to the end.
+abbrev pub Only : Graph → ℕ → ℕ → ℕ → Type 0
+Only g u s end = (r w : ℕ) (X : PregroupType) → EntersBy g u r w → Path g w X end → r ≡ s
+
+-- So a choice that comes to the end from u enters where s does.
+pub goal-there :
+    {g : Graph} {u s v r w b end : ℕ} {T X : PregroupType} {slots : List ℕ} → EntersBy g u s v → Only g u s end → EntersBy g u r w → Spells g w T b
+    → SlotChoice g b slots X end → w ≡ v
+goal-there {g} {r = r} {w} {T = T} {X} entered only e t c =
+    e .entered ∙ ap (λ (n : ℕ). getD (g .enters) n 0) (only r w (T ++ X) e (path-append (path-of-entry t) (path-of-choice c))) ∙ sym (entered .entered)
+
 module _ {g : Graph} {end : ℕ} (closed : (s w : ℕ) → EntersBy g end s w → ⊥) where
   -- From the end nothing more is chosen.
   end-brief : {v : ℕ} {slots : List ℕ} {X : PregroupType} → v ≡ end → SlotChoice g v slots X end → length X ≤ 0
@@ -57,14 +70,11 @@ module _ {g : Graph} {end : ℕ} (closed : (s w : ℕ) → EntersBy g end s w �
   goal-brief {Y = Y} same-entry k = let h = end-brief refl k in omega arith
 
   goal-choice :
-      {t : Basic} {u : ℕ} → getD (g .froms) u 0 + 1 ≡ getD (g .tos) u 0
-      → Spells g (getD (g .enters) (getD (g .froms) u 0) 0) (t ⁽ pos 1 ⁾ ∷ []) end → {slots : List ℕ} {X : PregroupType} → SlotChoice g u slots X end
-      → length X ≤ 1
-  goal-choice one entry (done h) = omega arith
-  goal-choice {u = u} one entry (choose {s} {w} {b = c} {T} e r k) =
-      let first : s ≡ getD (g .froms) u 0 = omega (arith, e .from-on, e .before) in
-      let there : w ≡ getD (g .enters) (getD (g .froms) u 0) 0 = e .entered ∙ ap (λ (n : ℕ). getD (g .enters) n 0) first in
-      goal-brief (entry-same entry (subst (λ (n : ℕ). Spells g n T c) there r)) k
+      {t : Basic} {u s v : ℕ} → EntersBy g u s v → Spells g v (t ⁽ pos 1 ⁾ ∷ []) end → Only g u s end → {slots : List ℕ} {X : PregroupType}
+      → SlotChoice g u slots X end → length X ≤ 1
+  goal-choice entered entry only (done h) = omega arith
+  goal-choice entered entry only (choose {b = c} {T} e r k) =
+      goal-brief (entry-same entry (subst (λ (n : ℕ). Spells g n T c) (goal-there entered only e r k) r)) k
 
   word-choice :
       {numbers : List ℕ} {b u : ℕ} {es : List NumberedEntry} → Slots g numbers b (getD (g .froms) u 0) (getD (g .tos) u 0) es → Brief es → (k : ℕ)
@@ -79,7 +89,7 @@ module _ {g : Graph} {end : ℕ} (closed : (s w : ℕ) → EntersBy g end s w �
   pub laid-brief :
       {numbers : List ℕ} {t : Basic} {u : ℕ} {words : Words} → Laid g numbers t u words end → AllBrief words → {slots : List ℕ} {X : PregroupType}
       → SlotChoice g u slots X end → length X ≤ maxEntrySimples * length words + 1
-  laid-brief (goal h one entry) b c = let k = goal-choice one entry c in omega arith
+  laid-brief (goal entered entry only) b c = let k = goal-choice entered entry only c in omega arith
   laid-brief (word {es = es} {words = words} h slots rest) (brief b bs) c =
       let k = word-choice slots (slotted-brief false es b) (maxEntrySimples * length words + 1) (λ others X o. laid-brief rest bs o) c in
       omega arith

@@ -1,5 +1,6 @@
--- From the first choice in a line's graph to the values of its answer: which numbers are written for the entries, which string is linked,
--- that it reduces to the target, and that the first reading is what the entries and any first linking of the string make.
+-- From the first choice in a line's graph up to one target's end to the values of its answer: which numbers are written for the entries, which
+-- string is linked, that it reduces to the target, and that the first reading for it is what the entries and any first linking of the string
+-- make.
 use Prim.Native.Nat.{ℕ, _+_, _≤_, _<_}
 use native.Mathlib.Omega.{arith}
 use mathlib.Core.Path.{_≡_, refl, sym, ap, subst, _∙_}
@@ -15,7 +16,7 @@ use Rattle.pregroup.specs.Vanish.{Vanish, Reduces}
 use Rattle.pregroup.specs.Tests.{Test, Decides}
 use Rattle.pregroup.proofs.Switching.{reduces-iff-vanish}
 use Rattle.linking.specs.Linking.{firstLinking}
-use Rattle.linking.specs.Reading.{Words, firstReading}
+use Rattle.linking.specs.Reading.{Words, firstFor}
 use Rattle.line.specs.Passing.{AllKnown}
 use Rattle.graph.specs.Graph.{Graph, EntersBy, VanishTo, along, Boundary}
 use Rattle.choice.specs.Completion.{Finishes, finishes, Completes, completes}
@@ -43,13 +44,12 @@ pub record FirstFound (le : Test) (Le : Relation) (g : Graph) (numbers : List �
   pub long : length (stringOf string m) ≡ m
   pub reduces : Reduces Le t (stringOf string m)
   pub taken : length words < count
-  pub first : (Q : List ℕ) → firstLinking le t (stringOf string m) ≡ some Q → firstReading le t words ≡ some (map (λ (s : ℕ). getD numbers s 0) (take (length words) slots), Q)
+  pub first : (Q : List ℕ) → firstLinking le t (stringOf string m) ≡ some Q → firstFor le t words ≡ some (map (λ (s : ℕ). getD numbers s 0) (take (length words) slots), Q)
 
 module _ {le : Test} {Le : Relation} (decides : Decides le Le) (g : Graph) (numbers : List ℕ) (t : Basic) (end : ℕ) (last : Boundary g end)
     (closed : (s w : ℕ) → EntersBy g end s w → ⊥) {words : Words} (laid : Laid g numbers t 0 words end) (known-words : AllKnown words) where
-  -- No reading exactly when the chart has no way from the first node to the last.
-  pub unread-iff : (firstReading le t words ≡ none) ↔ (VanishTo Le g 0 end → ⊥)
-  unfolding firstReading
+  -- No reading for the target exactly when the chart has no way from the first node to its end.
+  pub unread-iff : (firstFor le t words ≡ none) ↔ (VanishTo Le g 0 end → ⊥)
   unread-iff = let h = laid-none decides g numbers t end last closed laid known-words [] in (λ e v. h .0 e (finishes-of v), λ n. h .1 (λ f. n (vanish-of f)))
 
   module _ {string slots table : List ℕ} {count places : ℕ} (c : Chose Le g string slots table end count places) (slots-room : count ≤ length slots) where
@@ -80,7 +80,6 @@ module _ {le : Test} {Le : Relation} (decides : Decides le Le) (g : Graph) (numb
         ∙ ap (map (λ (s : ℕ). getD numbers s 0)) (take-take (length words) count slots (omega (arith, whole .1, length-take-le count slots slots-room)))
 
     pub first-found : FirstFound le Le g numbers t words string slots count places
-    unfolding firstReading
     first-found = record {
       m = m;
       places-are = places-are;

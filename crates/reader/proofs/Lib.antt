@@ -2,6 +2,8 @@
 pub mod Table
 pub mod Refusals
 pub mod Promises
+pub mod SeveralTargets
+pub mod TargetCases
 pub mod Ample
 pub mod Capitals
 pub mod Spellings

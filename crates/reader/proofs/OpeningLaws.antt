@@ -1,10 +1,10 @@
 -- From a scanned book and a checked line to a graph that can be read, and from what the graph gives to the outcome.
 use Prim.Native.Nat.{ℕ, _+_, _≤_}
 use native.Mathlib.Omega.{arith}
-use mathlib.Core.Path.{_≡_, sym, subst}
+use mathlib.Core.Path.{_≡_, refl, sym, subst}
 use mathlib.Core.Logic.{Iff·trans, Iff·symm}
 use mathlib.Core.List.{List}
-use lib.ListN.{length, replicate, length-replicate, getD-replicate}
+use lib.ListN.{length, take, length-take, replicate, length-replicate, getD-replicate}
 use Rattle.figures.specs.Limits.{maxWords, maxEntries, maxNodes}
 use Rattle.pregroup.specs.Types.{Basic}
 use Rattle.pregroup.specs.Held.{InRows}
@@ -22,7 +22,7 @@ use Rattle.line.specs.LineFaults.{passed, stopped, lineCheck, entriesOfLine}
 use Rattle.line.specs.LookUp.{LineSays}
 use Rattle.line.specs.declared.CheckedLine.the-variants.{Found}
 use Rattle.line.proofs.Passed.{line-passing, line-brief}
-use Rattle.graph.specs.Lists.{Lists, graphOf, Room, Empty, LineFits, LaidOut}
+use Rattle.graph.specs.Lists.{Lists, graphOf, nodesWith, Room, Empty, LineFits, LaidOut}
 use Rattle.reader.specs.declared.LineAnswer.{LineAnswer}
 use Rattle.reader.specs.declared.LineAnswer.the-variants.{Refused}
 use Rattle.reader.specs.Outcome.{Outcome, given, readAgainst, readParsed, outcome, Gives}
@@ -48,23 +48,23 @@ module _ (book line : Bytes) (before : List ℕ) {B : Book} (parsed : parse book
   unfolding readParsed readAgainst
   gives-line-refused l = record { returned = rw (parsed, l); left = rw (parsed, l) }
 
-  outcome-is : {words : Words} → lineCheck B line ≡ passed words → outcome book line before ≡ given (firstReading (below (length (B .names)) (B .pairs)) (B .target) words) before
+  outcome-is : {words : Words} → lineCheck B line ≡ passed words → outcome book line before ≡ given (firstReading (below (length (B .names)) (B .pairs)) (B .targets) words) before
   unfolding readParsed readAgainst
   outcome-is l = rw (parsed, l)
 
   -- A line that is read.
-  pub gives-outcome : {words : Words} {target : Basic} {answer : LineAnswer} {after : List ℕ} → lineCheck B line ≡ passed words → B .target ≡ target
-      → Gives (given (firstReading (below (length (B .names)) (B .pairs)) target words) before) answer after → Gives (outcome book line before) answer after
+  pub gives-outcome : {words : Words} {targets : List Basic} {answer : LineAnswer} {after : List ℕ} → lineCheck B line ≡ passed words → B .targets ≡ targets
+      → Gives (given (firstReading (below (length (B .names)) (B .pairs)) targets words) before) answer after → Gives (outcome book line before) answer after
   gives-outcome {words} {answer = answer} {after} l e g =
       subst (λ (o : Outcome LineAnswer). Gives o answer after) (sym (outcome-is l))
-      (subst (λ (s : Basic). Gives (given (firstReading (below (length (B .names)) (B .pairs)) s words) before) answer after) (sym e) g)
+      (subst (λ (s : List Basic). Gives (given (firstReading (below (length (B .names)) (B .pairs)) s words) before) answer after) (sym e) g)
 
 -- What is kept of an accepted book, with its closed order.
-pub is-open : (bytes : Bytes) (s : Store) (types count target : ℕ) (B : Book) (alike rows : List ℕ) → Opened bytes s types count target B → Alike bytes (s .entries) count alike
-    → Hold rows (Closed types (InRows (s .direct))) → Open bytes (s .entries) count alike rows target B
-is-open bytes s types count target B alike rows o threaded hold =
-    let number = opened-types bytes s types count target B o in
-    let order : Hold rows (Closed (length (B .names)) (Listed (B .pairs))) = rw number (opened-order bytes s types count target B o rows hold) in
+pub is-open : (bytes : Bytes) (s : Store) (types count goals : ℕ) (B : Book) (alike rows : List ℕ) → Opened bytes s types count goals B → Alike bytes (s .entries) count alike
+    → Hold rows (Closed types (InRows (s .direct))) → Open bytes (s .entries) count alike rows (take goals (s .targets)) B
+is-open bytes s types count goals B alike rows o threaded hold =
+    let number = opened-types bytes s types count goals B o in
+    let order : Hold rows (Closed (length (B .names)) (Listed (B .pairs))) = rw number (opened-order bytes s types count goals B o rows hold) in
     let declared = accepted-declares bytes B (o .parsed) .pairs in
     record {
       parsed = o .parsed;
@@ -75,7 +75,8 @@ is-open bytes s types count target B alike rows o threaded hold =
       };
       threaded = threaded;
       decides = λ a b. Iff·trans (below-decides (length (B .names)) (B .pairs) declared a b) (Iff·symm (order a b));
-      chosen = o .chosen;
+      chosen = o .targets;
+      few-targets = omega (arith, o .few-targets, length-take goals (s .targets));
     }
 
 -- Threads that are not begun yet, and those of no word.
@@ -85,11 +86,11 @@ none-alike = record { room = length-replicate {A = ℕ} (maxEntries + keys) maxE
 pub none-same : (bytes : Bytes) (offsets : List ℕ) (count : ℕ) → Same bytes offsets count (replicate maxEntries 0)
 none-same bytes offsets count = record { room = omega (arith, length-replicate {A = ℕ} maxEntries 0); known = λ i j h any l o. let e = zeros maxEntries i in absurd (omega arith) }
 
-module _ {bytes : Bytes} {offsets : List ℕ} {count : ℕ} {alike rows : List ℕ} {target : ℕ} {line : Bytes} {firsts same : List ℕ} {n : ℕ} {B : Book}
-    (o : Open bytes offsets count alike rows target B) (says : LineSays bytes offsets count B line firsts same (Found n)) where
+module _ {bytes : Bytes} {offsets : List ℕ} {count : ℕ} {alike rows targets : List ℕ} {line : Bytes} {firsts same : List ℕ} {n : ℕ} {B : Book}
+    (o : Open bytes offsets count alike rows targets B) (says : LineSays bytes offsets count B line firsts same (Found n)) where
   -- A line that passed its check can be laid out ..
   pub line-fits : {l : Lists} → maxEntries ≤ length same → maxWords ≤ length firsts → Room l → maxNodes ≤ length (l .cells .numbers) → Empty l
-      → LineFits bytes offsets count same firsts n l
+      → LineFits bytes offsets count same firsts n (length targets) l
   line-fits same-room firsts-room room numbers-room empty =
       record {
         looked-up = record {
@@ -102,26 +103,30 @@ module _ {bytes : Bytes} {offsets : List ℕ} {count : ℕ} {alike rows : List �
         };
         few = says .1;
         small = says .2 .small;
+        few-targets = o .few-targets;
         room = room;
         numbers-room = numbers-room;
         empty = empty;
       }
 
   -- .. and the graph is that of its words.
-  pub line-drawn : {l : Lists} {nodes : ℕ}
-      → ((words : Words) → Threads bytes offsets count same firsts 0 words → length words ≡ n → LaidOut words target l nodes)
+  pub line-drawn : {l : Lists} {last : ℕ}
+      → ((words : Words) → Threads bytes offsets count same firsts 0 words → length words ≡ n → LaidOut words targets l last)
       → length (l .cells .enters) ≤ length (l .cells .numbers)
-      → Drawn (below (length (B .names)) (B .pairs)) (InRows rows) (graphOf nodes l) (l .cells .numbers) target n (entriesOfLine B line)
+      → Drawn (below (length (B .names)) (B .pairs)) (InRows rows) (graphOf (nodesWith last (length targets)) l) (l .cells .numbers) targets last n
+      (entriesOfLine B line)
   line-drawn laid-out room =
       let out = laid-out (entriesOfLine B line) (says .2 .threads) (says .2 .words) in
       let p = line-passing B line (entriesOfLine B line) (says .0) in
       record {
         upward = out .upward;
-        some-nodes = out .some-nodes;
+        nodes = refl;
         few = out .few;
+        few-targets = o .few-targets;
         few-words = says .1;
         numbers-room = room;
         decides = o .decides;
+        ends = out .ends;
         laid = out .laid;
         known-words = p .known-words;
         brief-words = line-brief B line (entriesOfLine B line) (accepted-declares bytes B (o .parsed) .short) p;

@@ -18,7 +18,7 @@ use Rattle.order.proofs.Decision.{below-decides}
 use Rattle.order.proofs.ClosureLaws.{closed-is-order}
 use Rattle.book.specs.Format.{Bytes, Book, Parsed, accepted, refused, parse}
 use Rattle.book.proofs.Accepted.{accepted-declares}
-use Rattle.linking.specs.Reading.{Words, Answer, IsReading, IsFirst, firstReading}
+use Rattle.linking.specs.Reading.{Words, Answer, answer, IsReading, IsFirst, firstReading}
 use Rattle.linking.specs.Ascending.{AllAscending}
 use Rattle.linking.proofs.FirstReading.{first-reading-some, first-reading-none, first-reading-unique}
 use Rattle.linking.proofs.Derivation.{unread-iff-no-chain}
@@ -30,8 +30,8 @@ use Rattle.reader.specs.Outcome.{Outcome, lineReply, valuesOf, given, re
 use Rattle.reader.specs.Demands.{OrderOf, Readable, Written, TooShort, NoChain, Promised}
 use Rattle.reader.proofs.Refusals.{NamedParse, parse-named, NamedLine, line-named}
 
-pub values-count : (a : Answer) → length (valuesOf a) ≡ 2 + length (a .0) + length (a .1)
-values-count a = let n = length-append (a .0) (length (a .1) ∷ a .1) in omega arith
+pub values-count : (a : Answer) → length (valuesOf a) ≡ 3 + length (a .entries) + length (a .partners)
+values-count a = let n = length-append (a .entries) (length (a .partners) ∷ a .partners) in omega arith
 
 -- The three outcomes that `given` has.
 pub data Given (buffer : List ℕ) : Option Answer → LineAnswer → List ℕ → Type 0 where
@@ -75,7 +75,7 @@ module _ (book line : Bytes) (B : Book) (words : Words) (r : Readable book line 
   types = length (B .names)
 
   abbrev pub firstOf : Option Answer
-  firstOf = firstReading (below types (B .pairs)) (B .target) words
+  firstOf = firstReading (below types (B .pairs)) (B .targets) words
 
   declared : DeclaredPairs types (B .pairs)
   declared = accepted-declares book B (r .book-accepted) .pairs
@@ -86,22 +86,22 @@ module _ (book line : Bytes) (B : Book) (words : Words) (r : Readable book line 
   ascending : AllAscending words
   ascending = line-passing B line words (r .line-passed) .ascending
 
-  outcome-read : (buffer : List ℕ) → outcome book line buffer ≡ given firstOf buffer
+  pub outcome-read : (buffer : List ℕ) → outcome book line buffer ≡ given firstOf buffer
   unfolding readParsed readAgainst
   outcome-read buffer = rw (r .book-accepted, r .line-passed)
 
   -- The first reading is what the definition gives.
-  of-first : {entries partners : List ℕ} → IsFirst (OrderOf B) (B .target) words entries partners → firstOf ≡ some (entries, partners)
-  of-first f = first-reading-unique decides (B .target) ascending f
+  pub of-first : {t : ℕ} {entries partners : List ℕ} → IsFirst (OrderOf B) (B .targets) words t entries partners → firstOf ≡ some (answer t entries partners)
+  of-first f = first-reading-unique decides ascending f
 
-  pub is-first : (a : Answer) → firstOf ≡ some a → IsFirst (OrderOf B) (B .target) words (a .0) (a .1)
-  is-first a e = first-reading-some decides (B .target) ascending e
+  pub is-first : (a : Answer) → firstOf ≡ some a → IsFirst (OrderOf B) (B .targets) words (a .target) (a .entries) (a .partners)
+  is-first a e = first-reading-some decides ascending e
 
-  first-none : firstOf ≡ none → (entries partners : List ℕ) → IsReading (OrderOf B) (B .target) words entries partners → ⊥
-  first-none e = first-reading-none decides (B .target) ascending .0 e
+  first-none : firstOf ≡ none → (t : ℕ) (entries partners : List ℕ) → IsReading (OrderOf B) (B .targets) words t entries partners → ⊥
+  first-none e = first-reading-none decides ascending .0 e
 
   none-iff : (firstOf ≡ none) ↔ NoChain B words
-  none-iff = unread-iff-no-chain (closed-is-order declared) (B .target) (accepted-declares book B (r .book-accepted) .target refl) words decides ascending
+  none-iff = unread-iff-no-chain (closed-is-order declared) (B .targets) (accepted-declares book B (r .book-accepted) .targets) words decides ascending
 
   module _ {buffer : List ℕ} where
     untouched-of : {o : Option Answer} {answer : LineAnswer} {after : List ℕ} → Given buffer o answer after → (lineReply answer after .number ≡ 0 → ⊥) → after ≡ buffer
@@ -115,7 +115,7 @@ module _ (book line : Bytes) (B : Book) (words : Words) (r : Readable book line 
     written-of (too-short l) e h = absurd (omega arith)
     written-of (enough {a} l) e h =
         subst (λ (values : List ℕ). Written B words buffer values (valuesOf a ++ drop (length (valuesOf a)) buffer)) (sym (take-append-seam (valuesOf a) (drop (length (valuesOf a)) buffer)))
-        (record { entries = a .0; partners = a .1; first = is-first a e; whole = refl; room = l; behind = refl })
+        (record { target = a .target; entries = a .entries; partners = a .partners; first = is-first a e; whole = refl; room = l; behind = refl })
 
     counted-of : {o : Option Answer} {answer : LineAnswer} {after : List ℕ} → Given buffer o answer after → (n : ℕ) → answer ≡ Read n → n ≡ length (lineReply answer after .values)
     counted-of no-answer n h = read-refused (sym h)
@@ -126,7 +126,7 @@ module _ (book line : Bytes) (B : Book) (words : Words) (r : Readable book line 
 
     -- A first reading that is too long is the one there is.
     count-of : {a : Answer} {v : ℕ} → firstOf ≡ some a → TooShort B words buffer v → length (valuesOf a) ≡ v
-    count-of {a} e t = values-count a ∙ ap (λ (b : Answer). 2 + length (b .0) + length (b .1)) (some-same (sym e ∙ of-first (t .first))) ∙ sym (t .needed)
+    count-of {a} e t = values-count a ∙ ap (λ (b : Answer). 3 + length (b .entries) + length (b .partners)) (some-same (sym e ∙ of-first (t .first))) ∙ sym (t .needed)
 
     short-of : {o : Option Answer} {answer : LineAnswer} {after : List ℕ} → Given buffer o answer after → firstOf ≡ o → (v : ℕ)
         → (lineReply answer after ≡ refusal bufferTooShort v) ↔ TooShort B words buffer v
@@ -134,7 +134,7 @@ module _ (book line : Bytes) (B : Book) (words : Words) (r : Readable book line 
     short-of (too-short {a} l) e v = (
       λ h.
           let q : length (valuesOf a) ≡ v = same-value h in
-          subst (λ (m : ℕ). TooShort B words buffer m) q (record { entries = a .0; partners = a .1; first = is-first a e; needed = values-count a; lent = l }),
+          subst (λ (m : ℕ). TooShort B words buffer m) q (record { target = a .target; entries = a .entries; partners = a .partners; first = is-first a e; needed = values-count a; lent = l }),
       λ t. ap (refusal bufferTooShort) (count-of e t),
     )
     short-of (enough {a} l) e v = (λ h. other-number (omega arith) h, λ t. let q = count-of e t in let lent = t .lent in absurd (omega arith))
@@ -147,7 +147,7 @@ module _ (book line : Bytes) (B : Book) (words : Words) (r : Readable book line 
     found-of : {o : Option Answer} {answer : LineAnswer} {after : List ℕ} → Given buffer o answer after → firstOf ≡ o → (o ≡ none → ⊥)
         → (lineReply answer after .number ≡ 0) ⊎ ((v : ℕ) × TooShort B words buffer v)
     found-of no-answer e h = absurd (h refl)
-    found-of (too-short {a} l) e h = inr (length (valuesOf a), record { entries = a .0; partners = a .1; first = is-first a e; needed = values-count a; lent = l })
+    found-of (too-short {a} l) e h = inr (length (valuesOf a), record { target = a .target; entries = a .entries; partners = a .partners; first = is-first a e; needed = values-count a; lent = l })
     found-of (enough {a} l) e h = inl refl
 
 module _ (book line : Bytes) (buffer : List ℕ) where
@@ -201,7 +201,7 @@ module _ (book line : Bytes) (buffer : List ℕ) where
     untouched = untouched-came came;
     answered = written-came came;
     counted = counted-came came;
-    found = λ B words r entries partners reads. found-of book line B words r (given-read B words r) refl (λ z. first-none book line B words r z entries partners reads);
+    found = λ B words r t entries partners reads. found-of book line B words r (given-read B words r) refl (λ z. first-none book line B words r z t entries partners reads);
     short = λ B words r v. short-of book line B words r (given-read B words r) refl v;
     unread = λ B words r. Iff·trans (unread-of book line B words r (given-read B words r)) (none-iff book line B words r);
   }

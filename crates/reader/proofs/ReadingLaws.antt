@@ -2,8 +2,6 @@
 use Prim.Native.Nat.{ℕ, zero, suc, _+_, _-_, _*_, _≤_, _<_}
 use native.Mathlib.Omega.{arith}
 use mathlib.Core.Path.{_≡_, refl, sym, ap, subst, _∙_}
-use mathlib.Core.Logic.{_↔_}
-use mathlib.Core.Bool.{Bool, true, false, not, false≢true}
 use mathlib.Core.List.{List, _∷_, _++_, map}
 use mathlib.Core.Option.{Option, none, some}
 use lib.ListN.{getD, length, take, drop, length-append}
@@ -16,11 +14,13 @@ use Rattle.pregroup.specs.Order.{Relation}
 use Rattle.pregroup.specs.Vanish.{Reduces}
 use Rattle.pregroup.specs.Tests.{Test}
 use Rattle.linking.specs.Linking.{firstLinking}
-use Rattle.linking.specs.Reading.{Words, Answer, firstReading}
+use Rattle.linking.specs.Reading.{Words, Answer, answer, targetAt, firstFor, firstReading}
 use Rattle.linking.proofs.Reduction.{linking-iff-reduces}
+use Rattle.linking.proofs.Targets.{no-target-reads, first-reading-at}
 use Rattle.linking.proofs.FirstLinking.{first-linking-some, first-linking-none, first-linking-greedy}
-use Rattle.graph.specs.Graph.{Graph, EntersBy, Upward, Path, VanishTo, Boundary, Spells, ended, more}
-use Rattle.graph.specs.Layout.{Laid, goal, word}
+use Rattle.graph.specs.Graph.{Graph, Upward, Path, Boundary, Spells, ended, more}
+use Rattle.graph.specs.Layout.{End, Laid, goal, word}
+use Rattle.graph.specs.Lists.{endAt}
 use Rattle.chart.specs.Chart.{FilledFrom}
 use Rattle.table.specs.Table.{stringOf}
 use Rattle.table.proofs.Stretches.{length-string}
@@ -33,7 +33,7 @@ use Rattle.answer.specs.Written.{Linkable, Writable, WroteAnswer}
 use Rattle.answer.proofs.ValueLaws.{entry-numbers-length}
 use Rattle.reader.specs.declared.LineAnswer.the-variants.{Read, Refused}
 use Rattle.reader.specs.Outcome.{valuesOf, given, Gives}
-use Rattle.reader.specs.Runs.{Drawn}
+use Rattle.reader.specs.Runs.{Drawn, EndsThere, FirstEnd}
 use Rattle.reader.proofs.Brief.{laid-brief}
 use Rattle.reader.proofs.FirstFound.{FirstFound, unread-iff, first-found}
 
@@ -56,18 +56,10 @@ module _ (before : List ℕ) where
       let k = le-ltb (length before) (length (valuesOf a)) (omega arith) in
       record { returned = rw (e, k, n); left = rw (e, k) (w ∙ ap (λ (j : ℕ). valuesOf a ++ drop j before) (sym n)) }
 
--- Both ends of a line's graph are boundaries.
+-- A line's graph begins at a boundary.
 laid-begins : {g : Graph} {numbers : List ℕ} {t : Basic} {u end : ℕ} {words : Words} → Laid g numbers t u words end → Boundary g u
-laid-begins (goal b one entry) = b
+laid-begins (goal e entry only) = e .boundary
 laid-begins (word b slots rest) = b
-
-entry-ends : {g : Graph} {u b : ℕ} {T : PregroupType} → Spells g u T b → Boundary g b
-entry-ends (ended b) = b
-entry-ends (more l t) = entry-ends t
-
-laid-ends : {g : Graph} {numbers : List ℕ} {t : Basic} {u end : ℕ} {words : Words} → Laid g numbers t u words end → Boundary g end
-laid-ends (goal b one entry) = entry-ends entry
-laid-ends (word b slots rest) = laid-ends rest
 
 -- Every slot of a choice is one of the graph's.
 module _ {g : Graph} (up : Upward g) where
@@ -80,143 +72,154 @@ module _ {g : Graph} (up : Upward g) where
   choice-slots {u} h (choose e t c) zero l = omega (arith, e .before, up .slots-there u h)
   choice-slots {u} h (choose {s} {w} e t c) (suc i) l = choice-slots (entry-inside (up .enters-up u s w h e .1) t) c i (omega arith)
 
-module _ {le : Test} {Le : Relation} {g : Graph} {numbers : List ℕ} {t : Basic} {n : ℕ} {words : Words} (d : Drawn le Le g numbers t n words) where
-  -- The last node.
-  abbrev end : ℕ
-  end = g .count - 1
-
-  last : end + 1 ≡ g .count
-  last = omega (arith, d .some-nodes)
-
-  laid : Laid g numbers t 0 words end
-  laid = d .laid end last
-
-  ends : Boundary g end
-  ends = laid-ends laid
-
-  closed : (s w : ℕ) → EntersBy g end s w → ⊥
-  closed s w e = let on = d .upward .enters-up end s w (omega (arith, last)) e in omega (arith, on .0, on .1, last)
-
-  few-simples : {X : PregroupType} → Path g 0 X end → length X ≤ maxPlaces
-  few-simples p =
-      let short = laid-brief closed laid (d .brief-words) (choice-of-path (laid-begins laid) ends p .1) in
-      omega (arith, d .few-words, d .count)
+module _ {le : Test} {Le : Relation} {g : Graph} {numbers : List ℕ} {targets : List Basic} {last n : ℕ} {words : Words} (d : Drawn le Le g numbers targets last n words) where
+  some-nodes : 0 < g .count
+  some-nodes = omega (arith, d .nodes)
 
   -- Every node has a row in a chart of the longest graph's.
   pub has-rows : (rows : List ℕ) → length rows ≡ maxNodes * rowWords → (u : ℕ) → u < g .count → HasRow rows u
   has-rows rows e u h = omega (arith, d .few)
 
-  -- What the bit of the last node in the first node's row says.
-  pub chart-reads : {rows : List ℕ} {b : Bool} → FilledFrom Le g rows 0 → ((b ≡ true) ↔ InRow rows 0 end) → not b ≡ false → VanishTo Le g 0 end
-  chart-reads {b = true} filled says e = filled 0 (omega arith) (d .some-nodes) end .0 (says .0 refl)
-  chart-reads {b = false} filled says e = absurd (false≢true (sym e))
+  pub ends-there : (rows : List ℕ) → length rows ≡ maxNodes * rowWords → EndsThere rows last (length targets)
+  ends-there rows e = record { room = has-rows rows e 0 some-nodes; few = omega (arith, d .few, d .nodes) }
 
-  pub chart-stops : {rows : List ℕ} {b : Bool} → FilledFrom Le g rows 0 → ((b ≡ true) ↔ InRow rows 0 end) → not b ≡ true → VanishTo Le g 0 end → ⊥
-  chart-stops {b = true} filled says e v = false≢true e
-  chart-stops {b = false} filled says e v = false≢true (says .1 (filled 0 (omega arith) (d .some-nodes) end .1 v))
+  -- A target without a way to its end has no reading.
+  no-way : {rows : List ℕ} → FilledFrom Le g rows 0 → (t : ℕ) → t < length targets → (InRow rows 0 (endAt last t) → ⊥) → firstFor le (targetAt targets t) words ≡ none
+  no-way filled t h n =
+      let end = d .ends t h in
+      unread-iff (d .decides) g numbers (targetAt targets t) (endAt last t) (end .boundary) (end .closed) (d .laid t h) (d .known-words) .1
+      (λ v. n (filled 0 (omega arith) some-nodes (endAt last t) .1 v))
 
-  -- 15: there is no reading.
-  pub answers-none : (before : List ℕ) → (VanishTo Le g 0 end → ⊥) → Gives (given (firstReading le t words) before) (Refused 15 0) before
-  answers-none before nowhere = gives-none before (unread-iff (d .decides) g numbers t end ends closed laid (d .known-words) .1 nowhere)
+  -- 15: there is no reading for any target.
+  pub answers-none : {rows : List ℕ} {r : ℕ} → FilledFrom Le g rows 0 → FirstEnd rows last (length targets) r → r ≡ length targets → (before : List ℕ)
+      → Gives (given (firstReading le targets words) before) (Refused 15 0) before
+  answers-none filled f all before =
+      gives-none before (no-target-reads le words targets (λ t h. no-way filled t h (f .none t (omega arith))))
 
-  -- What the choice asks, of a chart that is filled and reads.
-  pub can-choose : {rows : List ℕ} → length rows ≡ maxNodes * rowWords → FilledFrom Le g rows 0 → VanishTo Le g 0 end → Choosable Le g rows end
-  can-choose {rows} long filled reads = record {
-    upward = d .upward;
-    filled = filled;
-    rows-there = has-rows rows long;
-    last = last;
-    begins = laid-begins laid;
-    ends = ends;
-    reads = reads;
-    brief = few-simples;
-  }
+  -- The first target whose end is reached.
+  module _ {rows : List ℕ} {t : ℕ} (filled : FilledFrom Le g rows 0) (f : FirstEnd rows last (length targets) t) (other : t ≡ length targets → ⊥) where
+    pub target-there : t < length targets
+    target-there = omega (arith, f .within)
 
-  pub has-room :
-      {string slots table leaving : List ℕ} → length string ≡ maxPlaces → length slots ≡ maxNodes → length table ≡ (maxPlaces + 1) * rowWords
-      → length leaving ≡ (maxPlaces + 1) * rowWords → Roomy (g .count) string slots table leaving
-  has-room p s b o = record {
-    places = omega arith;
-    words = omega (arith, d .few);
-    table-rows = λ j h. omega arith;
-    leaving-rows = λ j h. omega arith;
-  }
+    abbrev s : Basic
+    s = targetAt targets t
 
-  module _ {string slots table : List ℕ} {count places : ℕ} (c : Chose Le g string slots table end count places)
-      (string-room : length string ≡ maxPlaces) (slots-room : length slots ≡ maxNodes) (table-room : length table ≡ (maxPlaces + 1) * rowWords) where
-    found : FirstFound le Le g numbers t words string slots count places
-    found = first-found (d .decides) g numbers t end ends closed laid (d .known-words) c (omega (arith, c .few, d .few))
+    abbrev end : ℕ
+    end = endAt last t
 
-    pub some-places : 1 ≤ places
-    some-places = omega (arith, found .places-are)
+    ends : End g end
+    ends = d .ends t target-there
 
-    -- How many simple types the answer has: all but the target's.
-    abbrev m : ℕ
-    m = places - 1
+    laid : Laid g numbers s 0 words end
+    laid = d .laid t target-there
 
-    same : found .m ≡ m
-    same = omega (arith, found .places-are)
+    end-inside : end < g .count
+    end-inside = omega (arith, d .nodes, target-there)
 
-    -- There is a first linking, and with it the first reading.
-    linked-by : (o : Option (List ℕ)) → firstLinking le t (stringOf string m) ≡ o → (Q : List ℕ) × (firstLinking le t (stringOf string m) ≡ some Q)
-    linked-by none e = let k = linking-iff-reduces .0 reduces in absurd (first-linking-none (d .decides) t (stringOf string m) .0 e (k .0) (k .1))
-      where
-        reduces : Reduces Le t (stringOf string m)
-        reduces = subst (λ (k : ℕ). Reduces Le t (stringOf string k)) same (found .reduces)
-    linked-by (some Q) e = (Q, e)
+    few-simples : {X : PregroupType} → Path g 0 X end → length X ≤ maxPlaces
+    few-simples p =
+        let short = laid-brief (ends .closed) laid (d .brief-words) (choice-of-path (laid-begins laid) (ends .boundary) p .1) in
+        omega (arith, d .few-words, d .count)
 
-    slots-there : n ≤ length slots
-    slots-there = omega (arith, found .taken, c .few, d .count, d .few)
-
-    first-with : (Q : List ℕ) → firstLinking le t (stringOf string m) ≡ some Q → firstReading le t words ≡ some (entryNumbers numbers slots n, Q)
-    unfolding entryNumbers
-    first-with Q e =
-        found .first Q (ap (λ (k : ℕ). firstLinking le t (stringOf string k)) same ∙ e)
-        ∙ ap (λ (k : ℕ). some (map (λ (s : ℕ). getD numbers s 0) (take k slots), Q)) (d .count)
-
-    count-values : (Q : List ℕ) → length Q ≡ m → length (valuesOf (entryNumbers numbers slots n, Q)) ≡ 2 + n + m
-    count-values Q e =
-        let k = length-append (entryNumbers numbers slots n) (length Q ∷ Q) in
-        let l = entry-numbers-length numbers slots n slots-there in
-        omega arith
-
-    -- 16: the first reading takes more values than are lent.
-    pub answers-short : (before : List ℕ) → length before < 2 + n + m → Gives (given (firstReading le t words) before) (Refused 16 (2 + n + m)) before
-    answers-short before h =
-        let k = linked-by (firstLinking le t (stringOf string m)) refl in
-        let long = first-linking-some (d .decides) t (stringOf string m) (k .1) .0 .count ∙ length-string string m in
-        gives-short before (first-with (k .0) (k .1)) (count-values (k .0) long) h
-
-    -- What the writing asks.
-    pub can-link : Linkable Le string table m t
-    can-link = record {
-      string-there = record { few = omega (arith, c .few-places); there = omega (arith, c .few-places) };
-      room = omega (arith, c .few-places);
-      right = right-of-string string table m places m (omega arith) (omega arith) (c .right);
-      reduces = subst (λ (k : ℕ). Reduces Le t (stringOf string k)) same (found .reduces);
+    -- What the choice asks, of a chart that is filled and reads.
+    pub can-choose : length rows ≡ maxNodes * rowWords → Choosable Le g rows end
+    can-choose long = record {
+      upward = d .upward;
+      filled = filled;
+      rows-there = has-rows rows long;
+      inside = end-inside;
+      begins = laid-begins laid;
+      ends = ends;
+      reads = filled 0 (omega arith) some-nodes end .0 (f .reached target-there);
+      brief = few-simples;
     }
 
-    numbered : (i : ℕ) → i < n → getD slots i 0 < length numbers
-    numbered i h =
-        let long = length-take-le count slots (omega (arith, c .few, d .few)) in
-        let inside : i < count = omega (arith, found .taken, d .count) in
-        let k = choice-slots (d .upward) (d .some-nodes) (c .spelled) i (omega arith) in
-        omega (arith, k, getD-take count slots i 0 inside, d .numbers-room)
+    pub has-room :
+        {string slots table leaving : List ℕ} → length string ≡ maxPlaces → length slots ≡ maxNodes → length table ≡ (maxPlaces + 1) * rowWords
+        → length leaving ≡ (maxPlaces + 1) * rowWords → Roomy (g .count) string slots table leaving
+    has-room p s b o = record {
+      places = omega arith;
+      words = omega (arith, d .few);
+      table-rows = λ j h. omega arith;
+      leaving-rows = λ j h. omega arith;
+    }
 
-    pub can-write : (answer : List ℕ) → 2 + n + m ≤ length answer → Writable numbers slots n m answer
-    can-write answer h = record { few = d .few-words; there = slots-there; numbered = numbered; space = h }
+    module _ {string slots table : List ℕ} {count places : ℕ} (c : Chose Le g string slots table end count places)
+        (string-room : length string ≡ maxPlaces) (slots-room : length slots ≡ maxNodes) (table-room : length table ≡ (maxPlaces + 1) * rowWords) where
+      found : FirstFound le Le g numbers s words string slots count places
+      found = first-found (d .decides) g numbers s end (ends .boundary) (ends .closed) laid (d .known-words) c (omega (arith, c .few, d .few, end-inside))
 
-    -- What is written are the values of the first reading.
-    values-are : {before after : List ℕ} (w : WroteAnswer Le string m t numbers slots n before after)
-        → after ≡ valuesOf (entryNumbers numbers slots n, w .partners) ++ drop (2 + n + m) before
-    values-are {before} w =
-        let ns = entryNumbers numbers slots n in
-        w .written ∙ ap (λ (k : ℕ). (k ∷ (ns ++ (m ∷ w .partners))) ++ drop (2 + n + m) before) (sym (entry-numbers-length numbers slots n slots-there))
-        ∙ ap (λ (k : ℕ). (length ns ∷ (ns ++ (k ∷ w .partners))) ++ drop (2 + n + m) before) (sym (w .whole))
+      pub some-places : 1 ≤ places
+      some-places = omega (arith, found .places-are)
 
-    pub answers-read :
-        (before after : List ℕ) → 2 + n + m ≤ length before → WroteAnswer Le string m t numbers slots n before after
-        → Gives (given (firstReading le t words) before) (Read (2 + n + m)) after
-    answers-read before after h w =
-        let linked = first-linking-greedy (d .decides) t (stringOf string m) (w .whole ∙ sym (length-string string m)) (w .greedy) in
-        gives-read before (first-with (w .partners) linked) (count-values (w .partners) (w .whole)) h (values-are w)
+      -- How many simple types the answer has: all but the target's.
+      abbrev m : ℕ
+      m = places - 1
+
+      same : found .m ≡ m
+      same = omega (arith, found .places-are)
+
+      -- There is a first linking, and with it the first reading.
+      linked-by : (o : Option (List ℕ)) → firstLinking le s (stringOf string m) ≡ o → (Q : List ℕ) × (firstLinking le s (stringOf string m) ≡ some Q)
+      linked-by none e = let k = linking-iff-reduces .0 reduces in absurd (first-linking-none (d .decides) s (stringOf string m) .0 e (k .0) (k .1))
+        where
+          reduces : Reduces Le s (stringOf string m)
+          reduces = subst (λ (k : ℕ). Reduces Le s (stringOf string k)) same (found .reduces)
+      linked-by (some Q) e = (Q, e)
+
+      slots-there : n ≤ length slots
+      slots-there = omega (arith, found .taken, c .few, d .count, d .few, end-inside)
+
+      first-with : (Q : List ℕ) → firstLinking le s (stringOf string m) ≡ some Q → firstReading le targets words ≡ some (answer t (entryNumbers numbers slots n) Q)
+      unfolding entryNumbers
+      first-with Q e =
+          first-reading-at le words targets t (entryNumbers numbers slots n, Q) target-there (λ u h. no-way filled u (omega (arith, target-there)) (f .none u h))
+          (found .first Q (ap (λ (k : ℕ). firstLinking le s (stringOf string k)) same ∙ e)
+          ∙ ap (λ (k : ℕ). some (map (λ (s : ℕ). getD numbers s 0) (take k slots), Q)) (d .count))
+
+      count-values : (Q : List ℕ) → length Q ≡ m → length (valuesOf (answer t (entryNumbers numbers slots n) Q)) ≡ 3 + n + m
+      count-values Q e =
+          let k = length-append (entryNumbers numbers slots n) (length Q ∷ Q) in
+          let l = entry-numbers-length numbers slots n slots-there in
+          omega arith
+
+      -- 16: the first reading takes more values than are lent.
+      pub answers-short : (before : List ℕ) → length before < 3 + n + m → Gives (given (firstReading le targets words) before) (Refused 16 (3 + n + m)) before
+      answers-short before h =
+          let k = linked-by (firstLinking le s (stringOf string m)) refl in
+          let long = first-linking-some (d .decides) s (stringOf string m) (k .1) .0 .count ∙ length-string string m in
+          gives-short before (first-with (k .0) (k .1)) (count-values (k .0) long) h
+
+      -- What the writing asks.
+      pub can-link : Linkable Le string table m s
+      can-link = record {
+        string-there = record { few = omega (arith, c .few-places); there = omega (arith, c .few-places) };
+        room = omega (arith, c .few-places);
+        right = right-of-string string table m places m (omega arith) (omega arith) (c .right);
+        reduces = subst (λ (k : ℕ). Reduces Le s (stringOf string k)) same (found .reduces);
+      }
+
+      numbered : (i : ℕ) → i < n → getD slots i 0 < length numbers
+      numbered i h =
+          let long = length-take-le count slots (omega (arith, c .few, d .few, end-inside)) in
+          let inside : i < count = omega (arith, found .taken, d .count) in
+          let k = choice-slots (d .upward) some-nodes (c .spelled) i (omega arith) in
+          omega (arith, k, getD-take count slots i 0 inside, d .numbers-room)
+
+      pub can-write : (answer : List ℕ) → 3 + n + m ≤ length answer → Writable t numbers slots n m answer
+      can-write answer h = record { low = omega (arith, target-there, d .few-targets); few = d .few-words; there = slots-there; numbered = numbered; space = h }
+
+      -- What is written are the values of the first reading.
+      values-are : {before after : List ℕ} (w : WroteAnswer Le string m s t numbers slots n before after)
+          → after ≡ valuesOf (answer t (entryNumbers numbers slots n) (w .partners)) ++ drop (3 + n + m) before
+      values-are {before} w =
+          let ns = entryNumbers numbers slots n in
+          w .written ∙ ap (λ (k : ℕ). (t ∷ k ∷ (ns ++ (m ∷ w .partners))) ++ drop (3 + n + m) before) (sym (entry-numbers-length numbers slots n slots-there))
+          ∙ ap (λ (k : ℕ). (t ∷ length ns ∷ (ns ++ (k ∷ w .partners))) ++ drop (3 + n + m) before) (sym (w .whole))
+
+      pub answers-read :
+          (before after : List ℕ) → 3 + n + m ≤ length before → WroteAnswer Le string m s t numbers slots n before after
+          → Gives (given (firstReading le targets words) before) (Read (3 + n + m)) after
+      answers-read before after h w =
+          let linked = first-linking-greedy (d .decides) s (stringOf string m) (w .whole ∙ sym (length-string string m)) (w .greedy) in
+          gives-read before (first-with (w .partners) linked) (count-values (w .partners) (w .whole)) h (values-are w)

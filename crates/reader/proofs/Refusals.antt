@@ -23,7 +23,7 @@ NamedParse (accepted B) = Unit {0}
 NamedParse (refused number value) = (0 < number) × (number ≤ noTarget)
 
 comes-named : {bytes : Bytes} {p : Parsed} → Comes bytes p → NamedParse p
-comes-named (whole short good) = tt
+comes-named (whole short good targets) = tt
 comes-named (parsed-refused cause) = cause-within cause
 
 pub parse-named : (bytes : Bytes) → NamedParse (parse bytes)

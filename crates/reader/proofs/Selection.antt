@@ -1,5 +1,5 @@
--- From the graph of a line to its first reading: a line laid out as a graph has an answer exactly when its graph can be finished, and the
--- slots that are scanned, first to last, give the entries that the definition takes.
+-- From the graph of a line to its first reading for one target: a line laid out as a graph has one exactly when its graph can be finished up
+-- to that target's end, and the slots that are scanned, first to last, give the entries that the definition takes.
 use Prim.Native.Nat.{ℕ, _+_, _≤_, _<_}
 use native.Mathlib.Omega.{arith}
 use native.Mathlib.Decide.{ℕ-discrete}
@@ -16,7 +16,7 @@ use Rattle.pregroup.specs.Vanish.{Vanish}
 use Rattle.pregroup.specs.Tests.{Test, Decides}
 use Rattle.pregroup.proofs.Switching.{reduces-iff-vanish}
 use Rattle.linking.specs.Linking.{firstLinking}
-use Rattle.linking.specs.Reading.{NumberedEntry, Words, Answer, firstEntry, firstBehind}
+use Rattle.linking.specs.Reading.{NumberedEntry, Words, Selection, firstEntry, firstBehind}
 use Rattle.linking.proofs.Reduction.{linking-iff-reduces}
 use Rattle.linking.proofs.FirstLinking.{first-linking-none}
 use Rattle.line.specs.Passing.{AllKnown, known}
@@ -25,18 +25,19 @@ use Rattle.choice.specs.Completion.{Finishes, finishes, SlotChoice, done, choos
 use Rattle.choice.proofs.Completion.{finishes-iff-behind}
 use Rattle.choice.proofs.Choices.{SameEntry, same-entry, entry-same, path-of-choice, scanned-is-first}
 use Rattle.graph.specs.Layout.{hasNone, slotted, Slots, none as no-slot, slot, Laid, goal, word}
+use Rattle.reader.proofs.Brief.{Only, goal-there}
 
 -- An answer with one entry number more in front.
-abbrev pub withNumber : ℕ → Option Answer → Option Answer
+abbrev pub withNumber : ℕ → Option Selection → Option Selection
 withNumber n none = none
 withNumber n (some a) = some (n ∷ a .0, a .1)
 
-abbrev pub withNumbers : List ℕ → Option Answer → Option Answer
+abbrev pub withNumbers : List ℕ → Option Selection → Option Selection
 withNumbers [] o = o
 withNumbers (n ∷ ns) o = withNumber n (withNumbers ns o)
 
 -- What a word gives by its first entry's outcome.
-abbrev byOutcome : NumberedEntry → Option Answer → Option Answer → Option Answer
+abbrev byOutcome : NumberedEntry → Option Selection → Option Selection → Option Selection
 byOutcome e none rest = rest
 byOutcome e (some a) rest = some (e .number ∷ a .0, a .1)
 
@@ -45,8 +46,8 @@ empty-of-none [] h = refl
 empty-of-none (x ∷ T) h = absurd (false≢true h)
 
 -- An entry with the empty type behind one that was of no use is of no use: leaving out the entries without a slot changes nothing.
-module _ (rest : PregroupType → Option Answer) (X : PregroupType) where
-  entry-step : (e : NumberedEntry) (es : List NumberedEntry) (o : Option Answer) → rest (X ++ e .type) ≡ o → firstEntry rest X (e ∷ es) ≡ byOutcome e o (firstEntry rest X es)
+module _ (rest : PregroupType → Option Selection) (X : PregroupType) where
+  entry-step : (e : NumberedEntry) (es : List NumberedEntry) (o : Option Selection) → rest (X ++ e .type) ≡ o → firstEntry rest X (e ∷ es) ≡ byOutcome e o (firstEntry rest X es)
   unfolding firstEntry
   entry-step e es none h = rw (h, firstEntry)
   entry-step e es (some a) h = rw (h, firstEntry)
@@ -61,7 +62,7 @@ module _ (rest : PregroupType → Option Answer) (X : PregroupType) where
   skip-empty e es t h = entry-step e es none (ap (λ (T : PregroupType). rest (X ++ T)) t ∙ h)
 
   keep-empty :
-      (e : NumberedEntry) (es fs : List NumberedEntry) (o : Option Answer) → e .type ≡ [] → rest (X ++ []) ≡ o
+      (e : NumberedEntry) (es fs : List NumberedEntry) (o : Option Selection) → e .type ≡ [] → rest (X ++ []) ≡ o
       → (rest (X ++ []) ≡ none → firstEntry rest X es ≡ firstEntry rest X fs) → firstEntry rest X (e ∷ es) ≡ firstEntry rest X (e ∷ fs)
   keep-empty e es fs none t h same = entry-cong e es fs (same h)
   keep-empty e es fs (some a) t h same =
@@ -80,7 +81,7 @@ module _ (rest : PregroupType → Option Answer) (X : PregroupType) where
       go false true q k ih = keep-empty e (slotted true es) es (rest (X ++ [])) (empty-of-none (e .type) q) refl (λ z. ih true (λ r. z))
 
 -- The answer for no more words, by the first linking.
-abbrev pub lastAnswer : Option (List ℕ) → Option Answer
+abbrev pub lastAnswer : Option (List ℕ) → Option Selection
 lastAnswer none = none
 lastAnswer (some Q) = some ([], Q)
 
@@ -135,19 +136,18 @@ module _ {le : Test} {Le : Relation} (decides : Decides le Le) (g : Graph) (numb
   finishes-enter {s} e (finishes p v) = finishes (enter (by s e) p) v
 
   -- The target's part: P is finished from there exactly when it reduces to the target.
-  goal-iff : {u : ℕ} (P : PregroupType) → Boundary g u → getD (g .froms) u 0 + 1 ≡ getD (g .tos) u 0
-      → Spells g (getD (g .enters) (getD (g .froms) u 0) 0) (t ⁽ pos 1 ⁾ ∷ []) end → Finishes Le g P u end ↔ Vanish Le (P ++ (t ⁽ pos 1 ⁾ ∷ []))
-  goal-iff {u} P b one entry =
-      let w = getD (g .enters) (getD (g .froms) u 0) 0 in
-      let e : EntersBy g u (getD (g .froms) u 0) w = record { boundary = b; from-on = omega arith; before = omega arith; entered = refl } in
-      let apart : u ≡ end → ⊥ = λ q. closed (getD (g .froms) u 0) w (subst (λ (n : ℕ). EntersBy g n (getD (g .froms) u 0) w) q e) in (
-        λ f.
-            let k = taken b apart f in
-            let first : k .slot-taken ≡ getD (g .froms) u 0 = omega (arith, k .enters .from-on, k .enters .before) in
-            let there : k .leads ≡ w = k .enters .entered ∙ ap (λ (n : ℕ). getD (g .enters) n 0) first in
-            vanish-of-end (finishes-iff-behind last entry .0 (subst (λ (n : ℕ). Finishes Le g P n end) there (k .finished))),
-        λ v. finishes-enter e (finishes-iff-behind last entry .1 (finishes here (rw (append-nil (P ++ (t ⁽ pos 1 ⁾ ∷ []))) v))),
+  goal-iff : {u s v : ℕ} (P : PregroupType) → EntersBy g u s v → Spells g v (t ⁽ pos 1 ⁾ ∷ []) end → Only g u s end
+      → Finishes Le g P u end ↔ Vanish Le (P ++ (t ⁽ pos 1 ⁾ ∷ []))
+  goal-iff {u} {s} {v} P e entry only =
+      let apart : u ≡ end → ⊥ = λ q. closed s v (subst (λ (n : ℕ). EntersBy g n s v) q e) in (
+        λ f. let k = taken (e .boundary) apart f in by-slot-of (k .enters) (k .finished),
+        λ x. finishes-enter e (finishes-iff-behind last entry .1 (finishes here (rw (append-nil (P ++ (t ⁽ pos 1 ⁾ ∷ []))) x))),
       )
+    where
+      by-slot-of : {r w : ℕ} → EntersBy g u r w → Finishes Le g P w end → Vanish Le (P ++ (t ⁽ pos 1 ⁾ ∷ []))
+      by-slot-of {r} {w} k (finishes {X} p x) =
+          let there : w ≡ v = k .entered ∙ ap (λ (n : ℕ). getD (g .enters) n 0) (only r w X k p) ∙ sym (e .entered) in
+          vanish-of-end (finishes-iff-behind last entry .0 (subst (λ (n : ℕ). Finishes Le g P n end) there (finishes p x)))
 
   -- The definition's answer for no more words.
   none-iff-unlinked : (P : PregroupType) → (firstBehind le t [] P ≡ none) ↔ (Vanish Le (P ++ (t ⁽ pos 1 ⁾ ∷ [])) → ⊥)
@@ -157,7 +157,7 @@ module _ {le : Test} {Le : Relation} (decides : Decides le Le) (g : Graph) (numb
   )
 
   module _ (b : ℕ) (words : Words) (rest : (P : PregroupType) → (firstBehind le t words P ≡ none) ↔ (Finishes Le g P b end → ⊥)) (P : PregroupType) where
-    abbrev go-on : PregroupType → Option Answer
+    abbrev go-on : PregroupType → Option Selection
     go-on Y = firstBehind le t words Y
 
     -- A slot whose node does not finish P is of no use.
@@ -177,7 +177,7 @@ module _ {le : Test} {Le : Relation} (decides : Decides le Le) (g : Graph) (numb
       pub behind : c ≡ b
       pub answer : firstEntry go-on P es ≡ withNumber (getD numbers k 0) (go-on (P ++ T))
 
-    some-number : (e : NumberedEntry) (es : List NumberedEntry) (n : ℕ) (o : Option Answer) → n ≡ e .number → (o ≡ none → ⊥) → go-on (P ++ e .type) ≡ o → firstEntry go-on P (e ∷ es) ≡ withNumber n o
+    some-number : (e : NumberedEntry) (es : List NumberedEntry) (n : ℕ) (o : Option Selection) → n ≡ e .number → (o ≡ none → ⊥) → go-on (P ++ e .type) ≡ o → firstEntry go-on P (e ∷ es) ≡ withNumber n o
     some-number e es n none m not-none h = absurd (not-none refl)
     some-number e es n (some a) m not-none h = entry-step go-on P e es (some a) h ∙ ap (λ (k : ℕ). some (k ∷ a .0, a .1)) (sym m)
 
@@ -209,7 +209,7 @@ module _ {le : Test} {Le : Relation} (decides : Decides le Le) (g : Graph) (numb
     none-each (no-slot e) h r i j f = omega arith
     none-each {s} {to} (slot {e} {es} m w slots) h r i j f = at (go-on (P ++ e .type)) refl (λ z a. none-each slots z r a j f) (ℕ-discrete r s)
       where
-        at : (o : Option Answer) → go-on (P ++ e .type) ≡ o → (firstEntry go-on P es ≡ none → s + 1 ≤ r → ⊥) → Dec (r ≡ s) → ⊥
+        at : (o : Option Selection) → go-on (P ++ e .type) ≡ o → (firstEntry go-on P es ≡ none → s + 1 ≤ r → ⊥) → Dec (r ≡ s) → ⊥
         at (some a) k later d = let z : _≡_ {A = ℕ} 0 1 = cc (sym (entry-step go-on P e es (some a) k) ∙ h) in omega arith
         at none k later (yes q) = rest (P ++ e .type) .0 k (finishes-iff-behind last w .0 (subst (λ (n : ℕ). Finishes Le g P (getD (g .enters) n 0) end) q f))
         at none k later (no d) = later (sym (entry-step go-on P e es none k) ∙ h) (omega (arith, d))
@@ -221,8 +221,8 @@ module _ {le : Test} {Le : Relation} (decides : Decides le Le) (g : Graph) (numb
 
   -- A line has no answer exactly when its graph can't be finished.
   pub laid-none : {u : ℕ} {words : Words} → Laid g numbers t u words end → AllKnown words → (P : PregroupType) → (firstBehind le t words P ≡ none) ↔ (Finishes Le g P u end → ⊥)
-  laid-none (goal b one entry) known-words P =
-      (λ h f. none-iff-unlinked P .0 h (goal-iff P b one entry .0 f), λ n. none-iff-unlinked P .1 (λ v. n (goal-iff P b one entry .1 v)))
+  laid-none (goal e entry only) known-words P =
+      (λ h f. none-iff-unlinked P .0 h (goal-iff P e entry only .0 f), λ n. none-iff-unlinked P .1 (λ v. n (goal-iff P e entry only .1 v)))
   laid-none {u} (word {b = c} {words = words} b slots rest) (known {e} {es} ks) P =
       let k : (Q : PregroupType) → (firstBehind le t words Q ≡ none) ↔ (Finishes Le g Q c end → ⊥) = λ Q. laid-none rest ks Q in
       let s = getD (g .froms) u 0 in
@@ -249,21 +249,17 @@ module _ {le : Test} {Le : Relation} (decides : Decides le Le) (g : Graph) (numb
   choice-at-end q (done b) = (refl, refl)
   choice-at-end q (choose {s} {w} e r c) = absurd (closed s w (subst (λ (n : ℕ). EntersBy g n s w) q e))
 
-  -- The target's word has one slot, which spells its right adjoint.
-  goal-spelt : {u : ℕ} {slots : List ℕ} (P X : PregroupType) → Boundary g u → getD (g .froms) u 0 + 1 ≡ getD (g .tos) u 0
-      → Spells g (getD (g .enters) (getD (g .froms) u 0) 0) (t ⁽ pos 1 ⁾ ∷ []) end → SlotChoice g u slots X end
-      → (P ++ X ≡ P ++ (t ⁽ pos 1 ⁾ ∷ [])) × (length slots ≡ 1)
-  goal-spelt P X b only entry (done h) =
-      absurd (closed (getD (g .froms) end 0) _ (record { boundary = b; from-on = omega arith; before = omega arith; entered = refl }))
-  goal-spelt {u} P X b only entry (choose {s} {w} {b = c} {T} {X = Y} {slots = more} e r k) =
-      let first : s ≡ getD (g .froms) u 0 = omega (arith, e .from-on, e .before) in
-      let there : w ≡ getD (g .enters) (getD (g .froms) u 0) 0 = e .entered ∙ ap (λ (n : ℕ). getD (g .enters) n 0) first in
-      go (entry-same entry (subst (λ (n : ℕ). Spells g n T c) there r)) k
+  -- Of the targets' word the one slot that leads to the end spells the target's right adjoint.
+  goal-spelt : {u s v : ℕ} {slots : List ℕ} (P X : PregroupType) → EntersBy g u s v → Spells g v (t ⁽ pos 1 ⁾ ∷ []) end → Only g u s end
+      → SlotChoice g u slots X end → (P ++ X ≡ P ++ (t ⁽ pos 1 ⁾ ∷ [])) × (length slots ≡ 1)
+  goal-spelt {s = s} {v} P X e entry only (done h) = absurd (closed s v e)
+  goal-spelt {u} P X e entry only (choose {s = r} {b = c} {T} {X = Y} {slots = more} k spelt others) =
+      go (entry-same entry (subst (λ (n : ℕ). Spells g n T c) (goal-there e only k spelt others) spelt)) others
     where
-      go : {T : PregroupType} {c : ℕ} → SameEntry (t ⁽ pos 1 ⁾ ∷ []) end T c → SlotChoice g c more Y end → (P ++ (T ++ Y) ≡ P ++ (t ⁽ pos 1 ⁾ ∷ [])) × (length (s ∷ more) ≡ 1)
+      go : {T : PregroupType} {c : ℕ} → SameEntry (t ⁽ pos 1 ⁾ ∷ []) end T c → SlotChoice g c more Y end → (P ++ (T ++ Y) ≡ P ++ (t ⁽ pos 1 ⁾ ∷ [])) × (length (r ∷ more) ≡ 1)
       go same-entry c =
           let empty = choice-at-end refl c in
-          (ap (λ (Z : PregroupType). P ++ (t ⁽ pos 1 ⁾ ∷ Z)) (empty .1), ap (λ (l : List ℕ). length (s ∷ l)) (empty .0))
+          (ap (λ (Z : PregroupType). P ++ (t ⁽ pos 1 ⁾ ∷ Z)) (empty .1), ap (λ (l : List ℕ). length (r ∷ l)) (empty .0))
 
   -- What a word's slot spells, and then the rest.
   word-spelt : {u s w b n : ℕ} {T X Z : PregroupType} {slots : List ℕ} (P : PregroupType) → EntersBy g u s w → Spells g w T b
@@ -310,6 +306,6 @@ module _ {le : Test} {Le : Relation} (decides : Decides le Le) (g : Graph) (numb
     scanned-word slots-of bound (takes enters entry earlier more) = taken-word slots-of bound enters entry earlier more
 
   pub scanned-answers : {u : ℕ} {words : Words} → Laid g numbers t u words end → AllKnown words → (P : PregroupType) (slots : List ℕ) → Scanned Le g end P u slots → Answered P u words slots
-  scanned-answers (goal b only entry) ks P slots r = record { ns = []; string = P; numbers-are = refl; spelt = λ X c. goal-spelt P X b only entry c; answer = behind-none le t P }
+  scanned-answers (goal e entry only) ks P slots r = record { ns = []; string = P; numbers-are = refl; spelt = λ X c. goal-spelt P X e entry only c; answer = behind-none le t P }
   scanned-answers (word {words = words} b slots-of rest) (known {e} {es} ks) P slots r =
       scanned-word e es words (λ Q. laid-none rest ks Q) (λ Q others s. scanned-answers rest ks Q others s) slots-of b r

@@ -11,7 +11,7 @@ use Rattle.pregroup.specs.Types.{PregroupType, even, plain, _⁽_⁾}
 use Rattle.pregroup.specs.Tests.{sameExponent, contracts}
 use Rattle.order.specs.Closed.{below}
 use Rattle.linking.specs.Linking.{firstSome, linkedTo, firstWithin, unlinkedAt, firstFrom, firstLinking}
-use Rattle.linking.specs.Reading.{NumberedEntry, firstEntry, firstBehind, firstReading}
+use Rattle.linking.specs.Reading.{NumberedEntry, answer, firstEntry, firstBehind, firstTarget, firstReading}
 use Rattle.book.specs.Format.{Bytes, Entry, every, twoBytes, nameByte, isName, exponentOf, simplesOf, isEntry, exponentListed, sameBytes, bodyRules, recordRules, firstBroken, add, ended, recordsFrom, parse}
 use Rattle.book.proofs.PaperBooks.{typeRecord, entryRecord, targetRecord, join, types, entries, fetch, bed4, ward7, firstBook}
 use Rattle.line.specs.LineWords.{wordsFrom}
@@ -84,9 +84,9 @@ outcomes book lines = map (λ (words : List Bytes). outcome book (lineOf words) 
 pub spelt-lines :
     outcomes twoSpellings ((FETCH ∷ bed4 ∷ ward7 ∷ []) ∷ (fetch ∷ Bed4 ∷ []) ∷ (Fetch ∷ bed4 ∷ []) ∷ [])
     ++ outcomes signs (((91 ∷ []) ∷ []) ∷ ((96 ∷ []) ∷ []) ∷ ((123 ∷ []) ∷ []) ∷ ((64 ∷ []) ∷ []) ∷ [])
-    ≡ expected (some (1 ∷ 2 ∷ 3 ∷ [], 1 ∷ 5 ∷ 4 ∷ 3 ∷ 2 ∷ [])) ∷ expected (some (0 ∷ 2 ∷ [], 1 ∷ 3 ∷ 2 ∷ [])) ∷ expected (some (0 ∷ 2 ∷ [], 1 ∷ 3 ∷ 2 ∷ []))
-    ∷ expected (some (0 ∷ [], 1 ∷ [])) ∷ expected (some (1 ∷ [], 1 ∷ [])) ∷ unknown ∷ unknown ∷ []
-unfolding every twoBytes nameByte isName exponentOf simplesOf isEntry exponentListed sameBytes bodyRules recordRules firstBroken add ended recordsFrom parse even sameExponent contracts firstSome linkedTo firstWithin unlinkedAt firstFrom firstLinking firstEntry firstBehind firstReading below small sameWord wordsFrom entriesFrom byteFault wordFault entryFault simplesIn simplesOfWords lineCheck given readAgainst readParsed
+    ≡ expected (some (answer 0 (1 ∷ 2 ∷ 3 ∷ []) (1 ∷ 5 ∷ 4 ∷ 3 ∷ 2 ∷ []))) ∷ expected (some (answer 0 (0 ∷ 2 ∷ []) (1 ∷ 3 ∷ 2 ∷ []))) ∷ expected (some (answer 0 (0 ∷ 2 ∷ []) (1 ∷ 3 ∷ 2 ∷ [])))
+    ∷ expected (some (answer 0 (0 ∷ []) (1 ∷ []))) ∷ expected (some (answer 0 (1 ∷ []) (1 ∷ []))) ∷ unknown ∷ unknown ∷ []
+unfolding every twoBytes nameByte isName exponentOf simplesOf isEntry exponentListed sameBytes bodyRules recordRules firstBroken add ended recordsFrom parse even sameExponent contracts firstSome linkedTo firstWithin unlinkedAt firstFrom firstLinking firstEntry firstBehind firstTarget firstReading below small sameWord wordsFrom entriesFrom byteFault wordFault entryFault simplesIn simplesOfWords lineCheck given readAgainst readParsed
 spelt-lines = refl
 
 -- A word 22 times in a line: with an entry of 12 simple types under one spelling they are 264 together, under two 528, which is 14.

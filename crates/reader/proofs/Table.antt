@@ -10,7 +10,7 @@ use Rattle.pregroup.specs.Types.{even}
 use Rattle.pregroup.specs.Tests.{sameExponent, contracts}
 use Rattle.order.specs.Closed.{below}
 use Rattle.linking.specs.Linking.{firstSome, linkedTo, firstWithin, unlinkedAt, firstFrom, firstLinking}
-use Rattle.linking.specs.Reading.{Answer, firstEntry, firstBehind, firstReading}
+use Rattle.linking.specs.Reading.{Answer, answer, firstEntry, firstBehind, firstTarget, firstReading}
 use Rattle.book.specs.Format.{Bytes, every, twoBytes, nameByte, isName, exponentOf, simplesOf, isEntry, exponentListed, sameBytes, bodyRules, recordRules, firstBroken, add, ended, recordsFrom, parse}
 use Rattle.book.proofs.PaperBooks.{typeRecord, pairRecord, entryRecord, targetRecord, join, fetch, bed4, ward7, urgently, admit, site, go, please, log, firstBook, secondBook}
 use Rattle.line.specs.LineWords.{wordsFrom}
@@ -63,7 +63,7 @@ abbrev pub lineOf : List Bytes → Bytes
 lineOf [] = []
 lineOf (word ∷ words) = word ++ join (map (λ (next : Bytes). 32 ∷ next) words)
 
--- A case: a book, the words of a line, and the entries and partners of its reading, or none for 15.
+-- A case: a book, the words of a line, and the target's number, entries and partners of its reading, or none for 15. Each book has one target.
 pub record Case : Type 0 where
   pub book : Bytes
   pub words : List Bytes
@@ -74,19 +74,19 @@ case book words reading = record { book = book; words = words; reading = reading
 
 abbrev pub cases : List Case
 cases =
-    case firstBook (fetch ∷ bed4 ∷ ward7 ∷ []) (some (1 ∷ 2 ∷ 3 ∷ [], 1 ∷ 5 ∷ 4 ∷ 3 ∷ 2 ∷ []))
-    ∷ case firstBook (fetch ∷ bed4 ∷ []) (some (0 ∷ 2 ∷ [], 1 ∷ 3 ∷ 2 ∷ []))
-    ∷ case firstBook (go ∷ []) (some (7 ∷ [], 1 ∷ []))
-    ∷ case firstBook (go ∷ urgently ∷ []) (some (7 ∷ 4 ∷ [], 2 ∷ 1 ∷ 3 ∷ []))
-    ∷ case firstBook (go ∷ urgently ∷ urgently ∷ []) (some (7 ∷ 4 ∷ 4 ∷ [], 2 ∷ 1 ∷ 4 ∷ 3 ∷ 5 ∷ []))
-    ∷ case firstBook (please ∷ go ∷ urgently ∷ []) (some (8 ∷ 7 ∷ 4 ∷ [], 1 ∷ 5 ∷ 4 ∷ 3 ∷ 2 ∷ []))
-    ∷ case firstBook (admit ∷ ward7 ∷ []) (some (5 ∷ 3 ∷ [], 1 ∷ 3 ∷ 2 ∷ []))
+    case firstBook (fetch ∷ bed4 ∷ ward7 ∷ []) (some (answer 0 (1 ∷ 2 ∷ 3 ∷ []) (1 ∷ 5 ∷ 4 ∷ 3 ∷ 2 ∷ [])))
+    ∷ case firstBook (fetch ∷ bed4 ∷ []) (some (answer 0 (0 ∷ 2 ∷ []) (1 ∷ 3 ∷ 2 ∷ [])))
+    ∷ case firstBook (go ∷ []) (some (answer 0 (7 ∷ []) (1 ∷ [])))
+    ∷ case firstBook (go ∷ urgently ∷ []) (some (answer 0 (7 ∷ 4 ∷ []) (2 ∷ 1 ∷ 3 ∷ [])))
+    ∷ case firstBook (go ∷ urgently ∷ urgently ∷ []) (some (answer 0 (7 ∷ 4 ∷ 4 ∷ []) (2 ∷ 1 ∷ 4 ∷ 3 ∷ 5 ∷ [])))
+    ∷ case firstBook (please ∷ go ∷ urgently ∷ []) (some (answer 0 (8 ∷ 7 ∷ 4 ∷ []) (1 ∷ 5 ∷ 4 ∷ 3 ∷ 2 ∷ [])))
+    ∷ case firstBook (admit ∷ ward7 ∷ []) (some (answer 0 (5 ∷ 3 ∷ []) (1 ∷ 3 ∷ 2 ∷ [])))
     ∷ case firstBook (admit ∷ site ∷ []) none
     ∷ case firstBook (go ∷ go ∷ []) none
     ∷ case firstBook (fetch ∷ site ∷ []) none
     ∷ case firstBook [] none
-    ∷ case secondBook (log ∷ go ∷ urgently ∷ []) (some (9 ∷ 7 ∷ 4 ∷ [], 1 ∷ 5 ∷ 4 ∷ 3 ∷ 2 ∷ []))
-    ∷ case thesisBook (I ∷ will ∷ meet ∷ him ∷ []) (some (0 ∷ 1 ∷ 3 ∷ 4 ∷ [], 2 ∷ 1 ∷ 3 ∷ 5 ∷ 4 ∷ 7 ∷ 6 ∷ []))
+    ∷ case secondBook (log ∷ go ∷ urgently ∷ []) (some (answer 0 (9 ∷ 7 ∷ 4 ∷ []) (1 ∷ 5 ∷ 4 ∷ 3 ∷ 2 ∷ [])))
+    ∷ case thesisBook (I ∷ will ∷ meet ∷ him ∷ []) (some (answer 0 (0 ∷ 1 ∷ 3 ∷ 4 ∷ []) (2 ∷ 1 ∷ 3 ∷ 5 ∷ 4 ∷ 7 ∷ 6 ∷ [])))
     ∷ []
 
 -- What a case comes to with 20 values lent: its answer and then what stood behind it, or 15 and the buffer as it was.
@@ -98,5 +98,5 @@ expected none = record { answer = Refused noReading 0; buffer = lent }
 expected (some a) = record { answer = Read (length (valuesOf a)); buffer = valuesOf a ++ drop (length (valuesOf a)) lent }
 
 pub paper-cases : map (λ (c : Case). outcome (c .book) (lineOf (c .words)) lent) cases ≡ map (λ (c : Case). expected (c .reading)) cases
-unfolding every twoBytes nameByte isName exponentOf simplesOf isEntry exponentListed sameBytes bodyRules recordRules firstBroken add ended recordsFrom parse even sameExponent contracts firstSome linkedTo firstWithin unlinkedAt firstFrom firstLinking firstEntry firstBehind firstReading below small sameWord wordsFrom entriesFrom byteFault wordFault entryFault simplesIn simplesOfWords lineCheck given readAgainst readParsed
+unfolding every twoBytes nameByte isName exponentOf simplesOf isEntry exponentListed sameBytes bodyRules recordRules firstBroken add ended recordsFrom parse even sameExponent contracts firstSome linkedTo firstWithin unlinkedAt firstFrom firstLinking firstEntry firstBehind firstTarget firstReading below small sameWord wordsFrom entriesFrom byteFault wordFault entryFault simplesIn simplesOfWords lineCheck given readAgainst readParsed
 paper-cases = refl

@@ -1,32 +1,33 @@
 -- The results that everything here serves, each in full and proved elsewhere under the name on its last line. They go from the calculus to
 -- linkings and readings, then to a book and the look-up of words in it, and end with what reading a line comes to.
-use Prim.Native.Nat.{ℕ, _≤_}
+use Prim.Native.Nat.{ℕ, _+_, _≤_, _<_}
 use mathlib.Core.Path.{_≡_}
 use mathlib.Core.Bool.{true}
 use mathlib.Core.Logic.{_↔_, _⊎_}
 use mathlib.Core.List.{List, [], _∷_, _++_, map}
 use mathlib.Core.Option.{none, some}
 use lib.ListN.{length}
-use Rattle.figures.specs.Limits.{maxTypes}
+use Rattle.figures.specs.Limits.{maxBook, maxTypes, maxTargets}
 use Rattle.figures.specs.Refusals.{Reply}
-use Rattle.pregroup.specs.Types.{Basic, PregroupType, plain, rightAdjoint}
+use Rattle.pregroup.specs.Types.{Basic, PregroupType, plain, leftAdjoint, rightAdjoint}
 use Rattle.pregroup.specs.Order.{Relation, IsOrder, AllDeclared}
 use Rattle.pregroup.specs.Steps.{Chain, Contractions}
 use Rattle.pregroup.specs.Vanish.{Vanish, Reduces}
 use Rattle.pregroup.specs.Tests.{Test, Decides}
-use Rattle.pregroup.proofs.General.{general}
+use Rattle.pregroup.proofs.General.{general, general-left}
 use Rattle.pregroup.proofs.Switching.{switching, switching-contractions}
 use Rattle.linking.specs.Linking.{IsLinking}
-use Rattle.linking.specs.Reading.{Words, Choice, IsReading, IsFirst, firstReading}
+use Rattle.linking.specs.Reading.{Words, Choice, targetAt, IsReading, IsFirst, answer, firstReading}
 use Rattle.linking.specs.Ascending.{AllAscending}
 use Rattle.linking.proofs.Reduction.{linking-iff-reduces}
 use Rattle.linking.proofs.FirstReading.{first-reading-some, first-reading-none, first-reading-unique}
+use Rattle.linking.proofs.Targets.{IsFirstFor, one-target-reads}
 use Rattle.linking.proofs.Derivation.{reading-iff-chain}
 use Rattle.order.specs.Closed.{Closed, Pair, Listed, DeclaredPairs, below, closedCount}
 use Rattle.order.specs.Rows.{Hold, pairsIn}
 use Rattle.order.proofs.Decision.{below-decides}
 use Rattle.order.proofs.Counting.{pairs-in-closed}
-use Rattle.book.specs.Format.{Bytes, Book, nothingYet, recordsFrom}
+use Rattle.book.specs.Format.{Bytes, Book, accepted, parse, recordOf, nothingYet, recordsFrom}
 use Rattle.book.specs.Check.{bookCheck, checkReply, BookPromised}
 use Rattle.book.proofs.Parsing.{bound-never-ends}
 use Rattle.book.proofs.Promises.{check-promised, one-answer}
@@ -36,16 +37,21 @@ use Rattle.line.specs.LineFaults.{entriesOfLine}
 use Rattle.line.specs.Promise.{LookUpPromised}
 use Rattle.line.proofs.PromiseLaws.{look-up-kept}
 use Rattle.reader.specs.declared.LineAnswer.the-variants.{Refused}
-use Rattle.reader.specs.Outcome.{outcome}
-use Rattle.reader.specs.Demands.{Promised}
+use Rattle.reader.specs.Outcome.{outcomeReply, outcome}
+use Rattle.reader.specs.Demands.{OrderOf, Readable, Promised}
 use Rattle.reader.proofs.Promises.{outcome-promised, refusals-within}
 use Rattle.reader.proofs.Capitals.{small-line-outcome, same-books-outcome}
+use Rattle.reader.proofs.SeveralTargets.{one-target-outcome, repeated-target-outcome}
 use Rattle.reader.proofs.Table.{Case, lineOf, cases, lent, expected, paper-cases}
 
 module _ {Declared : Basic → Type 0} {Le : Relation} (order : IsOrder Declared Le) where
   -- The general theorem: X can be turned into Y exactly when X with the right adjoint of Y behind it vanishes.
   pub general-theorem : (X Y : PregroupType) → AllDeclared Declared Y → Chain Le X Y ↔ Vanish Le (X ++ rightAdjoint Y)
   general-theorem = general order
+
+  -- By the left adjoint too: exactly when the left adjoint of Y with X behind it vanishes.
+  pub general-theorem-left : (X Y : PregroupType) → AllDeclared Declared Y → Chain Le X Y ↔ Vanish Le (leftAdjoint Y ++ X)
+  general-theorem-left = general-left order
 
   -- The switching lemma: X reaches s exactly when contractions alone bring it to some plain q with q ≤ s.
   pub switching-lemma : (X : PregroupType) (s : Basic) → Declared s → Chain Le X (plain s ∷ []) ↔ ((q : Basic) × Contractions Le X (plain q ∷ []) × Le q s)
@@ -55,27 +61,33 @@ module _ {Declared : Basic → Type 0} {Le : Relation} (order : IsOrder Declared
   pub switching-by-links : (X : PregroupType) (s : Basic) → Declared s → Chain Le X (plain s ∷ []) ↔ Reduces Le s X
   switching-by-links = switching order
 
-  -- A line has a reading exactly when the type of some choice can be turned into the target.
-  pub reading-exactly-when-chain : (s : Basic) → Declared s → (words : Words)
-      → ((ns : List ℕ) × (P : List ℕ) × IsReading Le s words ns P) ↔ ((ns : List ℕ) × (X : PregroupType) × Choice words ns X × Chain Le X (plain s ∷ []))
+  -- A line has a reading exactly when the type of some choice can be turned into some target.
+  pub reading-exactly-when-chain : (targets : List Basic) → ((t : ℕ) → t < length targets → Declared (targetAt targets t)) → (words : Words)
+      → ((t : ℕ) × (ns : List ℕ) × (P : List ℕ) × IsReading Le targets words t ns P)
+      ↔ ((t : ℕ) × (t < length targets) × (ns : List ℕ) × (X : PregroupType) × Choice words ns X × Chain Le X (plain (targetAt targets t) ∷ []))
   reading-exactly-when-chain = reading-iff-chain order
 
 -- A type has a linking exactly when everything in it but one plain type at or below the target links up.
 pub linking-exactly-when-reduces : {Le : Relation} {s : Basic} {X : PregroupType} → Reduces Le s X ↔ ((P : List ℕ) × IsLinking Le s X P)
 linking-exactly-when-reduces = linking-iff-reduces
 
-module _ {le : Test} {Le : Relation} (decides : Decides le Le) (s : Basic) {words : Words} (ascending : AllAscending words) where
+module _ {le : Test} {Le : Relation} (decides : Decides le Le) {words : Words} (ascending : AllAscending words) {targets : List Basic} where
   -- What `firstReading` gives is the first reading.
-  pub found-is-first : {ns P : List ℕ} → firstReading le s words ≡ some (ns, P) → IsFirst Le s words ns P
-  found-is-first = first-reading-some decides s ascending
+  pub found-is-first : {t : ℕ} {ns P : List ℕ} → firstReading le targets words ≡ some (answer t ns P) → IsFirst Le targets words t ns P
+  found-is-first = first-reading-some decides ascending
 
   -- It gives none exactly when there is no reading.
-  pub none-exactly-when-unread : (firstReading le s words ≡ none) ↔ ((ns P : List ℕ) → IsReading Le s words ns P → ⊥)
-  none-exactly-when-unread = first-reading-none decides s ascending
+  pub none-exactly-when-unread : (firstReading le targets words ≡ none) ↔ ((t : ℕ) (ns P : List ℕ) → IsReading Le targets words t ns P → ⊥)
+  none-exactly-when-unread = first-reading-none decides ascending
 
   -- The first reading is unique: any one is what it gives.
-  pub first-is-unique : {ns P : List ℕ} → IsFirst Le s words ns P → firstReading le s words ≡ some (ns, P)
-  first-is-unique = first-reading-unique decides s ascending
+  pub first-is-unique : {t : ℕ} {ns P : List ℕ} → IsFirst Le targets words t ns P → firstReading le targets words ≡ some (answer t ns P)
+  first-is-unique = first-reading-unique decides ascending
+
+-- With one target the first reading is the one for that target, with 0 in front.
+pub first-for-one-target : {Le : Relation} {s : Basic} {words : Words} {t : ℕ} {ns P : List ℕ}
+    → IsFirst Le (s ∷ []) words t ns P ↔ ((t ≡ 0) × IsFirstFor Le s words ns P)
+first-for-one-target = one-target-reads
 
 -- The test of a book's order is right: it says yes exactly of what the closure of the pairs relates.
 pub order-is-decided : (types : ℕ) (pairs : List Pair) → DeclaredPairs types pairs → Decides (below types pairs) (Closed types (Listed pairs))
@@ -138,6 +150,18 @@ module _ (book line : Bytes) (buffer : List ℕ) where
   -- A refusal has a number from 1 to 16; 0 stands for success.
   pub refusals-from-1-to-16 : (number value : ℕ) → outcome book line buffer .answer ≡ Refused number value → (1 ≤ number) × (number ≤ 16)
   refusals-from-1-to-16 = refusals-within book line buffer
+
+-- A book with one target takes the readings that it takes for this target, with 0 in front of the values.
+pub one-target-answers : (book line : Bytes) (B : Book) (words : Words) (s : Basic) → Readable book line B words → B .targets ≡ s ∷ [] → (ns P buffer : List ℕ)
+    → IsFirstFor (OrderOf B) s words ns P → 3 + length ns + length P ≤ length buffer
+    → outcomeReply (outcome book line buffer) ≡ record { number = 0; values = 0 ∷ length ns ∷ (ns ++ (length P ∷ P)) }
+one-target-answers = one-target-outcome
+
+-- A target repeated at the end of a book changes no outcome.
+pub repeated-target-changes-nothing : (book : Bytes) (B : Book) (t : ℕ) → parse book ≡ accepted B → t < length (B .targets) → length (B .targets) < maxTargets
+    → length book + 5 ≤ maxBook → (line : Bytes) (buffer : List ℕ)
+    → outcome (book ++ recordOf 4 (targetAt (B .targets) t ∷ [])) line buffer ≡ outcome book line buffer
+repeated-target-changes-nothing = repeated-target-outcome
 
 -- The marked cases of the paper come to what its table says.
 pub marked-cases : map (λ (c : Case). outcome (c .book) (lineOf (c .words)) lent) cases ≡ map (λ (c : Case). expected (c .reading)) cases

@@ -11,7 +11,7 @@ use Rattle.pregroup.specs.Order.{Relation}
 use Rattle.pregroup.specs.Steps.{Chain}
 use Rattle.order.specs.Closed.{Closed, Listed}
 use Rattle.book.specs.Format.{Bytes, Book, accepted, parse}
-use Rattle.linking.specs.Reading.{Words, Choice, IsReading, IsFirst}
+use Rattle.linking.specs.Reading.{Words, Choice, targetAt, IsReading, IsFirst, answer}
 use Rattle.line.specs.LineFaults.{passed, lineCheck}
 use Rattle.reader.specs.declared.LineAnswer.{LineAnswer}
 use Rattle.reader.specs.declared.LineAnswer.the-variants.{Read}
@@ -28,24 +28,28 @@ pub record Readable (book line : Bytes) (B : Book) (words : Words) : Type 0 wher
 
 -- The values written are the first reading, whole. Those behind them stay.
 pub record Written (B : Book) (words : Words) (buffer values after : List ℕ) : Type 0 where
+  pub target : ℕ
   pub entries : List ℕ
   pub partners : List ℕ
-  pub first : IsFirst (OrderOf B) (B .target) words entries partners
-  pub whole : values ≡ valuesOf (entries, partners)
+  pub first : IsFirst (OrderOf B) (B .targets) words target entries partners
+  pub whole : values ≡ valuesOf (answer target entries partners)
   pub room : length values ≤ length buffer
   pub behind : after ≡ values ++ drop (length values) buffer
 
--- 16 and v: there is a first reading, it takes v values, one for each word and simple type and two more, and fewer are lent.
+-- 16 and v: there is a first reading, it takes v values, one for each word and simple type and three more, and fewer are lent.
 pub record TooShort (B : Book) (words : Words) (buffer : List ℕ) (v : ℕ) : Type 0 where
+  pub target : ℕ
   pub entries : List ℕ
   pub partners : List ℕ
-  pub first : IsFirst (OrderOf B) (B .target) words entries partners
-  pub needed : v ≡ 2 + length entries + length partners
+  pub first : IsFirst (OrderOf B) (B .targets) words target entries partners
+  pub needed : v ≡ 3 + length entries + length partners
   pub lent : length buffer < v
 
--- No choice of entries can be turned into the target.
+-- No choice of entries can be turned into any of the targets.
 abbrev pub NoChain : Book → Words → Type 0
-NoChain B words = (entries : List ℕ) (X : PregroupType) → Choice words entries X → Chain (OrderOf B) X (plain (B .target) ∷ []) → ⊥
+NoChain B words =
+    (t : ℕ) → t < length (B .targets) → (entries : List ℕ) (X : PregroupType) → Choice words entries X
+    → Chain (OrderOf B) X (plain (targetAt (B .targets) t) ∷ []) → ⊥
 
 -- The promises, for the answer that is returned and the buffer after it, by the paper's number and values.
 pub record Promised (book line : Bytes) (buffer : List ℕ) (answer : LineAnswer) (after : List ℕ) : Type 0 where
@@ -56,11 +60,11 @@ pub record Promised (book line : Bytes) (buffer : List ℕ) (answer : LineAnswer
   -- The number that comes with an answer, which the paper leaves free, is how many values it has.
   pub counted : (n : ℕ) → answer ≡ Read n → n ≡ length (lineReply answer after .values)
   -- A line with a reading gets one, if the buffer holds the first.
-  pub found : (B : Book) (words : Words) → Readable book line B words → (entries partners : List ℕ) → IsReading (OrderOf B) (B .target) words entries partners
+  pub found : (B : Book) (words : Words) → Readable book line B words → (t : ℕ) (entries partners : List ℕ) → IsReading (OrderOf B) (B .targets) words t entries partners
       → (lineReply answer after .number ≡ 0) ⊎ ((v : ℕ) × TooShort B words buffer v)
   -- 16 with v, exactly when the first reading takes v values and fewer are lent.
   pub short : (B : Book) (words : Words) → Readable book line B words → (v : ℕ)
       → (lineReply answer after ≡ refusal bufferTooShort v) ↔ TooShort B words buffer v
-  -- 15 with 0, exactly when no choice of entries can be turned into the target by a chain.
+  -- 15 with 0, exactly when no choice of entries can be turned into any of the targets by a chain.
   pub unread : (B : Book) (words : Words) → Readable book line B words
       → (lineReply answer after ≡ refusal noReading 0) ↔ NoChain B words

@@ -30,9 +30,9 @@ pub record Outcome (A : Type 0) : Type 0 where
 abbrev pub outcomeReply : Outcome LineAnswer → Reply
 outcomeReply o = lineReply (o .answer) (o .buffer)
 
--- An answer of n words and m simple types: n, the n entry numbers, m, the m partners.
+-- An answer of n words and m simple types: the target's number, n, the n entry numbers, m, the m partners.
 abbrev pub valuesOf : Answer → List ℕ
-valuesOf a = length (a .0) ∷ (a .0 ++ (length (a .1) ∷ a .1))
+valuesOf a = a .target ∷ length (a .entries) ∷ (a .entries ++ (length (a .partners) ∷ a .partners))
 
 -- 15: no reading. 16: answer buffer too short, with the values needed. Values behind an answer stay.
 unfoldable pub given : Option Answer → List ℕ → Outcome LineAnswer
@@ -44,7 +44,7 @@ given (some a) buffer =
 
 unfoldable pub readAgainst : Book → LineCheck → List ℕ → Outcome LineAnswer
 readAgainst B (stopped number value) buffer = record { answer = Refused number value; buffer = buffer }
-readAgainst B (passed words) buffer = given (firstReading (below (length (B .names)) (B .pairs)) (B .target) words) buffer
+readAgainst B (passed words) buffer = given (firstReading (below (length (B .names)) (B .pairs)) (B .targets) words) buffer
 
 unfoldable pub readParsed : Parsed → Bytes → List ℕ → Outcome LineAnswer
 readParsed (refused number value) line buffer = record { answer = Refused number value; buffer = buffer }

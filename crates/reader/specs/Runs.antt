@@ -1,9 +1,9 @@
 -- What the steps of reading a line ask and give: a book that is open, and a line's graph.
-use Prim.Native.Nat.{ℕ, _+_, _≤_, _<_}
+use Prim.Native.Nat.{ℕ, _≤_, _<_}
 use mathlib.Core.Path.{_≡_}
 use mathlib.Core.List.{List}
-use lib.ListN.{length}
-use Rattle.figures.specs.Limits.{maxWords, maxNodes}
+use lib.ListN.{length, take}
+use Rattle.figures.specs.Limits.{maxWords, maxNodes, maxTargets}
 use Rattle.pregroup.specs.Types.{Basic}
 use Rattle.pregroup.specs.Order.{Relation}
 use Rattle.pregroup.specs.Tests.{Test, Decides}
@@ -12,41 +12,58 @@ use Rattle.order.specs.Closed.{below}
 use Rattle.book.specs.Format.{Bytes, Book, accepted, refused, parse}
 use Rattle.book.specs.declared.Scan.{Scan}
 use Rattle.book.specs.declared.Scan.the-variants.{Accepted, Refused}
-use Rattle.linking.specs.Reading.{Words}
+use Rattle.linking.specs.Reading.{Words, targetAt}
 use Rattle.lookup.specs.Entries.{entriesKept}
 use Rattle.lookup.specs.Threads.{Alike}
 use Rattle.line.specs.Passing.{AllKnown, AllBrief}
 use Rattle.graph.specs.Graph.{Graph, Upward}
-use Rattle.graph.specs.Layout.{Laid}
+use Rattle.graph.specs.Layout.{End, Laid}
 use Rattle.graph.specs.Cells.{Lexicon}
+use Rattle.graph.specs.Lists.{endAt, nodesWith}
+use Rattle.bits.specs.Rows.{HasRow, InRow}
 
--- The book is B, its entries are kept at these offsets and threaded by their keys, and the rows hold its order.
-pub record Open (bytes : Bytes) (offsets : List ℕ) (count : ℕ) (alike rows : List ℕ) (target : ℕ) (B : Book) : Type 0 where
+-- The book is B, its entries are kept at these offsets and threaded by their keys, the rows hold its order, and these are its targets.
+pub record Open (bytes : Bytes) (offsets : List ℕ) (count : ℕ) (alike rows targets : List ℕ) (B : Book) : Type 0 where
   pub parsed : parse bytes ≡ accepted B
   pub entries : B .entries ≡ entriesKept bytes offsets count
   pub lexicon : Lexicon bytes offsets count
   pub threaded : Alike bytes offsets count alike
   pub decides : Decides (below (length (B .names)) (B .pairs)) (InRows rows)
-  pub chosen : B .target ≡ target
+  pub chosen : B .targets ≡ targets
+  pub few-targets : length targets ≤ maxTargets
 
 -- Some book is open.
-abbrev pub IsOpen : Bytes → List ℕ → ℕ → List ℕ → List ℕ → ℕ → Type 0
-IsOpen bytes offsets count alike rows target = (B : Book) × Open bytes offsets count alike rows target B
+abbrev pub IsOpen : Bytes → List ℕ → ℕ → List ℕ → List ℕ → List ℕ → Type 0
+IsOpen bytes offsets count alike rows targets = (B : Book) × Open bytes offsets count alike rows targets B
 
--- What opening a book comes to: it is open, or refused.
-abbrev pub OpeningSays : Bytes → List ℕ → List ℕ → List ℕ → Scan → Type 0
-OpeningSays bytes offsets alike rows (Accepted types count target) = IsOpen bytes offsets count alike rows target
-OpeningSays bytes offsets alike rows (Refused number value) = parse bytes ≡ refused number value
+-- What opening a book comes to: it is open, and its targets are the first ones kept; or it is refused.
+abbrev pub OpeningSays : Bytes → List ℕ → List ℕ → List ℕ → List ℕ → Scan → Type 0
+OpeningSays bytes offsets alike rows kept (Accepted types count goals) = IsOpen bytes offsets count alike rows (take goals kept) × (goals ≤ length kept)
+OpeningSays bytes offsets alike rows kept (Refused number value) = parse bytes ≡ refused number value
 
--- The graph is that of these words, n of them, and the target; its edges go up, its lists have room, and the test decides the order.
-pub record Drawn (le : Test) (Le : Relation) (g : Graph) (numbers : List ℕ) (t : Basic) (n : ℕ) (words : Words) : Type 0 where
+-- The graph is that of these words, n of them, and the targets behind the last boundary; its edges go up, its lists have room, and the test
+-- decides the order.
+pub record Drawn (le : Test) (Le : Relation) (g : Graph) (numbers : List ℕ) (targets : List Basic) (last n : ℕ) (words : Words) : Type 0 where
   pub upward : Upward g
-  pub some-nodes : 0 < g .count
+  pub nodes : g .count ≡ nodesWith last (length targets)
   pub few : g .count ≤ maxNodes
+  pub few-targets : length targets ≤ maxTargets
   pub few-words : n ≤ maxWords
   pub numbers-room : length (g .enters) ≤ length numbers
   pub decides : Decides le Le
-  pub laid : (end : ℕ) → end + 1 ≡ g .count → Laid g numbers t 0 words end
+  pub ends : (t : ℕ) → t < length targets → End g (endAt last t)
+  pub laid : (t : ℕ) → t < length targets → Laid g numbers (targetAt targets t) 0 words (endAt last t)
   pub known-words : AllKnown words
   pub brief-words : AllBrief words
   pub count : length words ≡ n
+
+-- What the search for the first target asks: the chart has a row for node 0, and the ends are nodes.
+pub record EndsThere (chart : List ℕ) (last count : ℕ) : Type 0 where
+  pub room : HasRow chart 0
+  pub few : nodesWith last count ≤ maxNodes
+
+-- r is the first of `count` targets whose end is in the row of node 0, or `count` where there is none.
+pub record FirstEnd (chart : List ℕ) (last count r : ℕ) : Type 0 where
+  pub within : r ≤ count
+  pub reached : r < count → InRow chart 0 (endAt last r)
+  pub none : (t : ℕ) → t < r → InRow chart 0 (endAt last t) → ⊥

@@ -11,6 +11,7 @@ use figures::limits::CHART_WORDS;
 use figures::limits::MAX_ENTRIES;
 use figures::limits::MAX_NODES;
 use figures::limits::MAX_PLACES;
+use figures::limits::MAX_TARGETS;
 use figures::limits::MAX_TYPES;
 use figures::limits::MAX_WORDS;
 use figures::limits::TABLE_WORDS;
@@ -28,7 +29,7 @@ ghost use Rattle.figures.specs.Limits.{maxEntries};
 ghost use Rattle.lookup.specs.Threads.{NoneAlike};
 ghost use Rattle.reader.specs.Outcome.{outcome, Gives};
 ghost use Rattle.reader.specs.Demands.{Promised};
-ghost use Rattle.reader.specs.Runs.{IsOpen, OpeningSays};
+ghost use Rattle.reader.specs.Runs.{IsOpen, OpeningSays, EndsThere, FirstEnd};
 
 // What reading a line answers. `Read`: the buffer holds the answer, and `values` of its values are the answer's. `Refused`: the number
 // of the refusal and the value returned with it; the buffer is as it was.
@@ -37,37 +38,64 @@ pub enum LineAnswer {
     Refused { number: u32, value: usize },
 }
 
-// What opening a book gives beside the offsets and the threads of its entries: what its records come to, and its closed order. The rows of a refused book mean nothing.
+// What opening a book gives beside the offsets and the threads of its entries: what its records come to, its closed order, and its targets.
+// Rows and targets of a refused book mean nothing.
 pub struct Opening {
     pub scan: Scan,
     pub rows: [u64; MAX_TYPES],
+    pub targets: [u8; MAX_TARGETS],
 }
 
 // Opens a book: its records are scanned, with the offsets of its entries kept in `entries`, these are threaded by their keys in `alike`, and its order
 // is closed.
 pub fn open_book(book: &[u8], entries: &mut [u16], alike: &mut [u16]) -> Opening
     requires { ⌜ (maxEntries ≤ length (now entries)) × NoneAlike (now alike) ⌝ }
-    ensures { λ r. ⌜ OpeningSays (now (book .entry)) (now (entries .exit)) (now (alike .exit)) (r .rows) (r .scan) ⌝ }
+    ensures { λ r. ⌜ OpeningSays (now (book .entry)) (now (entries .exit)) (now (alike .exit)) (r .rows) (r .targets) (r .scan) ⌝ }
 {
     let mut names = [0u16; MAX_TYPES];
     let mut direct = [0u64; MAX_TYPES];
-    let scan = scan_book(book, &mut names, entries, &mut direct);
+    let mut targets = [0u8; MAX_TARGETS];
+    let scan = scan_book(book, &mut names, entries, &mut direct, &mut targets);
     match scan {
         Scan::Refused {
             number: _,
             value: _,
-        } => Opening { scan, rows: direct },
+        } => Opening {
+            scan,
+            rows: direct,
+            targets,
+        },
         Scan::Accepted {
             types,
             entries: count,
-            target: _,
+            targets: _,
         } => {
             thread_entries(book, entries, count, alike);
             let order = order::close(&direct, types);
             let rows = order.rows;
-            Opening { scan, rows }
+            Opening {
+                scan,
+                rows,
+                targets,
+            }
         }
     }
+}
+
+// The first of so many targets whose end the chart reaches from node 0, or their number where it reaches none.
+fn first_target(chart: &[u64], last: usize, count: usize) -> usize
+    requires { ⌜ EndsThere (now chart) last count ⌝ }
+    ensures { λ r. ⌜ FirstEnd (now (chart .entry)) last count r ⌝ }
+{
+    let mut first = count;
+    let mut t = 0;
+    while t < count {
+        if (t < first) & member(chart, 0, last + 2 + 2 * t) {
+            first = t;
+        }
+        t += 1;
+    }
+    first
 }
 
 // Reads a line against an open book.
@@ -77,11 +105,11 @@ pub fn read_open(
     count: usize,
     alike: &[u16],
     order: &[u64],
-    target: u8,
+    targets: &[u8],
     line: &[u8],
     answer: &mut [u16],
 ) -> LineAnswer
-    requires { ⌜ IsOpen (now book) (now offsets) count (now alike) (now order) target ⌝ }
+    requires { ⌜ IsOpen (now book) (now offsets) count (now alike) (now order) (now targets) ⌝ }
     ensures { λ r. ⌜ Gives (outcome (now (book .entry)) (now (line .entry)) (now (answer .entry))) r (now (answer .exit)) ⌝ }
 {
     let mut firsts = [0u16; MAX_WORDS];
@@ -97,14 +125,14 @@ pub fn read_open(
     let mut tos = [0u16; MAX_NODES];
     let mut enters = [0u16; MAX_NODES];
     let mut numbers = [0u16; MAX_NODES];
-    let nodes = lay_out(
+    let last = lay_out(
         book,
         offsets,
         count,
         &same,
         &firsts,
         words,
-        target,
+        targets,
         &mut simples,
         &mut nexts,
         &mut froms,
@@ -112,6 +140,7 @@ pub fn read_open(
         &mut enters,
         &mut numbers,
     );
+    let nodes = last + 1 + 2 * targets.len();
     let mut chart = [0u64; CHART_WORDS];
     fill(
         order,
@@ -123,13 +152,14 @@ pub fn read_open(
         &enters,
         &mut chart,
     );
-    let end = nodes - 1;
-    if !member(&chart, 0, end) {
+    let t = first_target(&chart, last, targets.len());
+    if t == targets.len() {
         return LineAnswer::Refused {
             number: NO_READING,
             value: 0,
         };
     }
+    let end = last + 2 + 2 * t;
     let mut string = [0u16; MAX_PLACES];
     let mut slots = [0u16; MAX_NODES];
     let mut table = [0u64; TABLE_WORDS];
@@ -150,7 +180,7 @@ pub fn read_open(
         &mut leaving,
     );
     let m = chosen.places - 1;
-    let needed = 2 + words + m;
+    let needed = 3 + words + m;
     if answer.len() < needed {
         return LineAnswer::Refused {
             number: BUFFER_TOO_SHORT,
@@ -162,7 +192,8 @@ pub fn read_open(
         &string,
         &table,
         m,
-        target,
+        targets[t],
+        t,
         &numbers,
         &slots,
         words,
@@ -180,13 +211,23 @@ pub fn read_line(book: &[u8], line: &[u8], answer: &mut [u16]) -> LineAnswer
     let mut alike = [NO_ENTRY; PLACES];
     let opening = open_book(book, &mut entries, &mut alike);
     let rows = opening.rows;
+    let targets = opening.targets;
     let scan = opening.scan;
     match scan {
         Scan::Refused { number, value } => LineAnswer::Refused { number, value },
         Scan::Accepted {
             types: _,
             entries: count,
-            target,
-        } => read_open(book, &entries, count, &alike, &rows, target, line, answer),
+            targets: goals,
+        } => read_open(
+            book,
+            &entries,
+            count,
+            &alike,
+            &rows,
+            &targets[..goals],
+            line,
+            answer,
+        ),
     }
 }

@@ -17,9 +17,9 @@ ghost use Rattle.vurzhelik.specs.Calls.{answerOf, batchAnswerOf, Checks}
 ghost use Rattle.vurzhelik.specs.Version.{version};
 
 // The version of the interface. `specs/Version` has the same numbers for the contract, and `include/vurzhelik.h` for callers.
-const MAJOR: u32 = 1;
+const MAJOR: u32 = 2;
 
-const MINOR: u32 = 2;
+const MINOR: u32 = 0;
 
 const PATCH: u32 = 0;
 

@@ -8,7 +8,7 @@ use Rattle.answer.proofs.write_answer.Tie as tie
 write-entries-requires : tie.Need-write-entries-requires
 write-entries-requires c κs =
     let s = c .before .before .before .before .before .before .before in
-    record { fits = omega (arith, s .pre .1 .few); space = omega (arith, s .pre .1 .space); there = s .pre .1 .there; numbered = s .pre .1 .numbered }
+    record { target-fits = omega (arith, s .pre .1 .low); fits = omega (arith, s .pre .1 .few); space = omega (arith, s .pre .1 .space); there = s .pre .1 .there; numbered = s .pre .1 .numbered }
 
 add-write-count : tie.Need-add-write-count
 add-write-count c = search needs

@@ -25,6 +25,9 @@ slice-aggregate-scan-book-2 c = search needs
 slice-aggregate-scan-book-3 : tie.Need-slice-aggregate-scan-book-3
 slice-aggregate-scan-book-3 c = search needs
 
+slice-aggregate-scan-book-4 : tie.Need-slice-aggregate-scan-book-4
+slice-aggregate-scan-book-4 c = search needs
+
 scan-book-requires : tie.Need-scan-book-requires
 scan-book-requires c κs = (omega arith, no-pairs maxTypes)
 
@@ -36,7 +39,7 @@ enum-known-scan-2 c = search needs
 
 close-requires : tie.Need-close-requires
 close-requires c κs =
-    let o = rw (c .before .before .scan2 .given .1) at (c .before .before .before .before .before .before .before .scan-book .ensures) in
+    let o = rw (c .before .before .scan2 .given .1) at (c .before .before .before .before .before .before .before .before .scan-book .ensures) in
     opened-rows _ _ _ _ _ (o .0) (o .1)
 
 count-pairs-requires : tie.Need-count-pairs-requires
@@ -44,13 +47,13 @@ count-pairs-requires c κs = search needs
 
 returns : tie.Need-returns
 returns c =
-    promised (c .before .before .before .before .before .before .before .before .before .before .before .args .book .now)
-    (check-refused _ _ _ (rw (c .before .scan .given .1) at (c .before .before .before .before .before .before .scan-book .ensures)))
+    promised (c .before .before .before .before .before .before .before .before .before .before .before .before .before .args .book .now)
+    (check-refused _ _ _ (rw (c .before .scan .given .1) at (c .before .before .before .before .before .before .before .scan-book .ensures)))
 
 returns-2 : tie.Need-returns-2
 returns-2 c =
-    let o = rw (c .before .before .before .before .scan2 .given .1) at (c .before .before .before .before .before .before .before .before .before .scan-book .ensures) in
-    promised (c .before .before .before .before .before .before .before .before .before .before .before .before .before .before .args .book .now)
+    let o = rw (c .before .before .before .before .scan2 .given .1) at (c .before .before .before .before .before .before .before .before .before .before .scan-book .ensures) in
+    promised (c .before .before .before .before .before .before .before .before .before .before .before .before .before .before .before .before .args .book .now)
     (ap (Accepted (c .before .before .before .before .scan2 .given .0 .0) (c .before .before .before .before .scan2 .given .0 .1 .0)) (c .count-pairs .ensures) ∙ check-accepted _ _ _ _ _ (o .0) (o .1) _ (c .before .close .ensures))
 
 pub check-book-spec : {M : Type 1} → statement M
@@ -60,6 +63,7 @@ check-book-spec =
     slice-aggregate-scan-book
     slice-aggregate-scan-book-2
     slice-aggregate-scan-book-3
+    slice-aggregate-scan-book-4
     scan-book-requires
     enum-known-scan
     enum-known-scan-2

@@ -20,7 +20,7 @@ Inv-loop order count simples nexts froms tos enters rows end string₀ slots₀ 
 
 abbrev μ-loop : tie.MeasureT-loop
 μ-loop order count simples nexts froms tos enters rows end string₀ slots₀ table₀ leaving₀ finishing₀ u₀ words₀ places₀ string slots table leaving finishing u words places =
-    end - u
+    count - u
 
 abbrev the-order : tie.Start Inv-loop μ-loop → Relation
 the-order s = InRows (s .args .order .now)
@@ -52,7 +52,7 @@ loop-holds c =
 module _ (c : tie.In-loop Inv-loop μ-loop) where
   inside : (c .before .loop .u < c .before .before .before .before .before .before .before .before .before .before .before .before .before .before .before .before .before .before .before .before .args .count) × (c .before .before .before .before .before .before .before .before .before .before .before .before .before .before .before .before .before .before .before .before .args .count ≤ 1000) × (c .before .loop .places + c .before .loop .words ≤ c .before .loop .u)
   inside =
-      (omega (arith, c .before .loop .inv .0 .below, c .before .before .before .before .before .before .before .before .before .before .before .before .before .before .before .before .before .before .before .before .pre .0 .last), omega (arith, c .before .before .before .before .before .before .before .before .before .before .before .before .before .before .before .before .before .before .before .before .pre .0 .upward .few), c .before .loop .inv .0 .few)
+      (c .before .loop .inv .0 .below, omega (arith, c .before .before .before .before .before .before .before .before .before .before .before .before .before .before .before .before .before .before .before .before .pre .0 .upward .few), c .before .loop .inv .0 .few)
 
 mul-if1 : tie.Need-mul-if1 Inv-loop μ-loop
 mul-if1 c = omega arith
@@ -122,7 +122,7 @@ loop-less c =
     let l = c .before .before .before .before .before .before .before .before .before .loop in
     let on = slot-up (the-order s) (the-graph s) (s .args .rows .now) (l .string) (l .slots) (l .table) (l .leaving) (l .finishing .words) (s .args .end) (l .u) (l .words)
     (l .places) (s .pre .0) (l .inv .1) (l .inv .0) (c .before .before .before .before .before .before .before .before .loop-test .taken) (c .before .before .before .before .before .before .if1 .taken) (c .before .first-slot .result) (c .before .first-slot .ensures) in
-    omega (arith, on .0, on .1, s .pre .0 .last)
+    omega (arith, on .0, on .1)
 
 loop-again : tie.Need-loop-again Inv-loop μ-loop
 loop-again c =
@@ -183,7 +183,7 @@ loop-less-2 c =
     let l = c .before .before .before .before .before .before .before .before .before .before .before .before .before .loop in
     let on = simple-up (the-order s) (the-graph s) (s .args .rows .now) (l .string) (l .slots) (l .table) (l .leaving) (l .finishing .words) (s .args .end) (l .u) (l .words)
     (l .places) (s .pre .0) (l .inv .1) (l .inv .0) (c .before .before .before .before .before .before .before .before .before .before .before .before .loop-test .taken) (c .before .before .before .before .before .before .before .before .before .before .if1 .left) in
-    omega (arith, on .0, on .1, s .pre .0 .last)
+    omega (arith, on .0, on .1)
 
 loop-again-2 : tie.Need-loop-again-2 Inv-loop μ-loop
 loop-again-2 c =

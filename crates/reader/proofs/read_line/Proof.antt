@@ -1,6 +1,8 @@
 -- `reader::read_line` meets its contract: the book is opened, and what reading with it gives is the outcome.
 use borrow.Author.Needs.{needs}
 use native.Mathlib.Omega.{arith}
+use mathlib.Core.Path.{sym}
+use lib.Seq.{length-take-le}
 use Rattle.reader.proofs.OpeningLaws.{none-alike, gives-book-refused, gives-promised}
 use Rattle.reader.proofs.read_line.Statement.{statement}
 use Rattle.reader.proofs.read_line.Tie as tie
@@ -29,13 +31,19 @@ slice-aggregate-read-open-2 c = search needs
 slice-aggregate-read-open-3 : tie.Need-slice-aggregate-read-open-3
 slice-aggregate-read-open-3 c = search needs
 
+array-share-prefix-targets : tie.Need-array-share-prefix-targets
+array-share-prefix-targets c = let o = rw (c .before .before .before .before .scan2 .given .1) at (c .before .before .before .before .before .before .before .before .before .before .open-book .ensures) in omega (arith, o .1)
+
+slice-aggregate-read-open-4 : tie.Need-slice-aggregate-read-open-4
+slice-aggregate-read-open-4 c = let o = rw (c .before .before .before .before .before .scan2 .given .1) at (c .before .before .before .before .before .before .before .before .before .before .before .open-book .ensures) in sym (length-take-le _ _ (o .1))
+
 read-open-requires : tie.Need-read-open-requires
-read-open-requires c κs = rw (c .before .before .before .before .before .scan2 .given .1) at (c .before .before .before .before .before .before .before .before .before .before .open-book .ensures)
+read-open-requires c κs = let o = rw (c .before .before .before .before .before .before .scan2 .given .1) at (c .before .before .before .before .before .before .before .before .before .before .before .before .open-book .ensures) in o .0
 
 returns : tie.Need-returns
 returns c =
-    let s = c .before .before .before .before .before .before .before .before .before .before .before .before in
-    let g = gives-book-refused (s .args .book .now) (s .args .line .now) (s .args .answer .now) (rw (c .before .scan .given .1) at (c .before .before .before .before .before .before .open-book .ensures)) in
+    let s = c .before .before .before .before .before .before .before .before .before .before .before .before .before in
+    let g = gives-book-refused (s .args .book .now) (s .args .line .now) (s .args .answer .now) (rw (c .before .scan .given .1) at (c .before .before .before .before .before .before .before .open-book .ensures)) in
     (g, gives-promised _ _ _ g)
 
 same-length : tie.Need-same-length
@@ -58,6 +66,8 @@ read-line-spec =
     slice-aggregate-read-open
     slice-aggregate-read-open-2
     slice-aggregate-read-open-3
+    array-share-prefix-targets
+    slice-aggregate-read-open-4
     read-open-requires
     returns
     same-length

@@ -2,7 +2,7 @@
 -- choice say is what the definition answers.
 use borrow.Author.Needs.{needs}
 use native.Mathlib.Omega.{arith}
-use Prim.Native.Nat.{_+_, _*_, _≤_}
+use Prim.Native.Nat.{_+_, _*_, _≤_, _<_}
 use mathlib.Core.Path.{_≡_, refl}
 use lib.ListN.{length, replicate}
 use Rattle.figures.specs.Limits.{maxNodes, maxPlaces, rowWords}
@@ -11,10 +11,10 @@ use Rattle.order.specs.Closed.{below}
 use Rattle.book.specs.Format.{Book}
 use Rattle.book.proofs.Checking.{zeros}
 use Rattle.line.specs.LineFaults.{passed, lineCheck, entriesOfLine}
-use Rattle.graph.specs.Lists.{Lists, lists, graphOf}
+use Rattle.graph.specs.Lists.{Lists, lists, graphOf, nodesWith}
 use Rattle.reader.specs.Runs.{Drawn}
 use Rattle.reader.proofs.OpeningLaws.{none-same, gives-line-refused, line-fits, line-drawn, gives-outcome}
-use Rattle.reader.proofs.ReadingLaws.{has-rows, chart-reads, chart-stops, answers-none, can-choose, has-room, some-places, answers-short, can-link, can-write, answers-read}
+use Rattle.reader.proofs.ReadingLaws.{has-rows, ends-there, answers-none, target-there, can-choose, has-room, some-places, answers-short, can-link, can-write, answers-read}
 use Rattle.reader.proofs.read_open.Statement.{statement}
 use Rattle.reader.proofs.read_open.Tie as tie
 
@@ -25,14 +25,14 @@ slice-aggregate-check-line-2 : tie.Need-slice-aggregate-check-line-2
 slice-aggregate-check-line-2 c = search needs
 
 check-line-requires : tie.Need-check-line-requires
-check-line-requires c κs = (c .before .before .before .before .before .before .before .before .pre .1 .lexicon .entries, c .before .before .before .before .before .before .before .before .pre .1 .threaded, none-same _ _ _, omega arith)
+check-line-requires c κs = (c .before .before .before .before .before .before .before .before .before .pre .1 .lexicon .entries, c .before .before .before .before .before .before .before .before .before .pre .1 .threaded, none-same _ _ _, omega arith)
 
 enum-known-checked : tie.Need-enum-known-checked
 enum-known-checked c = search needs
 
 returns : tie.Need-returns
 returns c =
-    let s = c .before .before .before .before .before .before .before .before .before .before .before .before .before .before in
+    let s = c .before .before .before .before .before .before .before .before .before .before .before .before .before .before .before in
     let o = s .pre .1 in
     gives-line-refused _ _ _ (o .parsed) ((rw (c .before .checked .given .1) at (c .before .before .before .before .before .check-line .ensures)) (s .pre .0) (o .entries))
 
@@ -67,7 +67,7 @@ lay-out-requires : tie.Need-lay-out-requires
 lay-out-requires c κs =
     let said = rw (c .before .before .before .before .before .before .before .before .before .checked2 .given .1) at (c .before .before .before .before .before .before .before .before .before .before .before .before .before .check-line .ensures) in
     let kept = c .before .before .before .before .before .before .before .before .before .before .before .before .before .check-line .kept .1 .1 .1 .1 .1 in
-    line-fits (c .before .before .before .before .before .before .before .before .before .before .before .before .before .before .before .before .before .before .before .before .before .before .pre .1) (said (c .before .before .before .before .before .before .before .before .before .before .before .before .before .before .before .before .before .before .before .before .before .before .pre .0) (c .before .before .before .before .before .before .before .before .before .before .before .before .before .before .before .before .before .before .before .before .before .before .pre .1 .entries)) (omega (arith, kept .1 .0)) (omega (arith, kept .0))
+    line-fits (c .before .before .before .before .before .before .before .before .before .before .before .before .before .before .before .before .before .before .before .before .before .before .before .pre .1) (said (c .before .before .before .before .before .before .before .before .before .before .before .before .before .before .before .before .before .before .before .before .before .before .before .pre .0) (c .before .before .before .before .before .before .before .before .before .before .before .before .before .before .before .before .before .before .before .before .before .before .before .pre .1 .entries)) (omega (arith, kept .1 .0)) (omega (arith, kept .0))
     (record { simples = omega arith; nexts = omega arith; froms = omega arith; tos = omega arith; enters = omega arith })
     (omega arith) (record { nexts = zeros maxNodes; tos = zeros maxNodes })
 
@@ -77,21 +77,30 @@ module _ (c : tie.After-lay-out) where
   the-lists = let m = c .lay-out .last .1 .1 .1 .1 .1 .1 .1 in lists (m .0) (m .1 .0) (m .1 .1 .0) (m .1 .1 .1 .0) (m .1 .1 .1 .1 .0) (m .1 .1 .1 .1 .1 .0)
 
   abbrev the-book : Book
-  the-book = c .before .before .before .before .before .before .before .before .before .before .before .before .before .before .before .before .before .before .before .before .before .before .before .pre .0
+  the-book = c .before .before .before .before .before .before .before .before .before .before .before .before .before .before .before .before .before .before .before .before .before .before .before .before .pre .0
 
   numbers-long : length (the-lists .cells .numbers) ≡ maxNodes
   numbers-long = c .lay-out .kept .1 .1 .1 .1 .1 .1 .1 .1 .1 .1 .1 .1 .0
 
   drawn :
-      Drawn (below (length (the-book .names)) (the-book .pairs)) (InRows (c .before .before .before .before .before .before .before .before .before .before .before .before .before .before .before .before .before .before .before .before .before .before .before .args .order .now)) (graphOf (c .lay-out .result) the-lists)
-      (the-lists .cells .numbers) (c .before .before .before .before .before .before .before .before .before .before .before .before .before .before .before .before .before .before .before .before .before .before .before .args .target) (c .before .before .before .before .before .before .before .before .before .before .checked2 .given .0 .0) (entriesOfLine the-book (c .before .before .before .before .before .before .before .before .before .before .before .before .before .before .before .before .before .before .before .before .before .before .before .args .line .now))
+      Drawn (below (length (the-book .names)) (the-book .pairs)) (InRows (c .before .before .before .before .before .before .before .before .before .before .before .before .before .before .before .before .before .before .before .before .before .before .before .before .args .order .now)) (graphOf (nodesWith (c .lay-out .result) (length (c .before .before .before .before .before .before .before .before .before .before .before .before .before .before .before .before .before .before .before .before .before .before .before .before .args .targets .now))) the-lists)
+      (the-lists .cells .numbers) (c .before .before .before .before .before .before .before .before .before .before .before .before .before .before .before .before .before .before .before .before .before .before .before .before .args .targets .now) (c .lay-out .result) (c .before .before .before .before .before .before .before .before .before .before .checked2 .given .0 .0) (entriesOfLine the-book (c .before .before .before .before .before .before .before .before .before .before .before .before .before .before .before .before .before .before .before .before .before .before .before .before .args .line .now))
   drawn =
       let enters-long : length (the-lists .cells .enters) ≡ maxNodes = c .lay-out .kept .1 .1 .1 .1 .1 .1 .1 .1 .1 .1 .1 .0 in
       let said = rw (c .before .before .before .before .before .before .before .before .before .before .checked2 .given .1) at (c .before .before .before .before .before .before .before .before .before .before .before .before .before .before .check-line .ensures) in
-      line-drawn (c .before .before .before .before .before .before .before .before .before .before .before .before .before .before .before .before .before .before .before .before .before .before .before .pre .1) (said the-book (c .before .before .before .before .before .before .before .before .before .before .before .before .before .before .before .before .before .before .before .before .before .before .before .pre .1 .entries)) (c .lay-out .ensures) (omega (arith, enters-long, numbers-long))
+      line-drawn (c .before .before .before .before .before .before .before .before .before .before .before .before .before .before .before .before .before .before .before .before .before .before .before .before .pre .1) (said the-book (c .before .before .before .before .before .before .before .before .before .before .before .before .before .before .before .before .before .before .before .before .before .before .before .before .pre .1 .entries)) (c .lay-out .ensures) (omega (arith, enters-long, numbers-long))
 
-  passed-line : lineCheck the-book (c .before .before .before .before .before .before .before .before .before .before .before .before .before .before .before .before .before .before .before .before .before .before .before .args .line .now) ≡ passed (entriesOfLine the-book (c .before .before .before .before .before .before .before .before .before .before .before .before .before .before .before .before .before .before .before .before .before .before .before .args .line .now))
-  passed-line = (rw (c .before .before .before .before .before .before .before .before .before .before .checked2 .given .1) at (c .before .before .before .before .before .before .before .before .before .before .before .before .before .before .check-line .ensures)) the-book (c .before .before .before .before .before .before .before .before .before .before .before .before .before .before .before .before .before .before .before .before .before .before .before .pre .1 .entries) .0
+  passed-line : lineCheck the-book (c .before .before .before .before .before .before .before .before .before .before .before .before .before .before .before .before .before .before .before .before .before .before .before .before .args .line .now) ≡ passed (entriesOfLine the-book (c .before .before .before .before .before .before .before .before .before .before .before .before .before .before .before .before .before .before .before .before .before .before .before .before .args .line .now))
+  passed-line = (rw (c .before .before .before .before .before .before .before .before .before .before .checked2 .given .1) at (c .before .before .before .before .before .before .before .before .before .before .before .before .before .before .check-line .ensures)) the-book (c .before .before .before .before .before .before .before .before .before .before .before .before .before .before .before .before .before .before .before .before .before .before .before .before .pre .1 .entries) .0
+
+add-nodes : tie.Need-add-nodes
+add-nodes c = let d = drawn (c .before .before .before .before .before .before) in omega (arith, d .few)
+
+mul-nodes : tie.Need-mul-nodes
+mul-nodes c = let d = drawn (c .before .before .before .before .before .before) in omega (arith, d .few)
+
+add-nodes-2 : tie.Need-add-nodes-2
+add-nodes-2 c = let d = drawn (c .before .before .before .before .before .before) in omega (arith, d .few)
 
 slice-aggregate-fill : tie.Need-slice-aggregate-fill
 slice-aggregate-fill c = search needs
@@ -116,23 +125,34 @@ fill-requires c κs =
     let d = drawn (c .before .before .before .before .before .before .before .before .before .before .before .before) in
     record { upward = d .upward; room = has-rows d (replicate (maxNodes * rowWords) 0) refl }
 
-sub-end : tie.Need-sub-end
-sub-end c = omega (arith, drawn (c .before .before .before .before .before .before .before .before .before .before .before .before .before .before) .some-nodes)
+slice-aggregate-first-target : tie.Need-slice-aggregate-first-target
+slice-aggregate-first-target c = search needs
 
-slice-aggregate-member : tie.Need-slice-aggregate-member
-slice-aggregate-member c = search needs
-
-member-requires : tie.Need-member-requires
-member-requires c κs = omega arith
+first-target-requires : tie.Need-first-target-requires
+first-target-requires c κs = ends-there (drawn (c .before .before .before .before .before .before .before .before .before .before .before .before .before .before .before)) _ (c .before .before .fill .kept .1 .1 .1 .1 .1 .1 .1 .0)
 
 -- What the definition answers, by what the graph gives.
 returns-2 : tie.Need-returns-2
 returns-2 c =
-    let s = c .before .before .before .before .before .before .before .before .before .before .before .before .before .before .before .before .before .before .before .before .before .before .before .before .before .before .before .before .before .before .before .before .before .before .before .before .before .before .before .before in
+    let s = c .before .before .before .before .before .before .before .before .before .before .before .before .before .before .before .before .before .before .before .before .before .before .before .before .before .before .before .before .before .before .before .before .before .before .before .before .before .before .before .before .before in
     let o = s .pre .1 in
     let d = drawn (c .before .before .before .before .before .before .before .before .before .before .before .before .before .before .before .before .before) in
     gives-outcome _ _ _ (o .parsed) (passed-line (c .before .before .before .before .before .before .before .before .before .before .before .before .before .before .before .before .before)) (o .chosen)
-    (answers-none d (s .args .answer .now) (chart-stops d (c .before .before .before .before .fill .ensures) (c .before .member .ensures) (c .if1 .taken)))
+    (answers-none d (c .before .before .before .before .fill .ensures) (c .before .first-target .ensures) (omega (arith, c .if1 .taken)) (s .args .answer .now))
+
+-- The target that is chosen.
+module _ (c : tie.Else1) where
+  there : c .before .first-target .result < length (c .before .before .before .before .before .before .before .before .before .before .before .before .before .before .before .before .before .before .before .before .before .before .before .before .before .before .before .before .before .before .before .before .before .before .before .before .before .before .before .before .before .args .targets .now)
+  there = target-there (drawn (c .before .before .before .before .before .before .before .before .before .before .before .before .before .before .before .before .before)) (c .before .before .before .before .fill .ensures) (c .before .first-target .ensures) (c .if1 .left)
+
+add-end : tie.Need-add-end
+add-end c = let d = drawn (c .before .before .before .before .before .before .before .before .before .before .before .before .before .before .before .before .before) in omega (arith, d .few, there (c))
+
+mul-end : tie.Need-mul-end
+mul-end c = let d = drawn (c .before .before .before .before .before .before .before .before .before .before .before .before .before .before .before .before .before) in omega (arith, d .few, there (c))
+
+add-end-2 : tie.Need-add-end-2
+add-end-2 c = let d = drawn (c .before .before .before .before .before .before .before .before .before .before .before .before .before .before .before .before .before) in omega (arith, d .few, there (c))
 
 slice-aggregate-choose : tie.Need-slice-aggregate-choose
 slice-aggregate-choose c = search needs
@@ -168,7 +188,9 @@ choose-requires : tie.Need-choose-requires
 choose-requires c κs =
     let d = drawn (c .before .before .before .before .before .before .before .before .before .before .before .before .before .before .before .before .before .before .before .before .before .before .before .before .before .before .before) in
     let filled = c .before .before .before .before .before .before .before .before .before .before .before .before .before .before .fill in
-    (can-choose d (filled .kept .1 .1 .1 .1 .1 .1 .1 .0) (filled .ensures) (chart-reads d (filled .ensures) (c .before .before .before .before .before .before .before .before .before .before .before .member .ensures) (c .before .before .before .before .before .before .before .before .before .before .if1 .left)), has-room d refl refl refl refl)
+    let f = c .before .before .before .before .before .before .before .before .before .before .before .first-target .ensures in
+    let o = c .before .before .before .before .before .before .before .before .before .before .if1 .left in
+    (can-choose d (filled .ensures) f o (filled .kept .1 .1 .1 .1 .1 .1 .1 .0), has-room d (filled .ensures) f o refl refl refl refl)
 
 -- The buffers of the choice keep their lengths.
 module _ (c : tie.After-choose) where
@@ -182,7 +204,7 @@ module _ (c : tie.After-choose) where
   table-long = c .choose .kept .1 .1 .1 .1 .1 .1 .1 .1 .1 .1 .1 .0
 
   some : 1 ≤ c .choose .result .places
-  some = some-places (drawn (c .before .before .before .before .before .before .before .before .before .before .before .before .before .before .before .before .before .before .before .before .before .before .before .before .before .before .before .before)) (c .choose .ensures) string-long slots-long table-long
+  some = some-places (drawn (c .before .before .before .before .before .before .before .before .before .before .before .before .before .before .before .before .before .before .before .before .before .before .before .before .before .before .before .before)) (c .before .before .before .before .before .before .before .before .before .before .before .before .before .before .before .fill .ensures) (c .before .before .before .before .before .before .before .before .before .before .before .before .first-target .ensures) (c .before .before .before .before .before .before .before .before .before .before .before .if1 .left) (c .choose .ensures) string-long slots-long table-long
 
 sub-m : tie.Need-sub-m
 sub-m c = some (c .before .before .before .before .before)
@@ -195,11 +217,11 @@ add-needed-2 c = omega (arith, drawn (c .before .before .before .before .before 
 
 returns-3 : tie.Need-returns-3
 returns-3 c =
-    let s = c .before .before .before .before .before .before .before .before .before .before .before .before .before .before .before .before .before .before .before .before .before .before .before .before .before .before .before .before .before .before .before .before .before .before .before .before .before .before .before .before .before .before .before .before .before .before .before .before .before .before .before .before .before .before .before .before .before in
+    let s = c .before .before .before .before .before .before .before .before .before .before .before .before .before .before .before .before .before .before .before .before .before .before .before .before .before .before .before .before .before .before .before .before .before .before .before .before .before .before .before .before .before .before .before .before .before .before .before .before .before .before .before .before .before .before .before .before .before .before in
     let o = s .pre .1 in
     let k = c .before .before .before .before .before .before in
     gives-outcome _ _ _ (o .parsed) (passed-line (c .before .before .before .before .before .before .before .before .before .before .before .before .before .before .before .before .before .before .before .before .before .before .before .before .before .before .before .before .before .before .before .before .before .before)) (o .chosen)
-    (answers-short (drawn (c .before .before .before .before .before .before .before .before .before .before .before .before .before .before .before .before .before .before .before .before .before .before .before .before .before .before .before .before .before .before .before .before .before .before)) (c .before .before .before .before .before .before .choose .ensures) (string-long k) (slots-long k) (table-long k) (s .args .answer .now) (omega arith))
+    (answers-short (drawn (c .before .before .before .before .before .before .before .before .before .before .before .before .before .before .before .before .before .before .before .before .before .before .before .before .before .before .before .before .before .before .before .before .before .before)) (c .before .before .before .before .before .before .before .before .before .before .before .before .before .before .before .before .before .before .before .before .before .fill .ensures) (c .before .before .before .before .before .before .before .before .before .before .before .before .before .before .before .before .before .before .first-target .ensures) (c .before .before .before .before .before .before .before .before .before .before .before .before .before .before .before .before .before .if1 .left) (c .before .before .before .before .before .before .choose .ensures) (string-long k) (slots-long k) (table-long k) (s .args .answer .now) (omega arith))
 
 slice-aggregate-write-answer : tie.Need-slice-aggregate-write-answer
 slice-aggregate-write-answer c = search needs
@@ -207,18 +229,21 @@ slice-aggregate-write-answer c = search needs
 slice-aggregate-write-answer-2 : tie.Need-slice-aggregate-write-answer-2
 slice-aggregate-write-answer-2 c = search needs
 
+shared-slice-read-write-answer : tie.Need-shared-slice-read-write-answer
+shared-slice-read-write-answer c = omega (arith, there (c .before .before .before .before .before .before .before .before .before .before .before .before .before .before .before .before .before .before .before .before))
+
 slice-aggregate-write-answer-3 : tie.Need-slice-aggregate-write-answer-3
-slice-aggregate-write-answer-3 c = omega (arith, numbers-long (c .before .before .before .before .before .before .before .before .before .before .before .before .before .before .before .before .before .before .before .before .before .before .before .before .before .before .before .before .before .before .before .before .before .before .before .before .before))
+slice-aggregate-write-answer-3 c = omega (arith, numbers-long (c .before .before .before .before .before .before .before .before .before .before .before .before .before .before .before .before .before .before .before .before .before .before .before .before .before .before .before .before .before .before .before .before .before .before .before .before .before .before))
 
 slice-aggregate-write-answer-4 : tie.Need-slice-aggregate-write-answer-4
 slice-aggregate-write-answer-4 c = search needs
 
 write-answer-requires : tie.Need-write-answer-requires
 write-answer-requires c κs =
-    let d = drawn (c .before .before .before .before .before .before .before .before .before .before .before .before .before .before .before .before .before .before .before .before .before .before .before .before .before .before .before .before .before .before .before .before .before .before .before .before .before .before .before) in
-    let k = c .before .before .before .before .before .before .before .before .before .before .before in (
-      can-link d (c .before .before .before .before .before .before .before .before .before .before .before .choose .ensures) (string-long k) (slots-long k) (table-long k),
-      can-write d (c .before .before .before .before .before .before .before .before .before .before .before .choose .ensures) (string-long k) (slots-long k) (table-long k) _ (omega arith),
+    let d = drawn (c .before .before .before .before .before .before .before .before .before .before .before .before .before .before .before .before .before .before .before .before .before .before .before .before .before .before .before .before .before .before .before .before .before .before .before .before .before .before .before .before) in
+    let k = c .before .before .before .before .before .before .before .before .before .before .before .before in (
+      can-link d (c .before .before .before .before .before .before .before .before .before .before .before .before .before .before .before .before .before .before .before .before .before .before .before .before .before .before .before .fill .ensures) (c .before .before .before .before .before .before .before .before .before .before .before .before .before .before .before .before .before .before .before .before .before .before .before .before .first-target .ensures) (c .before .before .before .before .before .before .before .before .before .before .before .before .before .before .before .before .before .before .before .before .before .before .before .if1 .left) (c .before .before .before .before .before .before .before .before .before .before .before .before .choose .ensures) (string-long k) (slots-long k) (table-long k),
+      can-write d (c .before .before .before .before .before .before .before .before .before .before .before .before .before .before .before .before .before .before .before .before .before .before .before .before .before .before .before .fill .ensures) (c .before .before .before .before .before .before .before .before .before .before .before .before .before .before .before .before .before .before .before .before .before .before .before .before .first-target .ensures) (c .before .before .before .before .before .before .before .before .before .before .before .before .before .before .before .before .before .before .before .before .before .before .before .if1 .left) (c .before .before .before .before .before .before .before .before .before .before .before .before .choose .ensures) (string-long k) (slots-long k) (table-long k) _ (omega arith),
     )
 
 same-length : tie.Need-same-length
@@ -226,11 +251,11 @@ same-length c = search needs
 
 returns-4 : tie.Need-returns-4
 returns-4 c =
-    let s = c .before .before .before .before .before .before .before .before .before .before .before .before .before .before .before .before .before .before .before .before .before .before .before .before .before .before .before .before .before .before .before .before .before .before .before .before .before .before .before .before .before .before .before .before .before .before .before .before .before .before .before .before .before .before .before .before .before .before .before .before .before .before .before .before .before in
+    let s = c .before .before .before .before .before .before .before .before .before .before .before .before .before .before .before .before .before .before .before .before .before .before .before .before .before .before .before .before .before .before .before .before .before .before .before .before .before .before .before .before .before .before .before .before .before .before .before .before .before .before .before .before .before .before .before .before .before .before .before .before .before .before .before .before .before .before .before in
     let o = s .pre .1 in
-    let k = c .before .before .before .before .before .before .before .before .before .before .before .before .before .before in
-    gives-outcome _ _ _ (o .parsed) (passed-line (c .before .before .before .before .before .before .before .before .before .before .before .before .before .before .before .before .before .before .before .before .before .before .before .before .before .before .before .before .before .before .before .before .before .before .before .before .before .before .before .before .before .before)) (o .chosen)
-    (answers-read (drawn (c .before .before .before .before .before .before .before .before .before .before .before .before .before .before .before .before .before .before .before .before .before .before .before .before .before .before .before .before .before .before .before .before .before .before .before .before .before .before .before .before .before .before)) (c .before .before .before .before .before .before .before .before .before .before .before .before .before .before .choose .ensures) (string-long k) (slots-long k) (table-long k) (s .args .answer .now) _ (omega (arith, c .before .before .before .before .before .before .before .before .if2 .left)) (c .before .before .write-answer .ensures))
+    let k = c .before .before .before .before .before .before .before .before .before .before .before .before .before .before .before in
+    gives-outcome _ _ _ (o .parsed) (passed-line (c .before .before .before .before .before .before .before .before .before .before .before .before .before .before .before .before .before .before .before .before .before .before .before .before .before .before .before .before .before .before .before .before .before .before .before .before .before .before .before .before .before .before .before)) (o .chosen)
+    (answers-read (drawn (c .before .before .before .before .before .before .before .before .before .before .before .before .before .before .before .before .before .before .before .before .before .before .before .before .before .before .before .before .before .before .before .before .before .before .before .before .before .before .before .before .before .before .before)) (c .before .before .before .before .before .before .before .before .before .before .before .before .before .before .before .before .before .before .before .before .before .before .before .before .before .before .before .before .before .before .fill .ensures) (c .before .before .before .before .before .before .before .before .before .before .before .before .before .before .before .before .before .before .before .before .before .before .before .before .before .before .before .first-target .ensures) (c .before .before .before .before .before .before .before .before .before .before .before .before .before .before .before .before .before .before .before .before .before .before .before .before .before .before .if1 .left) (c .before .before .before .before .before .before .before .before .before .before .before .before .before .before .before .choose .ensures) (string-long k) (slots-long k) (table-long k) (s .args .answer .now) _ (omega (arith, c .before .before .before .before .before .before .before .before .before .if2 .left)) (c .before .before .write-answer .ensures))
 
 pub read-open-spec : {M : Type 1} → statement M
 read-open-spec =
@@ -251,6 +276,9 @@ read-open-spec =
     slice-aggregate-lay-out-7
     slice-aggregate-lay-out-8
     lay-out-requires
+    add-nodes
+    mul-nodes
+    add-nodes-2
     slice-aggregate-fill
     slice-aggregate-fill-2
     slice-aggregate-fill-3
@@ -258,10 +286,12 @@ read-open-spec =
     slice-aggregate-fill-5
     slice-aggregate-fill-6
     fill-requires
-    sub-end
-    slice-aggregate-member
-    member-requires
+    slice-aggregate-first-target
+    first-target-requires
     returns-2
+    add-end
+    mul-end
+    add-end-2
     slice-aggregate-choose
     slice-aggregate-choose-2
     slice-aggregate-choose-3
@@ -279,6 +309,7 @@ read-open-spec =
     returns-3
     slice-aggregate-write-answer
     slice-aggregate-write-answer-2
+    shared-slice-read-write-answer
     slice-aggregate-write-answer-3
     slice-aggregate-write-answer-4
     write-answer-requires

@@ -11,85 +11,94 @@ use Rattle.book.proofs.records.scan_book.Statement.{statement}
 use Rattle.book.proofs.records.scan_book.Tie as tie
 
 abbrev Inv-loop : tie.InvT-loop
-Inv-loop book names₀ entries₀ direct₀ p₀ names entries direct p = Standing book (store names₀ entries₀ direct₀) (store names entries direct) p
+Inv-loop book names₀ entries₀ direct₀ targets₀ p₀ names entries direct targets p = Standing book (store names₀ entries₀ direct₀ targets₀) (store names entries direct targets) p
 
 abbrev μ-loop : tie.MeasureT-loop
-μ-loop book names₀ entries₀ direct₀ p₀ names entries direct p = length book - p .at
+μ-loop book names₀ entries₀ direct₀ targets₀ p₀ names entries direct targets p = length book - p .at
 
 returns : tie.Need-returns Inv-loop μ-loop
 returns c = long-refused _ (omega arith)
 
 loop-holds : tie.Need-loop-holds Inv-loop μ-loop
-loop-holds c = let a = c .before .before .before .before .before .args in standing-start (a .book .now) (store (a .names .now) (a .entries .now) (a .direct .now)) (omega arith) (c .before .before .before .before .before .pre .0) (c .before .before .before .before .before .pre .1)
+loop-holds c = let a = c .before .before .before .before .before .before .args in standing-start (a .book .now) (store (a .names .now) (a .entries .now) (a .direct .now) (a .targets .now)) (omega arith) (c .before .before .before .before .before .before .pre .0) (c .before .before .before .before .before .before .pre .1)
 
 take-record-requires : tie.Need-take-record-requires Inv-loop μ-loop
-take-record-requires c κs = c .before .before .before .before .before .loop .inv .sound
+take-record-requires c κs = c .before .before .before .before .before .before .loop .inv .sound
 
 enum-known-taken : tie.Need-enum-known-taken Inv-loop μ-loop
 enum-known-taken c = omega arith
 
 loop-less : tie.Need-loop-less Inv-loop μ-loop
 loop-less c =
-    let l = c .before .before .before .before .before .before .before .before .before .before .before .before .before .before .before .loop in
-    let book = c .before .before .before .before .before .before .before .before .before .before .before .before .before .before .before .before .before .before .before .before .before .args .book .now in
-    let on : c .before .taken .given .0 .0 .at ≡ nextAt book (l .p .at) = (rw (c .before .taken .given .1) at (c .before .before .before .before .before .before .before .before .before .take-record .ensures)) .on in
+    let l = c .before .before .before .before .before .before .before .before .before .before .before .before .before .before .before .before .before .before .loop in
+    let book = c .before .before .before .before .before .before .before .before .before .before .before .before .before .before .before .before .before .before .before .before .before .before .before .before .before .args .book .now in
+    let on : c .before .taken .given .0 .0 .at ≡ nextAt book (l .p .at) = (rw (c .before .taken .given .1) at (c .before .before .before .before .before .before .before .before .before .before .before .take-record .ensures)) .on in
     omega arith
 
 loop-again : tie.Need-loop-again Inv-loop μ-loop
 loop-again c =
-    let a = c .before .before .before .before .before .before .before .before .before .before .before .before .before .before .before .before .before .before .before .before .before .args in
-    let l = c .before .before .before .before .before .before .before .before .before .before .before .before .before .before .before .loop in
-    let r = c .before .before .before .before .before .before .before .before .before .take-record in
-    standing-next (a .book .now) (store (a .names .now) (a .entries .now) (a .direct .now)) (store (l .names) (l .entries) (l .direct)) (l .p) (l .inv) _ _ (omega arith) (rw (c .before .taken .given .1) at (r .ensures)) (omega arith) (omega arith) (omega arith)
+    let a = c .before .before .before .before .before .before .before .before .before .before .before .before .before .before .before .before .before .before .before .before .before .before .before .before .before .args in
+    let l = c .before .before .before .before .before .before .before .before .before .before .before .before .before .before .before .before .before .before .loop in
+    let r = c .before .before .before .before .before .before .before .before .before .before .before .take-record in
+    standing-next (a .book .now) (store (a .names .now) (a .entries .now) (a .direct .now) (a .targets .now)) (store (l .names) (l .entries) (l .direct) (l .targets)) (l .p) (l .inv) _ _ (omega arith) (rw (c .before .taken .given .1) at (r .ensures)) (omega arith) (omega arith) (omega arith) (omega arith)
 
 enum-known-taken-2 : tie.Need-enum-known-taken-2 Inv-loop μ-loop
 enum-known-taken-2 c = omega arith
 
 same-length : tie.Need-same-length Inv-loop μ-loop
-same-length c = omega (arith, c .before .before .before .before .before .before .before .before .before .before .before .before .before .before .before .loop .inv .names-length)
+same-length c = omega (arith, c .before .before .before .before .before .before .before .before .before .before .before .before .before .before .before .before .before .before .loop .inv .names-length)
 
 same-length-2 : tie.Need-same-length-2 Inv-loop μ-loop
-same-length-2 c = omega (arith, c .before .before .before .before .before .before .before .before .before .before .before .before .before .before .before .loop .inv .entries-length)
+same-length-2 c = omega (arith, c .before .before .before .before .before .before .before .before .before .before .before .before .before .before .before .before .before .before .loop .inv .entries-length)
 
 same-length-3 : tie.Need-same-length-3 Inv-loop μ-loop
-same-length-3 c = omega (arith, c .before .before .before .before .before .before .before .before .before .before .before .before .before .before .before .loop .inv .direct-length)
+same-length-3 c = omega (arith, c .before .before .before .before .before .before .before .before .before .before .before .before .before .before .before .before .before .before .loop .inv .direct-length)
+
+same-length-4 : tie.Need-same-length-4 Inv-loop μ-loop
+same-length-4 c = omega (arith, c .before .before .before .before .before .before .before .before .before .before .before .before .before .before .before .before .before .before .loop .inv .targets-length)
 
 returns-2 : tie.Need-returns-2 Inv-loop μ-loop
 returns-2 c =
-    let a = c .before .before .before .before .before .before .before .before .before .before .before .before .before .before .before .before .before .before .before .before .before .args in
-    let l = c .before .before .before .before .before .before .before .before .before .before .before .before .before .before .before .loop in
-    let r = c .before .before .before .before .before .before .before .before .before .take-record in
-    standing-bad (a .book .now) (store (a .names .now) (a .entries .now) (a .direct .now)) (store (l .names) (l .entries) (l .direct)) (l .p) (l .inv) _ (omega arith) (rw (c .before .taken2 .given .1) at (r .ensures))
-
-same-length-4 : tie.Need-same-length-4 Inv-loop μ-loop
-same-length-4 c = c .before .before .before .before .loop .inv .names-length
+    let a = c .before .before .before .before .before .before .before .before .before .before .before .before .before .before .before .before .before .before .before .before .before .before .before .before .before .args in
+    let l = c .before .before .before .before .before .before .before .before .before .before .before .before .before .before .before .before .before .before .loop in
+    let r = c .before .before .before .before .before .before .before .before .before .before .before .take-record in
+    standing-bad (a .book .now) (store (a .names .now) (a .entries .now) (a .direct .now) (a .targets .now)) (store (l .names) (l .entries) (l .direct) (l .targets)) (l .p) (l .inv) _ (omega arith) (rw (c .before .taken2 .given .1) at (r .ensures))
 
 same-length-5 : tie.Need-same-length-5 Inv-loop μ-loop
-same-length-5 c = c .before .before .before .before .loop .inv .entries-length
+same-length-5 c = c .before .before .before .before .loop .inv .names-length
 
 same-length-6 : tie.Need-same-length-6 Inv-loop μ-loop
-same-length-6 c = c .before .before .before .before .loop .inv .direct-length
+same-length-6 c = c .before .before .before .before .loop .inv .entries-length
+
+same-length-7 : tie.Need-same-length-7 Inv-loop μ-loop
+same-length-7 c = c .before .before .before .before .loop .inv .direct-length
+
+same-length-8 : tie.Need-same-length-8 Inv-loop μ-loop
+same-length-8 c = c .before .before .before .before .loop .inv .targets-length
 
 returns-3 : tie.Need-returns-3 Inv-loop μ-loop
 returns-3 c =
-    let a = c .before .before .before .before .before .before .before .before .before .before .args in
+    let a = c .before .before .before .before .before .before .before .before .before .before .before .args in
     let l = c .before .before .before .before .loop in
-    standing-none (a .book .now) (store (a .names .now) (a .entries .now) (a .direct .now)) (store (l .names) (l .entries) (l .direct)) (l .p) (l .inv) (omega arith) (c .if3 .taken)
-
-same-length-7 : tie.Need-same-length-7 Inv-loop μ-loop
-same-length-7 c = c .before .before .before .before .loop .inv .names-length
-
-same-length-8 : tie.Need-same-length-8 Inv-loop μ-loop
-same-length-8 c = c .before .before .before .before .loop .inv .entries-length
+    standing-none (a .book .now) (store (a .names .now) (a .entries .now) (a .direct .now) (a .targets .now)) (store (l .names) (l .entries) (l .direct) (l .targets)) (l .p) (l .inv) (omega arith) (c .if3 .taken)
 
 same-length-9 : tie.Need-same-length-9 Inv-loop μ-loop
-same-length-9 c = c .before .before .before .before .loop .inv .direct-length
+same-length-9 c = c .before .before .before .before .loop .inv .names-length
+
+same-length-10 : tie.Need-same-length-10 Inv-loop μ-loop
+same-length-10 c = c .before .before .before .before .loop .inv .entries-length
+
+same-length-11 : tie.Need-same-length-11 Inv-loop μ-loop
+same-length-11 c = c .before .before .before .before .loop .inv .direct-length
+
+same-length-12 : tie.Need-same-length-12 Inv-loop μ-loop
+same-length-12 c = c .before .before .before .before .loop .inv .targets-length
 
 returns-4 : tie.Need-returns-4 Inv-loop μ-loop
 returns-4 c =
-    let a = c .before .before .before .before .before .before .before .before .before .before .args in
+    let a = c .before .before .before .before .before .before .before .before .before .before .before .args in
     let l = c .before .before .before .before .loop in
-    standing-some (a .book .now) (store (a .names .now) (a .entries .now) (a .direct .now)) (store (l .names) (l .entries) (l .direct)) (l .p) (l .inv) (omega arith) (c .if3 .left)
+    standing-some (a .book .now) (store (a .names .now) (a .entries .now) (a .direct .now) (a .targets .now)) (store (l .names) (l .entries) (l .direct) (l .targets)) (l .p) (l .inv) (omega arith) (c .if3 .left)
 
 pub scan-book-spec : {M : Type 1} → statement M
 scan-book-spec =
@@ -107,12 +116,15 @@ scan-book-spec =
     same-length
     same-length-2
     same-length-3
-    returns-2
     same-length-4
+    returns-2
     same-length-5
     same-length-6
-    returns-3
     same-length-7
     same-length-8
+    returns-3
     same-length-9
+    same-length-10
+    same-length-11
+    same-length-12
     returns-4)

@@ -4,6 +4,7 @@ use native.Mathlib.Omega.{arith}
 use mathlib.Core.Path.{_≡_, sym, ap, _∙_}
 use Prim.Native.Nat.{ℕ, _+_, _<_, _≤_}
 use lib.ListN.{length, getD}
+use Rattle.figures.specs.Limits.{maxTargets}
 use Rattle.book.specs.Format.{Bytes, bodyAt, headLength, nextAt, kindAt}
 use Rattle.book.specs.Kept.{Store, store, Sound}
 use Rattle.book.specs.declared.Progress.{Progress}
@@ -22,16 +23,16 @@ same-length c = search needs
 -- What is known of a record without a fault.
 module _ (c : tie.Else1) where
   abbrev bytes : Bytes
-  bytes = c .before .before .before .before .before .before .before .args .book .now
+  bytes = c .before .before .before .before .before .before .before .before .args .book .now
 
   abbrev kept : Store
-  kept = let a = c .before .before .before .before .before .before .before .args in store (a .names .now) (a .entries .now) (a .direct .now)
+  kept = let a = c .before .before .before .before .before .before .before .before .args in store (a .names .now) (a .entries .now) (a .direct .now) (a .targets .now)
 
   abbrev p : Progress
-  p = c .before .before .before .before .before .before .before .args .p
+  p = c .before .before .before .before .before .before .before .before .args .p
 
   sound : Sound bytes kept p
-  sound = c .before .before .before .before .before .before .before .pre
+  sound = c .before .before .before .before .before .before .before .before .pre
 
   found : Found bytes kept p sound 0
   found = sym (c .if1 .left) ∙ c .before .fault-at .ensures
@@ -71,12 +72,15 @@ target-kind c =
     let none = c .match .rest in
     kind-left (bytes (c .before .before .before)) (kept (c .before .before .before)) (p (c .before .before .before)) (sound (c .before .before .before)) (found (c .before .before .before)) _ (two-bytes-read (c .before .two-bytes .ensures)) (none .0 .0 .1) (none .0 .1) (none .1)
 
+target-fits : (c : tie.At-match-rest) → (length (body (c .before .before)) ≡ 1) × (getD {A = ℕ} (body (c .before .before)) 0 0 < p (c .before .before .before) .types) × (p (c .before .before .before) .targets < maxTargets)
+target-fits c = target-place (bytes (c .before .before .before)) (kept (c .before .before .before)) (p (c .before .before .before)) (sound (c .before .before .before)) (found (c .before .before .before)) (target-kind c)
+
 returns : tie.Need-returns
 returns c =
-    let a = c .before .before .before .before .before .before .before .args in
+    let a = c .before .before .before .before .before .before .before .before .args in
     record {
       some-number = c .if1 .taken;
-      faulty = fault-kept (a .book .now) (store (a .names .now) (a .entries .now) (a .direct .now)) (a .p) (c .before .before .before .before .before .before .before .pre) _ (c .before .fault-at .ensures);
+      faulty = fault-kept (a .book .now) (store (a .names .now) (a .entries .now) (a .direct .now) (a .targets .now)) (a .p) (c .before .before .before .before .before .before .before .before .pre) _ (c .before .fault-at .ensures);
     }
 
 body-at-requires : tie.Need-body-at-requires
@@ -103,8 +107,8 @@ mul-names c = search needs
 slice-write-names : tie.Need-slice-write-names
 slice-write-names c = omega (arith, name-place (bytes (c .before .before .before)) (kept (c .before .before .before)) (p (c .before .before .before)) (sound (c .before .before .before)) (found (c .before .before .before)) (name-kind c), sound (c .before .before .before) .roomy .names-room)
 
-add-t22 : tie.Need-add-t22
-add-t22 c = search needs
+add-t23 : tie.Need-add-t23
+add-t23 c = search needs
 
 shared-slice-read-wide-byte : tie.Need-shared-slice-read-wide-byte
 shared-slice-read-wide-byte c = omega (arith, pair-fits (c .before) .0, ap length (c .before .before .before .body-at .ensures))
@@ -143,11 +147,17 @@ mul-entries c = search needs
 slice-write-entries : tie.Need-slice-write-entries
 slice-write-entries c = omega (arith, entry-place (bytes (c .before .before .before)) (kept (c .before .before .before)) (p (c .before .before .before)) (sound (c .before .before .before)) (found (c .before .before .before)) (entry-kind c), sound (c .before .before .before) .roomy .entries-room)
 
-add-t36 : tie.Need-add-t36
-add-t36 c = search needs
+add-t37 : tie.Need-add-t37
+add-t37 c = search needs
 
-shared-slice-read-t40 : tie.Need-shared-slice-read-t40
-shared-slice-read-t40 c = omega (arith, target-place (bytes (c .before .before .before .before)) (kept (c .before .before .before .before)) (p (c .before .before .before .before)) (sound (c .before .before .before .before)) (found (c .before .before .before .before)) (target-kind (c .before)) .0, ap length (c .before .before .before .body-at .ensures))
+shared-slice-read-targets : tie.Need-shared-slice-read-targets
+shared-slice-read-targets c = omega (arith, target-fits (c .before) .0, ap length (c .before .before .before .body-at .ensures))
+
+slice-write-targets : tie.Need-slice-write-targets
+slice-write-targets c = omega (arith, target-fits (c .before) .2, sound (c .before .before .before .before) .roomy .targets-room)
+
+add-t43 : tie.Need-add-t43
+add-t43 c = search needs
 
 same-length-2 : tie.Need-same-length-2
 same-length-2 c = search needs
@@ -178,6 +188,9 @@ returns-4 c = entry-taken (bytes (c .before .before .before)) (kept (c .before .
 same-length-7 : tie.Need-same-length-7
 same-length-7 c = search needs
 
+same-length-8 : tie.Need-same-length-8
+same-length-8 c = search needs
+
 returns-5 : tie.Need-returns-5
 returns-5 c = target-taken (bytes (c .before .before .before .before)) (kept (c .before .before .before .before)) (p (c .before .before .before .before)) (sound (c .before .before .before .before)) (found (c .before .before .before .before)) _ (next-is (c .before .before .before)) (target-kind (c .before)) _ (first-byte (c .before .before .before))
 
@@ -196,7 +209,7 @@ take-record-spec =
     cast-names
     mul-names
     slice-write-names
-    add-t22
+    add-t23
     shared-slice-read-wide-byte
     wide-byte-requires
     mul-with
@@ -208,8 +221,10 @@ take-record-spec =
     cast-entries
     mul-entries
     slice-write-entries
-    add-t36
-    shared-slice-read-t40
+    add-t37
+    shared-slice-read-targets
+    slice-write-targets
+    add-t43
     same-length-2
     returns-2
     same-length-3
@@ -219,4 +234,5 @@ take-record-spec =
     same-length-6
     returns-4
     same-length-7
+    same-length-8
     returns-5)

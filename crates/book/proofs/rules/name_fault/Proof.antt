@@ -15,27 +15,27 @@ is-name-requires : tie.Need-is-name-requires
 is-name-requires c κs = search needs
 
 returns : tie.Need-returns
-returns c = λ entries seen. sym (name-faults _ _ entries seen (sym (c .before .is-name .ensures) ∙ not-true _ (c .if1 .taken)) refl refl)
+returns c = λ entries targets. sym (name-faults _ _ entries targets (sym (c .before .is-name .ensures) ∙ not-true _ (c .if1 .taken)) refl refl)
 
 name-used-requires : tie.Need-name-used-requires
 name-used-requires c κs = search needs
 
 returns-2 : tie.Need-returns-2
-returns-2 c = λ entries seen. sym (name-faults _ _ entries seen (sym (c .before .before .before .is-name .ensures) ∙ not-false _ (c .before .before .if1 .left)) (sym (c .before .name-used .ensures) ∙ c .if2 .taken) refl)
+returns-2 c = λ entries targets. sym (name-faults _ _ entries targets (sym (c .before .before .before .is-name .ensures) ∙ not-false _ (c .before .before .if1 .left)) (sym (c .before .name-used .ensures) ∙ c .if2 .taken) refl)
 
 returns-3 : tie.Need-returns-3
 returns-3 c =
     let a = c .before .before .before .before .before .before .before .before .args in
     let names = bodiesAt (a .book .now) (a .names .now) (a .types) in
     let count = bodies-length (a .book .now) (a .names .now) (a .types) (c .before .before .before .before .before .before .before .before .pre .room) in
-    λ entries seen. sym (name-faults _ names entries seen (sym (c .before .before .before .before .is-name .ensures) ∙ not-false _ (c .before .before .before .if1 .left)) (sym (c .before .before .name-used .ensures) ∙ c .before .if2 .left) (le-leb maxTypes (length names) (omega arith)))
+    λ entries targets. sym (name-faults _ names entries targets (sym (c .before .before .before .before .is-name .ensures) ∙ not-false _ (c .before .before .before .if1 .left)) (sym (c .before .before .name-used .ensures) ∙ c .before .if2 .left) (le-leb maxTypes (length names) (omega arith)))
 
 returns-4 : tie.Need-returns-4
 returns-4 c =
     let a = c .before .before .before .before .before .before .before .before .args in
     let names = bodiesAt (a .book .now) (a .names .now) (a .types) in
     let count = bodies-length (a .book .now) (a .names .now) (a .types) (c .before .before .before .before .before .before .before .before .pre .room) in
-    λ entries seen. sym (name-faults _ names entries seen (sym (c .before .before .before .before .is-name .ensures) ∙ not-false _ (c .before .before .before .if1 .left)) (sym (c .before .before .name-used .ensures) ∙ c .before .if2 .left) (lt-leb maxTypes (length names) (omega arith)))
+    λ entries targets. sym (name-faults _ names entries targets (sym (c .before .before .before .before .is-name .ensures) ∙ not-false _ (c .before .before .before .if1 .left)) (sym (c .before .before .name-used .ensures) ∙ c .before .if2 .left) (lt-leb maxTypes (length names) (omega arith)))
 
 pub name-fault-spec : {M : Type 1} → statement M
 name-fault-spec =

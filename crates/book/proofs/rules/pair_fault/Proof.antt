@@ -9,7 +9,7 @@ use Rattle.book.proofs.rules.pair_fault.Statement.{statement}
 use Rattle.book.proofs.rules.pair_fault.Tie as tie
 
 returns : tie.Need-returns
-returns c = λ names entries seen h. sym (pair-faults _ names entries seen (ne-eqb _ _ (c .if1 .taken)) refl)
+returns c = λ names entries targets h. sym (pair-faults _ names entries targets (ne-eqb _ _ (c .if1 .taken)) refl)
 
 shared-slice-read-wide-byte : tie.Need-shared-slice-read-wide-byte
 shared-slice-read-wide-byte c = search needs
@@ -21,7 +21,7 @@ returns-2 : tie.Need-returns-2
 returns-2 c =
     let body = c .before .before .before .before .before .args .body .now in
     let e0 = c .before .wide-byte .ensures .0 in
-    λ names entries seen h. sym (pair-faults body names entries seen (eq-eqb (length body) 2 (omega arith)) (two-first-no (length names) body (omega arith) (omega arith)))
+    λ names entries targets h. sym (pair-faults body names entries targets (eq-eqb (length body) 2 (omega arith)) (two-first-no (length names) body (omega arith) (omega arith)))
 
 shared-slice-read-wide-byte-2 : tie.Need-shared-slice-read-wide-byte-2
 shared-slice-read-wide-byte-2 c = search needs
@@ -34,14 +34,14 @@ returns-3 c =
     let body = c .before .before .before .before .before .before .before .before .args .body .now in
     let e0 = c .before .wide-byte2 .ensures .0 in
     let e1 = c .before .before .before .before .wide-byte .ensures .0 in
-    λ names entries seen h. sym (pair-faults body names entries seen (eq-eqb (length body) 2 (omega arith)) (two-second-no (length names) body (omega arith) (omega arith) (omega arith)))
+    λ names entries targets h. sym (pair-faults body names entries targets (eq-eqb (length body) 2 (omega arith)) (two-second-no (length names) body (omega arith) (omega arith) (omega arith)))
 
 returns-4 : tie.Need-returns-4
 returns-4 c =
     let body = c .before .before .before .before .before .before .before .before .args .body .now in
     let e0 = c .before .wide-byte2 .ensures .0 in
     let e1 = c .before .before .before .before .wide-byte .ensures .0 in
-    λ names entries seen h. sym (pair-faults body names entries seen (eq-eqb (length body) 2 (omega arith)) (two-yes (length names) body (omega arith) (omega arith) (omega arith)))
+    λ names entries targets h. sym (pair-faults body names entries targets (eq-eqb (length body) 2 (omega arith)) (two-yes (length names) body (omega arith) (omega arith) (omega arith)))
 
 pub pair-fault-spec : {M : Type 1} → statement M
 pair-fault-spec =

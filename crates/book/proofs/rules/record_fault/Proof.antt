@@ -55,8 +55,8 @@ returns-3 c =
     let names = bodiesAt (a .book .now) (a .names .now) (a .types) in
     let count = bodies-length (a .book .now) (a .names .now) (a .types) (c .before .before .before .before .before .before .before .before .before .pre .1 .room) in
     let kind = sym (two-bytes-read (c .before .before .two-bytes2 .ensures)) ∙ c .before .match .keys1 in
-    (rw (c .before .before .before .body-at .ensures) at (c .name-fault .ensures (a .entries) (a .seen)))
-    ∙ record-whole (a .book .now) (a .at) names (a .entries) (a .seen) (omega (arith, two-bytes-read (c .before .before .before .before .before .two-bytes .ensures))) kind
+    (rw (c .before .before .before .body-at .ensures) at (c .name-fault .ensures (a .entries) (a .targets)))
+    ∙ record-whole (a .book .now) (a .at) names (a .entries) (a .targets) (omega (arith, two-bytes-read (c .before .before .before .before .before .two-bytes .ensures))) kind
 
 returns-4 : tie.Need-returns-4
 returns-4 c =
@@ -64,8 +64,8 @@ returns-4 c =
     let names = bodiesAt (a .book .now) (a .names .now) (a .types) in
     let count = bodies-length (a .book .now) (a .names .now) (a .types) (c .before .before .before .before .before .before .before .before .before .pre .1 .room) in
     let kind = sym (two-bytes-read (c .before .before .two-bytes2 .ensures)) ∙ c .before .match .keys2 in
-    (rw (c .before .before .before .body-at .ensures) at (c .pair-fault .ensures names (a .entries) (a .seen) count))
-    ∙ record-whole (a .book .now) (a .at) names (a .entries) (a .seen) (omega (arith, two-bytes-read (c .before .before .before .before .before .two-bytes .ensures))) kind
+    (rw (c .before .before .before .body-at .ensures) at (c .pair-fault .ensures names (a .entries) (a .targets) count))
+    ∙ record-whole (a .book .now) (a .at) names (a .entries) (a .targets) (omega (arith, two-bytes-read (c .before .before .before .before .before .two-bytes .ensures))) kind
 
 returns-5 : tie.Need-returns-5
 returns-5 c =
@@ -73,8 +73,8 @@ returns-5 c =
     let names = bodiesAt (a .book .now) (a .names .now) (a .types) in
     let count = bodies-length (a .book .now) (a .names .now) (a .types) (c .before .before .before .before .before .before .before .before .before .pre .1 .room) in
     let kind = sym (two-bytes-read (c .before .before .two-bytes2 .ensures)) ∙ c .before .match .keys3 in
-    (rw (c .before .before .before .body-at .ensures) at (c .entry-fault .ensures names (a .seen) count))
-    ∙ record-whole (a .book .now) (a .at) names (a .entries) (a .seen) (omega (arith, two-bytes-read (c .before .before .before .before .before .two-bytes .ensures))) kind
+    (rw (c .before .before .before .body-at .ensures) at (c .entry-fault .ensures names (a .targets) count))
+    ∙ record-whole (a .book .now) (a .at) names (a .entries) (a .targets) (omega (arith, two-bytes-read (c .before .before .before .before .before .two-bytes .ensures))) kind
 
 returns-6 : tie.Need-returns-6
 returns-6 c =
@@ -83,7 +83,7 @@ returns-6 c =
     let count = bodies-length (a .book .now) (a .names .now) (a .types) (c .before .before .before .before .before .before .before .before .before .pre .1 .room) in
     let kind = sym (two-bytes-read (c .before .before .two-bytes2 .ensures)) ∙ c .before .match .keys4 in
     (rw (c .before .before .before .body-at .ensures) at (c .target-fault .ensures names (a .entries) count))
-    ∙ record-whole (a .book .now) (a .at) names (a .entries) (a .seen) (omega (arith, two-bytes-read (c .before .before .before .before .before .two-bytes .ensures))) kind
+    ∙ record-whole (a .book .now) (a .at) names (a .entries) (a .targets) (omega (arith, two-bytes-read (c .before .before .before .before .before .two-bytes .ensures))) kind
 
 returns-7 : tie.Need-returns-7
 returns-7 c =
@@ -93,8 +93,8 @@ returns-7 c =
     let none = c .match .rest in
     let other =
     kind-other _ (λ e. none .0 .0 .0 .1 (read ∙ e)) (λ e. none .0 .0 .1 (read ∙ e)) (λ e. none .0 .1 (read ∙ e)) (λ e. none .1 (read ∙ e)) in
-    sym (unlisted-faults _ names (a .entries) (a .seen) _ other)
-    ∙ record-whole (a .book .now) (a .at) names (a .entries) (a .seen) (omega (arith, two-bytes-read (c .before .before .before .before .two-bytes .ensures))) refl
+    sym (unlisted-faults _ names (a .entries) (a .targets) _ other)
+    ∙ record-whole (a .book .now) (a .at) names (a .entries) (a .targets) (omega (arith, two-bytes-read (c .before .before .before .before .two-bytes .ensures))) refl
 
 pub record-fault-spec : {M : Type 1} → statement M
 record-fault-spec =

@@ -1,4 +1,4 @@
--- `graph::layout::lay_out` meets its contract: its words are laid, and then the target.
+-- `graph::layout::lay_out` meets its contract: its words are laid, and then the targets.
 use borrow.Author.Needs.{needs}
 use mathlib.Core.Path.{refl}
 use Rattle.graph.specs.Lists.{lists}
@@ -8,14 +8,14 @@ use Rattle.graph.proofs.layout.lay_out.Tie as tie
 
 lay-words-requires : tie.Need-lay-words-requires
 lay-words-requires c κs =
-    let a = c .before .before .before .before .before .before .before .before .before .before .before .before .before .before .before .before .args in
-    out-words-fit (a .book .now) (a .offsets .now) (a .count) (a .same .now) (a .firsts .now) (a .words) (lists (a .simples .now) (a .nexts .now) (a .froms .now) (a .tos .now) (a .enters .now) (a .numbers .now)) (c .before .before .before .before .before .before .before .before .before .before .before .before .before .before .before .before .pre)
+    let a = c .before .before .before .before .before .before .before .before .before .before .before .before .before .before .before .before .before .args in
+    out-words-fit (a .book .now) (a .offsets .now) (a .count) (a .same .now) (a .firsts .now) (a .words) (a .targets .now) (lists (a .simples .now) (a .nexts .now) (a .froms .now) (a .tos .now) (a .enters .now) (a .numbers .now)) (c .before .before .before .before .before .before .before .before .before .before .before .before .before .before .before .before .before .pre)
 
-lay-goal-requires : tie.Need-lay-goal-requires
-lay-goal-requires c κs =
-    let a = c .before .before .before .before .before .before .before .before .before .before .before .before .before .before .before .before .before .before .before .before .before .before .before .before .before .before .before .before .before .before .before .before .before .before .args in
+lay-goals-requires : tie.Need-lay-goals-requires
+lay-goals-requires c κs =
+    let a = c .before .before .before .before .before .before .before .before .before .before .before .before .before .before .before .before .before .before .before .before .before .before .before .before .before .before .before .before .before .before .before .before .before .before .before .args in
     let m = c .before .before .before .before .before .before .before .before .before .before .before .before .before .before .before .before .before .lay-words .last .1 .1 .1 .1 .1 .1 .1 in
-    out-standing (a .book .now) (a .offsets .now) (a .count) (a .same .now) (a .firsts .now) (a .words) (lists (a .simples .now) (a .nexts .now) (a .froms .now) (a .tos .now) (a .enters .now) (a .numbers .now)) (c .before .before .before .before .before .before .before .before .before .before .before .before .before .before .before .before .before .before .before .before .before .before .before .before .before .before .before .before .before .before .before .before .before .before .pre) (c .before .before .before .before .before .before .before .before .before .before .before .before .before .before .before .before .before .lay-words .result) (lists (m .0) (m .1 .0) (m .1 .1 .0) (m .1 .1 .1 .0) (m .1 .1 .1 .1 .0) (m .1 .1 .1 .1 .1 .0)) (c .before .before .before .before .before .before .before .before .before .before .before .before .before .before .before .before .before .lay-words .ensures)
+    out-standing (a .book .now) (a .offsets .now) (a .count) (a .same .now) (a .firsts .now) (a .words) (a .targets .now) (lists (a .simples .now) (a .nexts .now) (a .froms .now) (a .tos .now) (a .enters .now) (a .numbers .now)) (c .before .before .before .before .before .before .before .before .before .before .before .before .before .before .before .before .before .before .before .before .before .before .before .before .before .before .before .before .before .before .before .before .before .before .before .pre) (c .before .before .before .before .before .before .before .before .before .before .before .before .before .before .before .before .before .lay-words .result) (lists (m .0) (m .1 .0) (m .1 .1 .0) (m .1 .1 .1 .0) (m .1 .1 .1 .1 .0) (m .1 .1 .1 .1 .1 .0)) (c .before .before .before .before .before .before .before .before .before .before .before .before .before .before .before .before .before .lay-words .ensures)
 
 same-length : tie.Need-same-length
 same-length c = search needs
@@ -37,17 +37,17 @@ same-length-6 c = search needs
 
 returns : tie.Need-returns
 returns c =
-    let a = c .before .before .before .before .before .before .before .before .before .before .before .before .before .before .before .before .before .before .before .before .before .before .before .before .before .before .before .before .before .before .before .before .before .before .before .before .before .before .before .before .before .before .before .before .before .args in
+    let a = c .before .before .before .before .before .before .before .before .before .before .before .before .before .before .before .before .before .before .before .before .before .before .before .before .before .before .before .before .before .before .before .before .before .before .before .before .before .before .before .before .before .before .before .before .before .before .args in
     let m = c .before .before .before .before .before .before .before .before .before .before .before .before .before .before .before .before .before .before .before .before .before .before .before .before .before .before .before .before .lay-words .last .1 .1 .1 .1 .1 .1 .1 in
-    let n = c .before .before .before .before .before .before .before .before .before .before .lay-goal .last .1 .1 in
-    out-laid (a .book .now) (a .offsets .now) (a .count) (a .same .now) (a .firsts .now) (a .words) (lists (a .simples .now) (a .nexts .now) (a .froms .now) (a .tos .now) (a .enters .now) (a .numbers .now)) (c .before .before .before .before .before .before .before .before .before .before .before .before .before .before .before .before .before .before .before .before .before .before .before .before .before .before .before .before .before .before .before .before .before .before .before .before .before .before .before .before .before .before .before .before .before .pre) (c .before .before .before .before .before .before .before .before .before .before .before .before .before .before .before .before .before .before .before .before .before .before .before .before .before .before .before .before .lay-words .result) (lists (m .0) (m .1 .0) (m .1 .1 .0) (m .1 .1 .1 .0) (m .1 .1 .1 .1 .0) (m .1 .1 .1 .1 .1 .0)) (c .before .before .before .before .before .before .before .before .before .before .before .before .before .before .before .before .before .before .before .before .before .before .before .before .before .before .before .before .lay-words .ensures) (a .target) (lists (n .0) (n .1 .0) (n .1 .1 .0) (n .1 .1 .1 .0) (n .1 .1 .1 .1 .0) (m .1 .1 .1 .1 .1 .0)) refl (c .before .before .before .before .before .before .before .before .before .before .lay-goal .result) (c .before .before .before .before .before .before .before .before .before .before .lay-goal .ensures)
+    let n = c .before .before .before .before .before .before .before .before .before .before .lay-goals .last .1 .1 in
+    out-laid (a .book .now) (a .offsets .now) (a .count) (a .same .now) (a .firsts .now) (a .words) (a .targets .now) (lists (a .simples .now) (a .nexts .now) (a .froms .now) (a .tos .now) (a .enters .now) (a .numbers .now)) (c .before .before .before .before .before .before .before .before .before .before .before .before .before .before .before .before .before .before .before .before .before .before .before .before .before .before .before .before .before .before .before .before .before .before .before .before .before .before .before .before .before .before .before .before .before .before .pre) (c .before .before .before .before .before .before .before .before .before .before .before .before .before .before .before .before .before .before .before .before .before .before .before .before .before .before .before .before .lay-words .result) (lists (m .0) (m .1 .0) (m .1 .1 .0) (m .1 .1 .1 .0) (m .1 .1 .1 .1 .0) (m .1 .1 .1 .1 .1 .0)) (c .before .before .before .before .before .before .before .before .before .before .before .before .before .before .before .before .before .before .before .before .before .before .before .before .before .before .before .before .lay-words .ensures) (lists (n .0) (n .1 .0) (n .1 .1 .0) (n .1 .1 .1 .0) (n .1 .1 .1 .1 .0) (m .1 .1 .1 .1 .1 .0)) refl (c .before .before .before .before .before .before .before .before .before .before .lay-goals .ensures)
 
 pub lay-out-spec : {M : Type 1} → statement M
 lay-out-spec =
     tie.close
     (tie.spec
     lay-words-requires
-    lay-goal-requires
+    lay-goals-requires
     same-length
     same-length-2
     same-length-3
