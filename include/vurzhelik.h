@@ -5,10 +5,9 @@
  * Pointers. None is null, not even that of an empty list: pass the address of any object there. What is written to (value, types, entries,
  * pairs, answer, answers) overlaps nothing else that is passed. Nothing tests this.
  * Threads. Nothing is kept between calls and nothing is allocated: several threads may call at once.
- * Stack. Reading a line takes up to 127 KiB of the caller's stack where it was measured, reading a batch 147 KiB, checking a book 4 KiB.
- * WARNING: a thread with a small stack overflows. Give one that reads lines 256 KiB or more (pthread_attr_setstacksize). With glibc 128 KiB
- * are too few; its default, the limit on the stack, commonly 8 MiB, is ample. musl's default of 128 KiB leaves a caller of
- * vurzhelik_read_line 1 KiB, and is too small for a batch. */
+ * Stack. Reading a line takes up to 128 KiB of the caller's stack where it was measured, reading a batch 148 KiB, checking a book 4 KiB.
+ * WARNING: a thread with a small stack overflows. Give one that reads lines 256 KiB or more (pthread_attr_setstacksize). With glibc 132 KiB
+ * are too few; its default, the limit on the stack, commonly 8 MiB, is ample. musl's default of 128 KiB is too small for either. */
 #ifndef VURZHELIK_H
 #define VURZHELIK_H
 
@@ -20,20 +19,24 @@ extern "C" {
 #endif
 
 /* The version of this header. */
-#define VURZHELIK_VERSION_MAJOR 1
-#define VURZHELIK_VERSION_MINOR 2
+#define VURZHELIK_VERSION_MAJOR 2
+#define VURZHELIK_VERSION_MINOR 0
 #define VURZHELIK_VERSION_PATCH 0
 #define VURZHELIK_VERSION (10000 * VURZHELIK_VERSION_MAJOR + 100 * VURZHELIK_VERSION_MINOR + VURZHELIK_VERSION_PATCH)
 
-/* How many values hold any answer: n and m, an entry for each of 24 words, a partner for each of 12 simple types a word. */
-#define VURZHELIK_MAX_VALUES 314
+/* How many targets a book has at most. */
+#define VURZHELIK_MAX_TARGETS 8
+
+/* How many values hold any answer: the target's number, n and m, an entry for each of 24 words, a partner for each of 12 simple types a
+ * word. */
+#define VURZHELIK_MAX_VALUES 315
 
 /* How many lines a batch has at most, and how many bytes, those that close its lines included. */
 #define VURZHELIK_MAX_LINES 32
 #define VURZHELIK_MAX_BATCH 65535
 
 /* How many values hold the answers of any batch: 32 answers, each with a count and a number before it. */
-#define VURZHELIK_MAX_BATCH_VALUES 10112
+#define VURZHELIK_MAX_BATCH_VALUES 10144
 
 /* What the functions return, and what *value holds then. */
 enum vurzhelik_result {
@@ -45,14 +48,14 @@ enum vurzhelik_result {
     VURZHELIK_UNDECLARED_TYPE = 5,   /* type number not declared by an earlier record                the record's offset */
     VURZHELIK_EXPONENT_OUTSIDE = 6,  /* exponent outside -8 to 8                                     the record's offset */
     VURZHELIK_NAME_USED = 7,         /* type name used before                                        the record's offset */
-    VURZHELIK_SECOND_TARGET = 8,     /* second target                                                the record's offset */
+    VURZHELIK_TOO_MANY_TARGETS = 8,  /* ninth target                                                 the record's offset */
     VURZHELIK_TOO_MANY_RECORDS = 9,  /* 65th basic type or 1,025th entry                             the record's offset */
     VURZHELIK_NO_TARGET = 10,        /* book ends without a target                                   the book's length */
     VURZHELIK_BAD_LINE_BYTE = 11,    /* line byte outside 32 to 126                                  the byte's offset */
     VURZHELIK_BAD_WORD = 12,         /* word over 31 bytes, or a 25th word                           the word's offset */
     VURZHELIK_UNKNOWN_WORD = 13,     /* word without an entry                                        the word's offset */
     VURZHELIK_TOO_MANY_SIMPLES = 14, /* over 512 simple types in all entries of all words            0 */
-    VURZHELIK_NO_READING = 15,       /* no reading                                                   0 */
+    VURZHELIK_NO_READING = 15,       /* no reading for any target                                    0 */
     VURZHELIK_BUFFER_TOO_SHORT = 16, /* answer buffer too short                                      the number of values needed */
     VURZHELIK_BAD_BATCH = 17,        /* over 32 lines, over 65,535 bytes, or a last line not closed  0 */
     VURZHELIK_ANSWERS_TOO_LONG = 18  /* the answers of a batch do not fit                            the number of values needed */
@@ -69,9 +72,10 @@ uint32_t vurzhelik_check_book(const uint8_t *book, size_t book_length, uint64_t 
                               uint64_t *pairs);
 
 /* Reads a line against a book.
- * VURZHELIK_OK: answer holds the first reading: the number of words, the entry number of each, the number of simple types, the partner of
- * each. *value holds how many values that is; those behind them are as they were. The letters A to Z of a word count as a to z, in the line
- * and in the book.
+ * VURZHELIK_OK: answer holds the first reading: the number of the target that it is for, counted from 0 as the book's targets stand, the
+ * number of words, the entry number of each, the number of simple types, the partner of each. The first target that has a reading is taken.
+ * *value holds how many values that is; those behind them are as they were. The letters A to Z of a word count as a to z, in the line and in
+ * the book.
  * 1 to 16: book or line is refused; *value is as listed above, and answer is as it was. */
 uint32_t vurzhelik_read_line(const uint8_t *book, size_t book_length, const uint8_t *line, size_t line_length, uint16_t *answer,
                              size_t answer_length, uint64_t *value);

@@ -47,24 +47,41 @@ pub fn entry(word: &[u8], simple_types: &[(u8, i8)]) -> Vec<u8> {
     record(3, &body)
 }
 
-/// Where the words of a book's entries stand, as far as its records are whole.
-pub fn word_ranges(book: &[u8]) -> Vec<Range<usize>> {
+/// Where the records of a book stand, heads included, as far as they are whole.
+fn record_ranges(book: &[u8]) -> Vec<Range<usize>> {
     let mut ranges = vec![];
     let mut at = 0;
     while let Some(head) = book.get(at..at + 4) {
         let end = at + 4 + u16::from_le_bytes([head[0], head[1]]) as usize;
-        let Some(body) = book.get(at + 4..end) else {
+        if end > book.len() {
             break;
-        };
-        if let ([3, 0], Some(&length)) = (&head[2..], body.first()) {
-            let word = at + 5..at + 5 + length as usize;
-            if word.end <= end {
-                ranges.push(word);
-            }
         }
+        ranges.push(at..end);
         at = end;
     }
     ranges
+}
+
+/// The same for the records of one kind.
+fn ranges_of_kind(book: &[u8], kind: u16) -> impl Iterator<Item = Range<usize>> + '_ {
+    let of_kind = move |range: &Range<usize>| book[range.start + 2..][..2] == kind.to_le_bytes();
+    record_ranges(book).into_iter().filter(of_kind)
+}
+
+/// Where the words of a book's entries stand, as far as its records are whole.
+pub fn word_ranges(book: &[u8]) -> Vec<Range<usize>> {
+    let word = |record: Range<usize>| {
+        let length = *book[record.clone()].get(4)? as usize;
+        let word = record.start + 5..record.start + 5 + length;
+        Some(word).filter(|word| word.end <= record.end)
+    };
+    ranges_of_kind(book, 3).filter_map(word).collect()
+}
+
+/// Where the targets of a book stand, heads included, as far as its records are whole.
+#[cfg(test)]
+pub fn target_ranges(book: &[u8]) -> Vec<Range<usize>> {
+    ranges_of_kind(book, 4).collect()
 }
 
 /// A book written with names: entries as ("fetch", "o p^l").

@@ -11,14 +11,14 @@ type TypeString = Vec<(u8, i8)>;
 struct Book {
     pairs: Vec<(u8, u8)>,
     entries: Vec<(Vec<u8>, TypeString)>,
-    target: u8,
+    targets: Vec<u8>,
 }
 
 fn take_apart(bytes: &[u8]) -> Book {
     let mut book = Book {
         pairs: vec![],
         entries: vec![],
-        target: 0,
+        targets: vec![],
     };
     let mut rest = bytes;
     while !rest.is_empty() {
@@ -32,7 +32,7 @@ fn take_apart(bytes: &[u8]) -> Book {
                 let simple_types = simple_types.chunks(2).map(simple).collect();
                 book.entries.push((word.to_vec(), simple_types));
             }
-            4 => book.target = body[0],
+            4 => book.targets.push(body[0]),
             _ => {}
         }
         rest = behind;
@@ -61,13 +61,12 @@ fn could_contract(book: &Book, (a, z): (u8, i8), (b, y): (u8, i8)) -> bool {
 }
 
 /// Whether a partner list, with exactly one position its own partner, is a
-/// linking of the string.
+/// linking of the string, for some target or for none.
 fn is_linking(book: &Book, string: &TypeString, partners: &[usize]) -> bool {
     (0..string.len()).all(|i| {
         let p = partners[i];
         if p == i {
-            let under = (0..i).any(|earlier| partners[earlier] > i);
-            string[i].1 == 0 && at_or_below(book, string[i].0, book.target) && !under
+            (0..i).all(|earlier| partners[earlier] <= i)
         } else {
             let (first, last) = (i.min(p), i.max(p));
             let inside = |k: usize| {
@@ -77,6 +76,13 @@ fn is_linking(book: &Book, string: &TypeString, partners: &[usize]) -> bool {
             could_contract(book, string[first], string[last]) && (first + 1..last).all(inside)
         }
     })
+}
+
+/// Whether what a linking leaves is plain, and at or below the target.
+fn leaves(book: &Book, string: &TypeString, partners: &[usize], target: u8) -> bool {
+    (0..string.len())
+        .filter(|i| partners[*i] == *i)
+        .all(|i| string[i].1 == 0 && at_or_below(book, string[i].0, target))
 }
 
 /// All lists in which partners have each other and one position has itself,
@@ -134,7 +140,8 @@ fn is_reading(book: &[u8], line: &[u8], values: &[u16]) -> bool {
     let book = take_apart(book);
     let words = words_of(line);
     let n = words.len();
-    let (numbers, partners) = (&values[1..1 + n], &values[2 + n..]);
+    let target = book.targets[values[0] as usize];
+    let (numbers, partners) = (&values[2..2 + n], &values[3 + n..]);
     let entries: Vec<&(Vec<u8>, TypeString)> = numbers
         .iter()
         .map(|number| &book.entries[*number as usize])
@@ -142,8 +149,8 @@ fn is_reading(book: &[u8], line: &[u8], values: &[u16]) -> bool {
     let string: TypeString = entries.iter().flat_map(|entry| entry.1.clone()).collect();
     let partners: Vec<usize> = partners.iter().map(|p| *p as usize - 1).collect();
     let own = (0..partners.len()).filter(|i| partners[*i] == *i).count();
-    values[0] as usize == n
-        && values[1 + n] as usize == string.len()
+    values[1] as usize == n
+        && values[2 + n] as usize == string.len()
         && entries
             .iter()
             .zip(&words)
@@ -152,6 +159,7 @@ fn is_reading(book: &[u8], line: &[u8], values: &[u16]) -> bool {
         && (0..partners.len()).all(|i| partners[partners[i]] == i)
         && own == 1
         && is_linking(&book, &string, &partners)
+        && leaves(&book, &string, &partners, target)
 }
 
 fn words_of(line: &[u8]) -> Vec<&[u8]> {
@@ -174,10 +182,29 @@ fn unknown_word(book: &[u8], line: &[u8]) -> Option<u64> {
     None
 }
 
-/// The answers of all readings in order, or nothing where there is too much to try.
-fn all_readings(book: &[u8], line: &[u8]) -> Option<Vec<Vec<u16>>> {
-    let book = take_apart(book);
-    let words = words_of(line);
+/// The offset of the ninth target.
+fn ninth_target(book: &[u8]) -> Option<u64> {
+    let mut offset = 0;
+    let mut offsets = vec![];
+    while offset < book.len() {
+        if book[offset + 2] == 4 {
+            offsets.push(offset as u64);
+        }
+        offset += 4 + book[offset] as usize;
+    }
+    offsets.get(8).copied()
+}
+
+/// A choice's entry numbers and string, with a partner list that is a linking.
+struct Linked {
+    choice: Vec<usize>,
+    string: TypeString,
+    partners: Vec<usize>,
+}
+
+/// All linkings of all choices in order, or nothing where there is too much to
+/// try.
+fn all_linkings(book: &Book, words: &[&[u8]]) -> Option<Vec<Linked>> {
     let of_word = |word: &&[u8]| {
         let entries = book.entries.iter();
         entries.filter(|entry| same_word(&entry.0, word)).count()
@@ -185,8 +212,8 @@ fn all_readings(book: &[u8], line: &[u8]) -> Option<Vec<Vec<u16>>> {
     if words.iter().map(of_word).product::<usize>() > 300 {
         return None;
     }
-    let mut readings = vec![];
-    for choice in choices(&book, &words) {
+    let mut linkings = vec![];
+    for choice in choices(book, words) {
         let string: TypeString = choice
             .iter()
             .flat_map(|number| book.entries[*number].1.clone())
@@ -196,13 +223,30 @@ fn all_readings(book: &[u8], line: &[u8]) -> Option<Vec<Vec<u16>>> {
         }
         let mut lists = vec![];
         partner_lists(&mut vec![usize::MAX; string.len()], false, &mut lists);
-        lists.retain(|partners| is_linking(&book, &string, partners));
-        for partners in lists {
-            let mut answer = vec![choice.len()];
-            answer.extend(&choice);
-            answer.push(partners.len());
-            answer.extend(partners.iter().map(|p| p + 1));
-            readings.push(answer.iter().map(|value| *value as u16).collect());
+        lists.retain(|partners| is_linking(book, &string, partners));
+        linkings.extend(lists.into_iter().map(|partners| Linked {
+            choice: choice.clone(),
+            string: string.clone(),
+            partners,
+        }));
+    }
+    Some(linkings)
+}
+
+/// The answers of all readings in order, or nothing where there is too much to try.
+fn all_readings(book: &[u8], line: &[u8]) -> Option<Vec<Vec<u16>>> {
+    let book = take_apart(book);
+    let linkings = all_linkings(&book, &words_of(line))?;
+    let mut readings = vec![];
+    for (number, target) in book.targets.iter().enumerate() {
+        for linked in &linkings {
+            if leaves(&book, &linked.string, &linked.partners, *target) {
+                let mut answer = vec![number, linked.choice.len()];
+                answer.extend(&linked.choice);
+                answer.push(linked.partners.len());
+                answer.extend(linked.partners.iter().map(|p| p + 1));
+                readings.push(answer.iter().map(|value| *value as u16).collect());
+            }
         }
     }
     Some(readings)
@@ -234,6 +278,7 @@ fn whatever_is_read_is_a_reading() {
 #[test]
 fn the_first_of_all_readings_is_read() {
     let (mut tried, mut read, mut several) = (0, 0, 0);
+    let (mut later, mut against) = (0, 0);
     let mut number = 0;
     while tried < 6_000 {
         number += 1;
@@ -247,19 +292,29 @@ fn the_first_of_all_readings_is_read() {
         };
         let mut answer = [0; cases::AMPLE];
         let outcome = read_line(&case.book, &case.line, &mut answer);
+        tried += 1;
+        if let Some(offset) = ninth_target(&case.book) {
+            assert_eq!(outcome, Err((8, offset)), "case {number}");
+            continue;
+        }
         let unknown = unknown_word(&case.book, &case.line);
         match (unknown, readings.first()) {
             (Some(offset), _) => assert_eq!(outcome, Err((13, offset)), "case {number}"),
             (None, Some(first)) => {
                 assert_eq!(outcome, Ok(first.len() as u64), "case {number}");
                 assert_eq!(answer[..first.len()], first[..], "case {number}");
+                let entries = 2..2 + first[1] as usize;
+                let smaller = |other: &Vec<u16>| other[entries.clone()] < first[entries.clone()];
+                later += usize::from(first[0] > 0);
+                against += usize::from(readings.iter().any(smaller));
             }
             (None, None) => assert_eq!(outcome, Err((15, 0)), "case {number}"),
         }
-        tried += 1;
+        assert!(readings.is_sorted(), "case {number}");
         read += usize::from(!readings.is_empty());
         several += usize::from(readings.len() > 1);
     }
     println!("{tried} tried of {number} made, {read} read, {several} with several readings");
-    assert!(read > 1_500 && several > 500);
+    println!("{later} read for a later target, {against} against smaller entries of a later one");
+    assert!(read > 1_500 && several > 500 && later > 200 && against > 100);
 }

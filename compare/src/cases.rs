@@ -8,6 +8,7 @@ mod damaged_books;
 mod damaged_lines;
 mod papers;
 mod spellings;
+mod targets;
 
 use crate::independent;
 use crate::random::Random;
@@ -22,7 +23,7 @@ pub struct Case {
     pub lent: usize,
 }
 
-/// More values than any answer takes: 2 + 24 words + 24 times 12 simple types.
+/// More values than any answer takes: 3 + 24 words + 24 times 12 simple types.
 pub const AMPLE: usize = 320;
 
 type Maker = fn(&mut Random) -> Case;

@@ -11,7 +11,7 @@ use crate::random::Random;
 use crate::readers::{Reader, INDEPENDENT};
 use batches::BatchTally;
 use lines::LineTally;
-use outcomes::Outcomes;
+use outcomes::{Outcomes, Targets};
 use std::collections::BTreeMap;
 use std::ops::RangeInclusive;
 use std::panic::{catch_unwind, RefUnwindSafe};
@@ -157,6 +157,8 @@ fn print_tallies(tallies: &Tallies, time: Duration) {
     print_missing("lines", &lines.all, &[1..=16]);
     print_missing("batches", &batches.all, &[1..=10, 17..=18]);
     print_missing("lines of batches", &batches.lines, &[11..=15]);
+    print_missing_targets("lines", &lines.targets);
+    print_missing_targets("lines of batches", &batches.targets);
     let seconds = time.as_secs_f64();
     let rate = (lines.all.all + batches.all.all) as f64 / seconds;
     println!("{seconds:.2} seconds, {rate:.0} cases a second");
@@ -182,6 +184,15 @@ fn print_missing(what: &str, outcomes: &Outcomes, numbers: &[RangeInclusive<usiz
     }
 }
 
+/// Prints for which numbers of a target no line was read.
+fn print_missing_targets(what: &str, targets: &Targets) {
+    for (number, answered) in targets.answered.iter().enumerate() {
+        if *answered == 0 {
+            println!("{what}: none was read for target {number}");
+        }
+    }
+}
+
 fn print_difference<C: Compared>(
     case: &C,
     expected: &C::Outcome,
@@ -203,10 +214,10 @@ fn hex(bytes: &[u8]) -> String {
 #[cfg(test)]
 mod tests {
     use super::*;
-    use crate::books::{first_book, word_ranges};
+    use crate::books::{first_book, target_ranges, word_ranges};
     use crate::cases::Batch;
-    use crate::readers::ReadBatch;
-    use crate::types::Refusal;
+    use crate::readers::{ReadBatch, TWIN};
+    use crate::types::{Counts, Refusal};
 
     /// The independent reader, but with one bit set in every byte from 64 to 94 of words on both sides, so that `[` is `{`.
     fn one_bit_masked(book: &[u8], line: &[u8], answer: &mut [u16]) -> Result<u64, Refusal> {
@@ -254,6 +265,85 @@ mod tests {
             check_book: |_| panic!("on purpose"),
             ..INDEPENDENT
         }));
+    }
+
+    /// Reads as the independent reader does, but what it writes is changed, or the line refused instead.
+    fn changed(
+        book: &[u8],
+        line: &[u8],
+        answer: &mut [u16],
+        change: impl Fn(&mut [u16]) -> Result<(), Refusal>,
+    ) -> Result<u64, Refusal> {
+        let mut own = answer.to_vec();
+        let written = (INDEPENDENT.read_line)(book, line, &mut own)?;
+        change(&mut own)?;
+        answer.copy_from_slice(&own);
+        Ok(written)
+    }
+
+    #[test]
+    fn differences_in_targets_are_found() {
+        // All answers are said to be for the first target.
+        assert!(!alike(Reader {
+            read_line: |book, line, answer| changed(book, line, answer, |own| {
+                own[0] = 0;
+                Ok(())
+            }),
+            ..INDEPENDENT
+        }));
+        // Lines are read for the first target alone.
+        assert!(!alike(Reader {
+            read_line: |book, line, answer| changed(book, line, answer, |own| match own[0] {
+                0 => Ok(()),
+                _ => Err((15, 0)),
+            }),
+            ..INDEPENDENT
+        }));
+        // A second target is refused, or no number of them is.
+        assert!(!alike(Reader {
+            check_book: |book| match target_ranges(book).get(1) {
+                Some(second) => Err((8, second.start as u64)),
+                None => (INDEPENDENT.check_book)(book),
+            },
+            ..INDEPENDENT
+        }));
+        assert!(!alike(Reader {
+            check_book: |book| match (INDEPENDENT.check_book)(book) {
+                Err((8, _)) => Ok(Counts {
+                    types: 1,
+                    entries: 1,
+                    pairs: 1
+                }),
+                other => other,
+            },
+            ..INDEPENDENT
+        }));
+        // The later of two targets with a reading is taken.
+        assert!(!alike(Reader {
+            read_line: last_target_first,
+            ..INDEPENDENT
+        }));
+    }
+
+    /// The independent reader with the targets of an accepted book in turned order.
+    fn last_target_first(book: &[u8], line: &[u8], answer: &mut [u16]) -> Result<u64, Refusal> {
+        (INDEPENDENT.check_book)(book)?;
+        let targets = target_ranges(book);
+        let mut turned = book.to_vec();
+        for (range, other) in targets.iter().zip(targets.iter().rev()) {
+            turned[range.clone()].copy_from_slice(&book[other.clone()]);
+        }
+        changed(&turned, line, answer, |own| {
+            own[0] = targets.len() as u16 - 1 - own[0];
+            Ok(())
+        })
+    }
+
+    #[test]
+    fn twin_reads_as_the_independent_reader_does() {
+        for seed in [1, 2] {
+            assert!(run(20_000, seed, &[TWIN]));
+        }
     }
 
     #[test]

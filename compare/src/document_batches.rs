@@ -1,5 +1,5 @@
-//! Batches of lines by the sentences of document 02's request 2.2, worked out
-//! by hand, for all three readers.
+//! Batches of lines by the sentences of document 02's requests 2.2 and 2.4,
+//! worked out by hand, for all three readers.
 
 use crate::books::{first_book, Records};
 use crate::readers::{Reader, INDEPENDENT, LIBRARY, TWIN};
@@ -16,8 +16,8 @@ const MOST_BYTES: usize = 65_535;
 const AMPLE: usize = 12_000;
 
 /// The parts of "go", "fetch bed4" and of a line without a reading.
-const GO: [u16; 6] = [5, 0, 1, 7, 1, 1];
-const FETCH_BED4: [u16; 9] = [8, 0, 2, 0, 2, 3, 1, 3, 2];
+const GO: [u16; 7] = [6, 0, 0, 1, 7, 1, 1];
+const FETCH_BED4: [u16; 10] = [9, 0, 0, 2, 0, 2, 3, 1, 3, 2];
 const NONE: [u16; 3] = [2, 15, 0];
 
 /// What all readers say of a batch.
@@ -161,11 +161,11 @@ fn each_refusal_with_the_offset_in_its_line() {
 fn buffers_of_every_length() {
     let lines = b"go\nfetch bed4\n\nadmit site\nnobody\n";
     let parts: [&[u16]; 5] = [&GO, &FETCH_BED4, &NONE, &NONE, &[2, 13, 0]];
-    // 6 + 9 + 3 + 3 + 3 values.
-    for lent in 0..24 {
-        assert_eq!(read(lines, lent), Err((18, 24)));
+    // 7 + 10 + 3 + 3 + 3 values.
+    for lent in 0..26 {
+        assert_eq!(read(lines, lent), Err((18, 26)));
     }
-    for lent in 24..60 {
+    for lent in 26..60 {
         assert_eq!(read(lines, lent), answered(5, &parts));
     }
 }
@@ -205,7 +205,7 @@ fn longest_answers() {
     book.entry(b"last", &six[..11]);
     book.entry(b"w", &six);
     let line = ["w ".repeat(23), "last\n".to_string()].concat();
-    let mut part = vec![1 + 2 + 24 + 287, 0, 24];
+    let mut part = vec![1 + 3 + 24 + 287, 0, 0, 24];
     part.extend([1; 23]);
     part.extend([0, 287]);
     part.extend((1..=143).flat_map(|link| [2 * link, 2 * link - 1]));
@@ -216,4 +216,35 @@ fn longest_answers() {
     assert_eq!(read_with(&book.bytes(), &lines, needed), outcome);
     let short = read_with(&book.bytes(), &lines, needed - 1);
     assert_eq!(short, Err((18, needed as u64)));
+}
+
+/// The first book with targets p and w behind its own: "bed4" is read for the first of them, "ward7" and "site" for the second.
+#[test]
+fn lines_of_different_targets() {
+    let mut book = first_book();
+    book.target(1);
+    book.target(2);
+    let lines = b"ward7\ngo\nbed4\nsite\nadmit site\nfetch bed4\nbed4\n";
+    let bed4: [u16; 7] = [6, 0, 1, 1, 2, 1, 1];
+    let (ward7, site) = ([6, 0, 2, 1, 3, 1, 1], [6, 0, 2, 1, 6, 1, 1]);
+    let parts: [&[u16]; 7] = [&ward7, &GO, &bed4, &site, &NONE, &FETCH_BED4, &bed4];
+    let book = book.bytes();
+    // 5 times 7, 3 and 10 values.
+    assert_eq!(read_with(&book, lines, 48), answered(7, &parts));
+    assert_eq!(read_with(&book, lines, 47), Err((18, 48)));
+}
+
+/// The ninth target is refused like any bad record: after 17 and before 18.
+#[test]
+fn ninth_target_of_a_batch() {
+    let mut book = first_book();
+    for target in 0..7 {
+        book.target(target % 4);
+    }
+    let offset = book.bytes().len() as u64;
+    assert_eq!(read_with(&book.bytes(), b"go\n", 7), answered(1, &[&GO]));
+    book.target(0);
+    let book = book.bytes();
+    assert_eq!(read_with(&book, b"go\n", 0), Err((8, offset)));
+    assert_eq!(read_with(&book, b"go", 0), Err((17, 0)));
 }

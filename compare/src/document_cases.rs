@@ -9,22 +9,22 @@ use crate::books::{
 use crate::readers::{Reader, INDEPENDENT, LIBRARY, TWIN};
 use crate::types::{Counts, Refusal};
 
-/// Entry numbers and partners, or a refusal.
-type Outcome = Result<(Vec<u16>, Vec<u16>), Refusal>;
+/// The target's number, entry numbers and partners, or a refusal.
+pub type Outcome = Result<(u16, Vec<u16>, Vec<u16>), Refusal>;
 
 const UNTOUCHED: u16 = 0xbeef;
 
 const READERS: [Reader; 3] = [LIBRARY, INDEPENDENT, TWIN];
 
 /// What all readers say of a book.
-fn check_book(book: &[u8]) -> Result<Counts, Refusal> {
+pub fn check_book(book: &[u8]) -> Result<Counts, Refusal> {
     let [outcome, others @ ..] = READERS.map(|reader| (reader.check_book)(book));
     assert_eq!([outcome; 2], others);
     outcome
 }
 
 /// What all readers say of a line.
-fn read(book: &Records, line: &str, lent: usize) -> Outcome {
+pub fn read(book: &Records, line: &str, lent: usize) -> Outcome {
     let [outcome, others @ ..] = READERS.map(|reader| read_by(&reader, book, line, lent));
     assert_eq!([outcome.clone(), outcome.clone()], others);
     outcome
@@ -37,18 +37,25 @@ fn read_by(reader: &Reader, book: &Records, line: &str, lent: usize) -> Outcome 
     let written = *outcome.as_ref().unwrap_or(&0) as usize;
     assert!(answer[written..].iter().all(|value| *value == UNTOUCHED));
     outcome?;
-    let n = answer[0] as usize;
-    let m = answer[1 + n] as usize;
-    assert_eq!(written, 2 + n + m);
-    Ok((answer[1..1 + n].to_vec(), answer[2 + n..written].to_vec()))
+    let n = answer[1] as usize;
+    let m = answer[2 + n] as usize;
+    assert_eq!(written, 3 + n + m);
+    let (entries, partners) = (&answer[2..2 + n], &answer[3 + n..written]);
+    reading(answer[0], entries, partners)
 }
 
+/// A line that is read.
+pub fn reading(target: u16, entries: &[u16], partners: &[u16]) -> Outcome {
+    Ok((target, entries.to_vec(), partners.to_vec()))
+}
+
+/// Expects a reading for the first target.
 fn expect(book: &Records, line: &str, entries: &[u16], partners: &[u16]) {
-    let outcome = Ok((entries.to_vec(), partners.to_vec()));
+    let outcome = reading(0, entries, partners);
     assert_eq!(read(book, line, 512), outcome, "{line}");
 }
 
-fn counts(types: u64, entries: u64, pairs: u64) -> Result<Counts, Refusal> {
+pub fn counts(types: u64, entries: u64, pairs: u64) -> Result<Counts, Refusal> {
     Ok(Counts {
         types,
         entries,
@@ -63,9 +70,9 @@ fn books_checked_alone() {
 }
 
 /// A line of the table that is read, its book, entries and partners.
-type Row = (Records, &'static str, &'static [u16], &'static [u16]);
+pub type Row = (Records, &'static str, &'static [u16], &'static [u16]);
 
-fn table_of_lines_that_are_read() -> [Row; 9] {
+pub fn table_of_lines_that_are_read() -> [Row; 9] {
     let book = first_book;
     let meet = "I will meet him";
     [
@@ -86,7 +93,7 @@ fn table_of_lines_that_are_read() -> [Row; 9] {
     ]
 }
 
-const TABLE_OF_LINES_WITHOUT_A_READING: [&str; 5] =
+pub const TABLE_OF_LINES_WITHOUT_A_READING: [&str; 5] =
     ["admit site", "go go", "fetch site", "", "   "];
 
 #[test]
@@ -113,9 +120,9 @@ fn other_examples_of_document_000_are_read() {
 #[test]
 fn values_lent() {
     let book = first_book();
-    assert_eq!(read(&book, "fetch bed4", 6), Err((16, 7)));
-    let outcome = Ok((vec![0, 2], vec![1, 3, 2]));
-    assert_eq!(read(&book, "fetch bed4", 7), outcome);
+    assert_eq!(read(&book, "fetch bed4", 7), Err((16, 8)));
+    let outcome = reading(0, &[0, 2], &[1, 3, 2]);
+    assert_eq!(read(&book, "fetch bed4", 8), outcome);
 }
 
 #[test]
@@ -164,7 +171,6 @@ fn smallest_number_within_a_record() {
     assert_eq!(with_record(record(2, &[0, 4])), 5);
     assert_eq!(with_record(record(4, &[4])), 5);
     assert_eq!(with_record(record(1, b"p")), 7);
-    assert_eq!(with_record(record(4, &[0])), 8);
 }
 
 #[test]
@@ -318,12 +324,12 @@ fn one_word(word: &[u8]) -> Records {
 /// What comes of a word in the line and a word in the book.
 fn meet(in_line: &[u8], in_book: &[u8]) -> Outcome {
     let line = std::str::from_utf8(in_line).unwrap();
-    read(&one_word(in_book), line, 4)
+    read(&one_word(in_book), line, 5)
 }
 
 #[test]
 fn no_two_bytes_are_alike_but_letters() {
-    let read = Ok((vec![0], vec![1]));
+    let read = reading(0, &[0], &[1]);
     for x in 33..=126 {
         for y in 33..=126 {
             let letters = LETTERS.contains(&&[x, y]) || LETTERS.contains(&&[y, x]);
@@ -337,7 +343,7 @@ fn no_two_bytes_are_alike_but_letters() {
 /// Pairs of letters, and of other bytes that differ in the same bit, at each place of words of each length.
 #[test]
 fn bytes_at_each_place_of_a_word() {
-    let read = Ok((vec![0], vec![1]));
+    let read = reading(0, &[0], &[1]);
     let others: [&[u8; 2]; 5] = [b"@`", b"[{", b"\\|", b"]}", b"^~"];
     for length in 1..=31 {
         for place in 0..length {
@@ -405,5 +411,5 @@ fn each_number_over_the_whole_line_in_capitals() {
     assert_eq!(read(&book, &(seventeen + " Y\t"), 512), Err((11, 35)));
     let long = "X".repeat(32);
     assert_eq!(read(&book, &format!("NOBODY {long}"), 512), Err((12, 7)));
-    assert_eq!(read(&book, "FETCH BED4", 6), Err((16, 7)));
+    assert_eq!(read(&book, "FETCH BED4", 7), Err((16, 8)));
 }

@@ -1,17 +1,18 @@
-//! The book check and the line reader of document 01 with requests 2.1 and 2.2
-//! of document 02, straight from their definitions: a second implementation, to
-//! be compared with the first.
+//! The book check and the line reader of document 01 with requests 2.1, 2.2 and
+//! 2.4 of document 02, straight from their definitions: a second
+//! implementation, to be compared with the first.
 
 use crate::types::{Counts, Refusal};
 
 const MOST_BOOK_BYTES: usize = 65_535;
 const MOST_BASIC_TYPES: usize = 64;
 const MOST_ENTRIES: usize = 1_024;
+const MOST_TARGETS: usize = 8;
 const MOST_WORD_BYTES: usize = 31;
 const MOST_ENTRY_TYPES: usize = 12;
 const MOST_WORDS: usize = 24;
 const MOST_LINE_TYPES: usize = 512;
-const MOST_ANSWER_VALUES: usize = 2 + MOST_WORDS + MOST_LINE_TYPES;
+const MOST_ANSWER_VALUES: usize = 3 + MOST_WORDS + MOST_LINE_TYPES;
 const MOST_BATCH_LINES: usize = 32;
 const MOST_BATCH_BYTES: usize = 65_535;
 const LINE_END: u8 = 10;
@@ -32,10 +33,13 @@ pub fn read_line(book: &[u8], line: &[u8], answer: &mut [u16]) -> Result<u64, Re
     let book = parse_book(book)?;
     let words = words_of(line)?;
     let places = look_up(&book, &words)?;
-    let choice = first_choice(&book, &places).ok_or((15, 0))?;
+    let places: Vec<Vec<&Entry>> = places.iter().map(|p| without_repeats(p)).collect();
+    let number = first_target(&book, &places).ok_or((15, 0))?;
+    let target = book.targets[number];
+    let choice = first_choice(&book.order, places, target);
     let string: Vec<SimpleType> = choice.iter().flat_map(|e| e.simple_types.clone()).collect();
-    let partners = first_linking(&book, &string).expect("the choice has a linking");
-    let values = answer_values(&choice, &partners);
+    let partners = first_linking(&book.order, &string, target).expect("the choice has a linking");
+    let values = answer_values(number, &choice, &partners);
     if answer.len() < values.len() {
         return Err((16, values.len() as u64));
     }
@@ -94,9 +98,9 @@ fn value_of(number: u64) -> u16 {
     number.try_into().expect("the number fits 16 bits")
 }
 
-/// n, the n entry numbers, m, the m partners counted from 1.
-fn answer_values(choice: &[&Entry], partners: &[usize]) -> Vec<u16> {
-    let mut values = vec![choice.len() as u16];
+/// The target's number, n, the n entry numbers, m, the m partners counted from 1.
+fn answer_values(target_number: usize, choice: &[&Entry], partners: &[usize]) -> Vec<u16> {
+    let mut values = vec![target_number as u16, choice.len() as u16];
     values.extend(choice.iter().map(|entry| entry.number as u16));
     values.push(partners.len() as u16);
     values.extend(partners.iter().map(|partner| *partner as u16 + 1));
@@ -126,7 +130,7 @@ struct Book<'a> {
     names: Vec<&'a [u8]>,
     entries: Vec<Entry<'a>>,
     order: Order,
-    target: usize,
+    targets: Vec<usize>,
 }
 
 /// What the records read so far hold.
@@ -135,7 +139,7 @@ struct Draft<'a> {
     names: Vec<&'a [u8]>,
     pairs: Vec<(usize, usize)>,
     entries: Vec<Entry<'a>>,
-    target: Option<usize>,
+    targets: Vec<usize>,
 }
 
 fn parse_book(book: &[u8]) -> Result<Book<'_>, Refusal> {
@@ -150,12 +154,14 @@ fn parse_book(book: &[u8]) -> Result<Book<'_>, Refusal> {
             .map_err(|number| (number, offset as u64))?;
         offset += length;
     }
-    let target = draft.target.ok_or((10, book.len() as u64))?;
+    if draft.targets.is_empty() {
+        return Err((10, book.len() as u64));
+    }
     Ok(Book {
         order: Order::closure(draft.names.len(), &draft.pairs),
         names: draft.names,
         entries: draft.entries,
-        target,
+        targets: draft.targets,
     })
 }
 
@@ -230,10 +236,10 @@ impl<'a> Draft<'a> {
         if !self.declared(target as usize) {
             return Err(5);
         }
-        if self.target.is_some() {
+        if self.targets.len() == MOST_TARGETS {
             return Err(8);
         }
-        self.target = Some(target as usize);
+        self.targets.push(target as usize);
         Ok(())
     }
 
@@ -304,12 +310,11 @@ impl Order {
             self.at_or_below[later.basic][earlier.basic]
         }
     }
-}
 
-impl Book<'_> {
-    /// Whether a simple type that stands under no link may be the unlinked one.
-    fn may_be_unlinked(&self, simple: SimpleType) -> bool {
-        simple.exponent == 0 && self.order.at_or_below[simple.basic][self.target]
+    /// Whether a simple type that stands under no link may be the unlinked one
+    /// of a reading for the target.
+    fn may_be_unlinked(&self, simple: SimpleType, target: usize) -> bool {
+        simple.exponent == 0 && self.at_or_below[simple.basic][target]
     }
 }
 
@@ -369,26 +374,36 @@ fn simple_types_of(places: &[Vec<&Entry>]) -> usize {
     entries.map(|entry| entry.simple_types.len()).sum()
 }
 
+// The target
+
+/// The number of the first target for which some choice has a linking.
+fn first_target(book: &Book, places: &[Vec<&Entry>]) -> Option<usize> {
+    let left = could_be_left(&book.order, places);
+    let has_reading = |target: &usize| some_unlinked(&book.order, &left, *target);
+    book.targets.iter().position(has_reading)
+}
+
 // The choice of entries
 
-/// The choice that has a linking and whose entry numbers are smallest at the
-/// first difference: place by place the first entry that can be completed.
-fn first_choice<'b>(book: &Book, places: &[Vec<&'b Entry<'b>>]) -> Option<Vec<&'b Entry<'b>>> {
-    let mut open: Vec<Vec<&Entry>> = places.iter().map(|p| without_repeats(p)).collect();
-    if !completable(book, &open) {
-        return None;
-    }
+/// The choice that has a linking for the target and whose entry numbers are
+/// smallest at the first difference, where there is one: place by place the
+/// first entry that can be completed.
+fn first_choice<'b>(
+    order: &Order,
+    mut open: Vec<Vec<&'b Entry<'b>>>,
+    target: usize,
+) -> Vec<&'b Entry<'b>> {
     for place in 0..open.len() {
         let entries = open[place].clone();
         // Some entry can be completed: the last one, where no other can.
-        let (last, others) = entries.split_last()?;
+        let (last, others) = entries.split_last().expect("each word has an entry");
         let first = others.iter().find(|entry| {
             open[place] = vec![**entry];
-            completable(book, &open)
+            completable(order, &open, target)
         });
         open[place] = vec![*first.unwrap_or(last)];
     }
-    Some(open.concat())
+    open.concat()
 }
 
 /// The entries without those whose type an earlier one has. Exchanging such an
@@ -484,18 +499,28 @@ fn add(row: &mut [bool], more: &[bool]) {
     }
 }
 
-/// Whether some choice of the given entries has a linking: a node that may be
-/// unlinked, with all before it and all after it linked inside.
-fn completable(book: &Book, places: &[Vec<&Entry>]) -> bool {
+/// Whether some choice of the given entries has a linking for the target.
+fn completable(order: &Order, places: &[Vec<&Entry>], target: usize) -> bool {
+    some_unlinked(order, &could_be_left(order, places), target)
+}
+
+/// Whether some of these simple types may be the unlinked one for the target.
+fn some_unlinked(order: &Order, left: &[SimpleType], target: usize) -> bool {
+    let fits = |simple: &SimpleType| order.may_be_unlinked(*simple, target);
+    left.iter().any(fits)
+}
+
+/// The simple types that some choice of the given entries leaves when all
+/// before each and all after it is linked inside.
+fn could_be_left(order: &Order, places: &[Vec<&Entry>]) -> Vec<SimpleType> {
     let lattice = Lattice::new(places);
-    let bridged = bridged(&book.order, &lattice);
+    let bridged = bridged(order, &lattice);
     let end = lattice.nodes.len() - 1;
-    (0..end).any(|i| match lattice.nodes[i] {
-        Node::Simple(simple) => {
-            book.may_be_unlinked(simple) && bridged.row(0)[i] && bridged.row(i)[end]
-        }
-        _ => false,
-    })
+    let left = |i: usize| match lattice.nodes[i] {
+        Node::Simple(simple) if bridged.row(0)[i] && bridged.row(i)[end] => Some(simple),
+        _ => None,
+    };
+    (0..end).filter_map(left).collect()
 }
 
 /// In row i and column j: on some path from node i to node j all that stands
@@ -538,12 +563,13 @@ fn nodes_contract(order: &Order, earlier: Node, later: Node) -> bool {
 
 // The linking of a string
 
-/// The linking whose partner list is smallest at the first difference, with
-/// positions counted from 0; the unlinked position has its own number.
-fn first_linking(book: &Book, string: &[SimpleType]) -> Option<Vec<usize>> {
+/// The linking for the target whose partner list is smallest at the first
+/// difference, with positions counted from 0; the unlinked position has its own
+/// number.
+fn first_linking(order: &Order, string: &[SimpleType], target: usize) -> Option<Vec<usize>> {
     let m = string.len();
-    let linked = linked_stretches(&book.order, string);
-    let unlinked = |i: usize| book.may_be_unlinked(string[i]);
+    let linked = linked_stretches(order, string);
+    let unlinked = |i: usize| order.may_be_unlinked(string[i], target);
     // Positions from i on hold the unlinked one, and the others can be linked.
     let finishes = |i: usize| (i..m).any(|u| linked[i][u] && unlinked(u) && linked[u + 1][m]);
 
@@ -565,9 +591,8 @@ fn first_linking(book: &Book, string: &[SimpleType]) -> Option<Vec<usize>> {
             true => finishes(p + 1),
             false => linked[p + 1][stop],
         };
-        let allowed = |p: &usize| {
-            book.order.contracts(string[i], string[*p]) && linked[i + 1][*p] && rest(*p)
-        };
+        let allowed =
+            |p: &usize| order.contracts(string[i], string[*p]) && linked[i + 1][*p] && rest(*p);
         let partner = (i + 1..stop).find(allowed)?;
         partners[i] = Some(partner);
         partners[partner] = Some(i);

@@ -19,6 +19,8 @@ mod compare;
 mod document_batches;
 #[cfg(test)]
 mod document_cases;
+#[cfg(test)]
+mod document_targets;
 mod independent;
 mod progress;
 mod random;

@@ -1,6 +1,6 @@
 //! Books and lines to time: a typical book with its lines and a batch of such, lines at the bounds where much contracts with much,
-//! books full of entries of one word or of words alike, and the dearest line that a search has found. A sample's name ends with whether
-//! its line reads.
+//! books full of entries of one word or of words alike, and the dearest line that a search has found. Lines have one target, some of them
+//! again eight. A sample's name ends with whether its line reads.
 mod dearest;
 mod full;
 mod hard;
@@ -119,6 +119,28 @@ mod tests {
             }
             assert!((504..=512).contains(&simples), "{}: {simples}", sample.name);
             assert_eq!(sample.line.split(|&byte| byte == b' ').count(), 24);
+        }
+    }
+
+    /// The answer to the sample of a name.
+    fn answer_to(name: &str) -> [u16; 512] {
+        let sample = hard().into_iter().find(|sample| sample.name == name);
+        let sample = sample.expect("a sample of that name");
+        let mut answer = [0; 512];
+        let result = (TWIN.read_line)(&sample.book, &sample.line, &mut answer);
+        assert!(result.is_ok(), "{name}: {result:?}");
+        answer
+    }
+
+    #[test]
+    fn eight_targets_change_the_first_value_alone() {
+        for kind in ["alternating 0 1", "entries of 12, 1 and 0"] {
+            let one = answer_to(&format!("{kind}, reads"));
+            let last = answer_to(&format!("{kind}, last of eight targets, reads"));
+            let equal = answer_to(&format!("{kind}, eight equal targets, reads"));
+            assert_eq!((one[0], last[0], equal[0]), (0, 7, 0));
+            assert_eq!(last[1..], one[1..]);
+            assert_eq!(equal, one);
         }
     }
 

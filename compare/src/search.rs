@@ -16,7 +16,7 @@ mod weights;
 
 use crate::random::Random;
 use crate::readers::LIBRARY;
-pub use candidate::Candidate;
+pub use candidate::{Candidate, PAIR};
 pub use text::read as read_text;
 
 const USAGE: &str =
@@ -150,7 +150,7 @@ mod tests {
             let outcome = (TWIN.read_line)(&book, &line, &mut [0; 512]);
             let places = model::count(&candidate).0[Step::Place as usize] as u64;
             match outcome {
-                Ok(values) => assert_eq!(places + 1 + candidate.line.len() as u64, values),
+                Ok(values) => assert_eq!(places + 2 + candidate.line.len() as u64, values),
                 Err(refusal) => assert_eq!((places, refusal), (0, (15, 0))),
             }
         }

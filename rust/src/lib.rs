@@ -1,8 +1,8 @@
 //! The proved reader of order lines, behind safe functions.
 //!
-//! A *book* gives words their types, and a *line* is read against it: the first reading comes out, or a refusal. Any bytes may stand in
-//! both, of any length. A *batch* is several lines in one buffer, read in one call. Nothing is kept between calls, so several threads may
-//! call at once.
+//! A *book* gives words their types and has up to eight targets, and a *line* is read against it: the first reading comes out, for the
+//! first target that has one, or a refusal. Any bytes may stand in both, of any length. A *batch* is several lines in one buffer, read in
+//! one call. Nothing is kept between calls, so several threads may call at once.
 //!
 //! ```
 //! // One basic type, `o`, the word `go` of that type, and `o` as the target.
@@ -10,8 +10,8 @@
 //! let mut answer = [0; vurzhelik::MAX_VALUES];
 //!
 //! let values = vurzhelik::read_line(book, b"go", &mut answer)?;
-//! // One word, of entry 0, and one simple type, which is its own partner.
-//! assert_eq!(answer[..values], [1, 0, 1, 1]);
+//! // For target 0, one word, of entry 0, and one simple type, which is its own partner.
+//! assert_eq!(answer[..values], [0, 1, 0, 1, 1]);
 //!
 //! let refusal = vurzhelik::read_line(book, b"go home", &mut answer).unwrap_err();
 //! assert_eq!(refusal.number, vurzhelik::refusals::UNKNOWN_WORD);
@@ -61,8 +61,12 @@ mod c {
     }
 }
 
-/// How many values hold any answer: n and m, an entry for each of 24 words, a partner for each of 12 simple types a word.
-pub const MAX_VALUES: usize = 2 + 24 + 24 * 12;
+/// How many targets a book has at most.
+pub const MAX_TARGETS: usize = 8;
+
+/// How many values hold any answer: the target's number, n and m, an entry for each of 24 words, a partner for each of 12 simple types a
+/// word.
+pub const MAX_VALUES: usize = 3 + 24 + 24 * 12;
 
 /// How many lines a batch has at most.
 pub const MAX_LINES: usize = 32;
@@ -139,9 +143,10 @@ pub fn check_book(book: &[u8]) -> Result<Counts, Refusal> {
     }
 }
 
-/// Reads a line against a book. The answer then begins with the first reading: n, the n entry numbers, m, the m partners. What is returned
-/// is how many values that is; those behind them are as they were. A refusal leaves the whole answer as it was. The letters A to Z of a
-/// word count as a to z, in the line and in the book.
+/// Reads a line against a book. The answer then begins with the first reading: the number of the target that it is for, counted from 0 as
+/// the book's targets stand, n, the n entry numbers, m, the m partners. The first target that has a reading is taken. What is returned is
+/// how many values that is; those behind them are as they were. A refusal leaves the whole answer as it was. The letters A to Z of a word
+/// count as a to z, in the line and in the book.
 pub fn read_line(book: &[u8], line: &[u8], answer: &mut [u16]) -> Result<usize, Refusal> {
     let mut value = 0;
     // Safety: as in `check_book`.
@@ -172,7 +177,7 @@ pub fn read_line(book: &[u8], line: &[u8], answer: &mut [u16]) -> Result<usize, 
 /// let mut answers = [0; vurzhelik::MAX_BATCH_VALUES];
 /// let lines = vurzhelik::read_batch(book, b"go\ngo home\n", &mut answers)?;
 /// assert_eq!(lines, 2);
-/// assert_eq!(answers[..9], [5, 0, 1, 0, 1, 1, 2, 13, 3]);
+/// assert_eq!(answers[..10], [6, 0, 0, 1, 0, 1, 1, 2, 13, 3]);
 /// # Ok::<(), vurzhelik::Refusal>(())
 /// ```
 pub fn read_batch(book: &[u8], lines: &[u8], answers: &mut [u16]) -> Result<usize, Refusal> {
@@ -240,19 +245,41 @@ mod tests {
     #[test]
     fn line_is_read() {
         let mut answer = [7; MAX_VALUES];
-        assert_eq!(read_line(BOOK, b"fetch bed4 ward7", &mut answer), Ok(10));
-        assert_eq!(answer[..10], [3, 1, 2, 3, 5, 1, 5, 4, 3, 2]);
-        assert!(answer[10..].iter().all(|value| *value == 7));
+        assert_eq!(read_line(BOOK, b"fetch bed4 ward7", &mut answer), Ok(11));
+        assert_eq!(answer[..11], [0, 3, 1, 2, 3, 5, 1, 5, 4, 3, 2]);
+        assert!(answer[11..].iter().all(|value| *value == 7));
+    }
+
+    /// The book with so many targets more, of type 1.
+    fn with_targets(more: usize) -> Vec<u8> {
+        [BOOK, &b"\x01\0\x04\0\x01".repeat(more)].concat()
+    }
+
+    #[test]
+    fn line_is_read_for_the_first_target_that_has_a_reading() {
+        let book = with_targets(MAX_TARGETS - 1);
+        let mut answer = [7; 6];
+        assert_eq!(read_line(&book, b"go", &mut answer), Ok(5));
+        assert_eq!(answer, [0, 1, 7, 1, 1, 7]);
+        assert_eq!(read_line(&book, b"bed4", &mut answer), Ok(5));
+        assert_eq!(answer, [1, 1, 2, 1, 1, 7]);
+    }
+
+    #[test]
+    fn ninth_target_is_refused() {
+        let offset = with_targets(MAX_TARGETS - 1).len() as u64;
+        let ninth = refused(refusals::TOO_MANY_TARGETS, offset);
+        assert_eq!(check_book(&with_targets(MAX_TARGETS)), ninth);
     }
 
     #[test]
     fn refused_line_leaves_the_answer() {
-        let mut answer = [7; 6];
-        let short = refused(refusals::BUFFER_TOO_SHORT, 7);
+        let mut answer = [7; 7];
+        let short = refused(refusals::BUFFER_TOO_SHORT, 8);
         assert_eq!(read_line(BOOK, b"fetch bed4", &mut answer), short);
         let none = refused(refusals::NO_READING, 0);
         assert_eq!(read_line(BOOK, b"admit site", &mut answer), none);
-        assert_eq!(answer, [7; 6]);
+        assert_eq!(answer, [7; 7]);
     }
 
     #[test]
@@ -262,18 +289,18 @@ mod tests {
         assert_eq!(read_batch(BOOK, lines, &mut answers), Ok(4));
         let parts: Vec<_> = parts(&answers, 4).collect();
         let expected: [Result<&[u16], Refusal>; 4] = [
-            Ok(&[2, 0, 2, 3, 1, 3, 2]),
+            Ok(&[0, 2, 0, 2, 3, 1, 3, 2]),
             refused(refusals::NO_READING, 0),
             refused(refusals::UNKNOWN_WORD, 3),
-            Ok(&[1, 7, 1, 1]),
+            Ok(&[0, 1, 7, 1, 1]),
         ];
         assert_eq!(parts, expected);
-        assert!(answers[21..].iter().all(|value| *value == 7));
+        assert!(answers[23..].iter().all(|value| *value == 7));
     }
 
     #[test]
     fn refused_batch_leaves_the_answers() {
-        let mut answers = [7; 8];
+        let mut answers = [7; 9];
         let bad = refused(refusals::BAD_BATCH, 0);
         assert_eq!(read_batch(BOOK, b"go\ngo", &mut answers), bad);
         let many = [b'\n'; MAX_LINES + 1];
@@ -282,9 +309,9 @@ mod tests {
         assert_eq!(read_batch(BOOK, &long, &mut answers), bad);
         let no_target = refused(refusals::NO_TARGET, 0);
         assert_eq!(read_batch(&[], b"go\n", &mut answers), no_target);
-        let short = refused(refusals::ANSWERS_TOO_LONG, 9);
+        let short = refused(refusals::ANSWERS_TOO_LONG, 10);
         assert_eq!(read_batch(BOOK, b"fetch bed4\n", &mut answers), short);
-        assert_eq!(answers, [7; 8]);
+        assert_eq!(answers, [7; 9]);
     }
 
     #[test]
@@ -353,6 +380,7 @@ mod tests {
             assert_eq!(in_header(name), u64::from(number), "{name}");
         }
         for (name, number) in [
+            ("MAX_TARGETS", MAX_TARGETS),
             ("MAX_VALUES", MAX_VALUES),
             ("MAX_LINES", MAX_LINES),
             ("MAX_BATCH", MAX_BATCH),

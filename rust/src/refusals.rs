@@ -21,14 +21,14 @@ refusals! {
     UNDECLARED_TYPE = 5, "type number not declared by an earlier record", "the record's offset";
     EXPONENT_OUTSIDE = 6, "exponent outside -8 to 8", "the record's offset";
     NAME_USED = 7, "type name used before", "the record's offset";
-    SECOND_TARGET = 8, "second target", "the record's offset";
+    TOO_MANY_TARGETS = 8, "ninth target", "the record's offset";
     TOO_MANY_RECORDS = 9, "65th basic type or 1,025th entry", "the record's offset";
     NO_TARGET = 10, "book ends without a target", "the book's length";
     BAD_LINE_BYTE = 11, "line byte outside 32 to 126", "the byte's offset";
     BAD_WORD = 12, "word over 31 bytes, or a 25th word", "the word's offset";
     UNKNOWN_WORD = 13, "word without an entry", "the word's offset";
     TOO_MANY_SIMPLES = 14, "over 512 simple types in all entries of all words", "0";
-    NO_READING = 15, "no reading", "0";
+    NO_READING = 15, "no reading for any target", "0";
     BUFFER_TOO_SHORT = 16, "answer buffer too short", "the number of values needed";
     BAD_BATCH = 17, "over 32 lines, over 65,535 bytes, or a last line not closed", "0";
     ANSWERS_TOO_LONG = 18, "the answers of a batch do not fit", "the number of values needed";

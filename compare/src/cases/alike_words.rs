@@ -111,7 +111,7 @@ fn add_entries(random: &mut Random, small: &mut Small, vocabulary: &[Vec<u8>]) {
     let count = *random.pick(&[room, fewer]);
     let one = [random.pick(vocabulary).clone()];
     let words = *random.pick(&[vocabulary, &one]);
-    let to_a_type = *random.pick(&[200, 200, 200, 200, 200, 200, 200, 4]);
+    let to_a_type = *random.pick(&[200, 200, 200, 4]);
     let more: Vec<_> = (0..count)
         .map(|_| {
             let word = random.pick(words).clone();

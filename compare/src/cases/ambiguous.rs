@@ -1,7 +1,7 @@
 //! Small books in which words have several entries, with lines that often have
 //! a reading and often several.
 
-use super::{joined, lend, Case};
+use super::{joined, lend, targets, Case};
 use crate::books::Records;
 use crate::random::Random;
 
@@ -28,11 +28,11 @@ const WORDS: [&str; 16] = [
 ];
 const NAMES: [&str; 7] = ["s", "n", "np", "x1", "x10", "o", "q"];
 
-/// Basic types with their order pairs and the target.
+/// Basic types with their order pairs and the targets.
 pub struct Types {
     pub count: usize,
     pub pairs: Vec<(u8, u8)>,
-    pub target: u8,
+    pub targets: Vec<u8>,
 }
 
 impl Types {
@@ -41,7 +41,7 @@ impl Types {
         let mut types = Types {
             count,
             pairs: vec![],
-            target: random.below(count) as u8,
+            targets: targets::any(random, count),
         };
         for _ in 0..random.below(count + 1) {
             let pair = (types.any(random), types.any(random));
@@ -52,6 +52,13 @@ impl Types {
 
     pub fn any(&self, random: &mut Random) -> u8 {
         random.below(self.count) as u8
+    }
+
+    /// One of the targets, often the last.
+    pub fn any_target(&self, random: &mut Random) -> u8 {
+        let any = random.below(self.targets.len());
+        let last = self.targets.len() - 1;
+        self.targets[*random.pick(&[any, any, last])]
     }
 
     /// A type at or above the given one, by a few steps along the pairs.
@@ -65,9 +72,9 @@ impl Types {
         basic
     }
 
-    /// A type at or below the target, by a few steps along the pairs.
+    /// A type at or below some target, by a few steps along the pairs.
     fn below_target(&self, random: &mut Random) -> u8 {
-        let mut basic = self.target;
+        let mut basic = self.any_target(random);
         for _ in 0..random.below(3) {
             let down: Vec<&(u8, u8)> = self.pairs.iter().filter(|p| p.1 == basic).collect();
             if !down.is_empty() {
@@ -89,7 +96,7 @@ impl Types {
     }
 
     /// A string that has a linking: `links` pairs put in one after another,
-    /// each between any two neighbours, around a type below the target.
+    /// each between any two neighbours, around a type below some target.
     /// Exponents are small in most strings.
     pub fn readable(&self, random: &mut Random, links: usize) -> TypeString {
         let far = match random.chance(1, 8) {
@@ -113,7 +120,7 @@ impl Types {
 
     /// An entry's type of some shape that is usual in grammars, or any type.
     pub fn shaped(&self, random: &mut Random) -> TypeString {
-        let (t, x, y) = (self.target, self.any(random), self.any(random));
+        let (t, x, y) = (self.any_target(random), self.any(random), self.any(random));
         match random.below(11) {
             0 => vec![],
             1 => vec![(x, 0)],
@@ -227,14 +234,16 @@ impl Small {
         }
     }
 
-    /// The book: basic types first, the other records in any order, and
-    /// sometimes one more basic type among them.
+    /// The book: basic types first, the other records in any order, but targets
+    /// in their own, and sometimes one more basic type among them.
     pub fn records(&self, random: &mut Random) -> Records {
         let mut others = Records::default();
         for (lower, upper) in &self.types.pairs {
             others.pair(*lower, *upper);
         }
-        others.target(self.types.target);
+        for target in &self.types.targets {
+            others.target(*target);
+        }
         if random.chance(1, 4) {
             others.basic_type(NAMES[6].as_bytes());
         }
@@ -251,6 +260,10 @@ impl Small {
             let places = records.list.len() + 1 - basic_types;
             let at = basic_types + random.below(places);
             records.list.insert(at, record);
+        }
+        let targets = records.list.iter_mut().filter(|record| record[2] == 4);
+        for (record, target) in targets.zip(&self.types.targets) {
+            record[4] = *target;
         }
         records
     }

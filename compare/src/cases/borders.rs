@@ -1,7 +1,7 @@
 //! Cases on both sides of each bound of document 01.
 
 use super::ambiguous::{cut, Small, TypeString, Types};
-use super::{joined, lend, Case, AMPLE};
+use super::{joined, lend, targets, Case, AMPLE};
 use crate::books::{first_book, Records};
 use crate::random::Random;
 
@@ -19,8 +19,9 @@ pub fn small_borders(random: &mut Random) -> Case {
         exponents,
         far_exponents_meet,
         empties,
+        targets_of_book,
     ];
-    if random.chance(1, 9) {
+    if random.chance(1, 10) {
         return values_lent(random);
     }
     let (book, line) = random.pick(&makers)(random);
@@ -48,6 +49,13 @@ fn about(random: &mut Random, bound: usize) -> usize {
     bound + random.below(2)
 }
 
+/// The first book, often with more targets.
+fn try_book(random: &mut Random) -> Records {
+    let mut records = first_book();
+    targets::add(random, &mut records);
+    records
+}
+
 /// 64 or 65 basic types with many pairs, chains and cycles among them.
 fn basic_types(random: &mut Random) -> Made {
     let count = about(random, 64);
@@ -67,7 +75,7 @@ fn basic_types(random: &mut Random) -> Made {
     records.entry(b"a", &[(63, 0), (x, -1)]);
     records.entry(b"b", &[(y, 1), (63, 0)]);
     records.entry(b"b", &[(y, 0)]);
-    records.target(random.below(64) as u8);
+    add_targets(&mut records, &targets::any(random, 64));
     (
         records.bytes(),
         random.pick(&["a", "a b", "a a b"]).as_bytes().to_vec(),
@@ -76,7 +84,7 @@ fn basic_types(random: &mut Random) -> Made {
 
 /// A name of 15 or 16 bytes.
 fn name_bytes(random: &mut Random) -> Made {
-    let mut records = first_book();
+    let mut records = try_book(random);
     let at = random.below(records.list.len() + 1);
     let mut more = Records::default();
     more.basic_type(&vec![b'n'; about(random, 15)]);
@@ -86,7 +94,7 @@ fn name_bytes(random: &mut Random) -> Made {
 
 /// Words of 31 or 32 bytes in book and line, and the two for each other.
 fn word_bytes(random: &mut Random) -> Made {
-    let mut records = first_book();
+    let mut records = try_book(random);
     let word = vec![b'w'; about(random, 31)];
     if random.chance(2, 3) {
         records.entry(&word[..31], &[(0, 0)]);
@@ -99,7 +107,7 @@ fn word_bytes(random: &mut Random) -> Made {
 
 /// An entry of 12 or 13 simple types that is read alone.
 fn entry_length(random: &mut Random) -> Made {
-    let mut records = first_book();
+    let mut records = try_book(random);
     let mut simple_types = vec![(0, 0)];
     while simple_types.len() < 11 {
         simple_types.extend([(1, -1), (1, 0)]);
@@ -120,13 +128,13 @@ fn words_of_line(random: &mut Random) -> Made {
     words.push(b"go".to_vec());
     words.resize(count, b"urgently".to_vec());
     let line = joined(random, &words);
-    (first_book().bytes(), line)
+    (try_book(random).bytes(), line)
 }
 
 /// Exponents about -8 and 8, with their neighbours.
 fn exponents(random: &mut Random) -> Made {
     let exponent = *random.pick(&[-9, -8, 8, 9, -128, 127]);
-    let mut records = first_book();
+    let mut records = try_book(random);
     records.entry(b"x", &[(0, 0), (3, exponent)]);
     records.entry(b"y", &[(2, -7)]);
     records.entry(b"y", &[(3, 7)]);
@@ -138,7 +146,7 @@ fn exponents(random: &mut Random) -> Made {
 fn far_exponents_meet(random: &mut Random) -> Made {
     let z = *random.pick(&[-8, -7, 6, 7]);
     let (a, b) = *random.pick(&[(2, 3), (3, 2), (2, 2)]);
-    let mut records = first_book();
+    let mut records = try_book(random);
     records.entry(b"x", &[(0, 0), (a, z)]);
     records.entry(b"y", &[(b, z + 1)]);
     let line = *random.pick(&["x y", "x y y", "y x", "please x y"]);
@@ -149,11 +157,11 @@ fn far_exponents_meet(random: &mut Random) -> Made {
 fn empties(random: &mut Random) -> Made {
     let mut records = match random.below(3) {
         0 => Records::default(),
-        1 => first_book(),
+        1 => try_book(random),
         _ => {
             let mut records = Records::default();
             records.basic_type(b"o");
-            records.target(0);
+            add_targets(&mut records, &targets::any(random, 1));
             records
         }
     };
@@ -165,9 +173,18 @@ fn empties(random: &mut Random) -> Made {
     (records.bytes(), line.as_bytes().to_vec())
 }
 
+/// Eight or nine targets, seldom ten, and a line that is read for one of them or for none.
+fn targets_of_book(random: &mut Random) -> Made {
+    let count = about(random, 8) + random.below(8) / 7;
+    let mut records = first_book();
+    targets::add_some(random, &mut records, count - 1);
+    let line = *random.pick(&["go", "bed4", "ward7", "site", "fetch bed4", "go go"]);
+    (records.bytes(), line.as_bytes().to_vec())
+}
+
 /// A line that is read, with each number of values lent about its answer's.
 fn values_lent(random: &mut Random) -> Case {
-    let (line, takes) = *random.pick(&[("go", 4), ("fetch bed4", 7), ("go urgently", 7)]);
+    let (line, takes) = *random.pick(&[("go", 5), ("fetch bed4", 8), ("go urgently", 8)]);
     let lent = *random.pick(&[0, 1, 2, takes - 1, takes, takes + 1, AMPLE, 70_000]);
     Case {
         kind: "small border",
@@ -182,7 +199,7 @@ fn numbered(number: usize) -> Vec<u8> {
     format!("w{number}").into_bytes()
 }
 
-/// The records of types; entries and target are still to come.
+/// The records of types; entries and targets are still to come.
 fn begun(types: &Types) -> Records {
     let mut records = Records::default();
     for number in 0..types.count {
@@ -192,6 +209,13 @@ fn begun(types: &Types) -> Records {
         records.pair(*lower, *upper);
     }
     records
+}
+
+/// Adds these targets at the end.
+fn add_targets(records: &mut Records, targets: &[u8]) {
+    for target in targets {
+        records.target(*target);
+    }
 }
 
 /// 1,024 entries and perhaps one more, which may have other faults too.
@@ -206,7 +230,7 @@ fn entries_of_book(random: &mut Random) -> Made {
         let more: [&[(u8, i8)]; 4] = [&[(0, 8)], &[], &[(0, 9)], &[(200, 9)]];
         records.entry(b"w0", more[random.below(4)]);
     }
-    records.target(types.target);
+    add_targets(&mut records, &types.targets);
     let line: Vec<Vec<u8>> = (0..random.below(20))
         .map(|_| numbered(random.below(words)))
         .collect();
@@ -225,7 +249,7 @@ fn many_empty_entries(random: &mut Random) -> Made {
             false => records.entry(b"w", &[]),
         }
     }
-    records.target(types.target);
+    add_targets(&mut records, &types.targets);
     let line = vec![b"w".to_vec(); 1 + random.below(24)];
     let line = joined(random, &line);
     (records.bytes(), line)
@@ -251,9 +275,13 @@ fn bytes_of_book(random: &mut Random) -> Made {
 }
 
 /// A readable line of 24 words whose entries have exactly 512 or 513 simple
-/// types.
+/// types, often with eight targets.
 fn simple_types_of_line(random: &mut Random) -> Made {
-    let types = Types::new(random, 6);
+    let mut types = Types::new(random, 6);
+    if random.chance(1, 2) {
+        let target = types.any(random);
+        types.targets.resize(8, target);
+    }
     let links = 12 + random.below(60);
     let string = types.readable(random, links);
     let mut entries: Vec<(Vec<u8>, TypeString)> = vec![];
@@ -276,7 +304,7 @@ fn simple_types_of_line(random: &mut Random) -> Made {
     for (word, simple_types) in &entries {
         records.entry(word, simple_types);
     }
-    records.target(types.target);
+    add_targets(&mut records, &types.targets);
     let line: Vec<Vec<u8>> = (0..24).map(numbered).collect();
     let line = joined(random, &line);
     (records.bytes(), line)
@@ -313,7 +341,7 @@ fn one_dense_type(random: &mut Random) -> Made {
     for number in 0..words {
         records.entry(&numbered(number), &[]);
     }
-    records.target(random.below(64) as u8);
+    add_targets(&mut records, &targets::any(random, 64));
     let line: Vec<Vec<u8>> = (0..words).map(numbered).collect();
     let line = joined(random, &line);
     (records.bytes(), line)
@@ -331,5 +359,5 @@ fn long_line(random: &mut Random) -> Made {
         _ => "w".repeat(32),
     };
     line.extend(end.as_bytes());
-    (first_book().bytes(), line)
+    (try_book(random).bytes(), line)
 }

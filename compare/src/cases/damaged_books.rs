@@ -90,13 +90,21 @@ fn faulty_entry(random: &mut Random) -> Vec<u8> {
     record(3, &made[4..])
 }
 
+/// A target, often with a fault in its length or its type number.
+fn faulty_target(random: &mut Random) -> Vec<u8> {
+    match random.below(4) {
+        0 => record(4, &bytes(random, 3)),
+        _ => record(4, &[number(random)]),
+    }
+}
+
 /// A record that is often not in order.
 fn faulty_record(random: &mut Random) -> Vec<u8> {
     match random.below(10) {
         0..=2 => faulty_entry(random),
         3 | 4 => record(1, &name(random)),
         5 => record(2, &[number(random), number(random)]),
-        6 => record(4, &[number(random)]),
+        6 => faulty_target(random),
         7 => {
             let kind = random.below(5) as u16;
             record(kind, &bytes(random, 5))
@@ -154,6 +162,17 @@ fn add_many_types(random: &mut Random, records: &mut Records) {
     }
 }
 
+/// As many targets as a book may have, and perhaps more records of them.
+fn add_many_targets(random: &mut Random, records: &mut Records) {
+    let present = records.list.iter().filter(|record| record[2] == 4).count();
+    for _ in present..8 {
+        records.target(0);
+    }
+    for _ in 0..random.below(4) {
+        records.list.push(faulty_target(random));
+    }
+}
+
 pub fn damaged_books(random: &mut Random) -> Case {
     let (mut records, mut line) = good(random);
     if random.chance(1, 4) {
@@ -161,6 +180,9 @@ pub fn damaged_books(random: &mut Random) -> Case {
     }
     if random.chance(1, 30) {
         add_many_types(random, &mut records);
+    }
+    if random.chance(1, 12) {
+        add_many_targets(random, &mut records);
     }
     for _ in 0..random.below(4) {
         damage_records(random, &mut records);

@@ -11,7 +11,7 @@ use crate::random::Random;
 pub fn heavy(random: &mut Random) -> (Records, Vec<Vec<u8>>) {
     let mut small = Small::new(random);
     let word = b"heavy".to_vec();
-    let target = small.types.target;
+    let target = small.types.any_target(random);
     let length = 8 + random.below(5);
     let entries = 3 + random.below(4);
     for _ in 0..entries {

@@ -1,6 +1,6 @@
-//! The books of documents 01 and 000 with lines over their words.
+//! The books of documents 01 and 000, often with more targets, and lines over their words.
 
-use super::{joined, lend, Case};
+use super::{joined, lend, targets, Case};
 use crate::books::{example_4_3, example_4_4, example_4_5, first_book, second_book, Records};
 use crate::random::Random;
 
@@ -55,9 +55,9 @@ fn altered(random: &mut Random, mut words: Vec<&'static str>) -> Vec<&'static st
     words
 }
 
-/// A book of the papers and words for a line.
+/// A book of the papers, often with more targets, and words for a line.
 pub fn book_and_words(random: &mut Random) -> (Records, Vec<Vec<u8>>) {
-    let (book, words) = match random.below(10) {
+    let (mut book, words) = match random.below(10) {
         0..=2 => (first_book(), order_words(random, false)),
         3..=5 => (second_book(), order_words(random, true)),
         6 => (second_book(), any_words(random, &TRY_WORDS)),
@@ -68,6 +68,7 @@ pub fn book_and_words(random: &mut Random) -> (Records, Vec<Vec<u8>>) {
             sentence(random, "Kim mailed the letter to Sandy"),
         ),
     };
+    targets::add(random, &mut book);
     let words = altered(random, words);
     let words = words.iter().map(|word| word.as_bytes().to_vec()).collect();
     (book, words)

@@ -1,5 +1,5 @@
 //! Batches as they are compared: what a reader returns for the batch and leaves in the buffer, and what it makes of each line alone.
-use super::outcomes::{Outcomes, Times};
+use super::outcomes::{Outcomes, Targets, Times};
 use super::{hex, prefilled, Compared, Tally};
 use crate::cases::{Batch, AMPLE};
 use crate::readers::Reader;
@@ -14,11 +14,12 @@ pub struct Outcome {
     alone: Vec<Result<Vec<u16>, Refusal>>,
 }
 
-/// Outcomes of batches, and of the lines of those that are answered.
+/// Outcomes of batches, and of the lines of those that are answered, with the targets that these are read for.
 #[derive(Default)]
 pub struct BatchTally {
     pub all: Outcomes,
     pub lines: Outcomes,
+    pub targets: Targets,
     times: Times,
 }
 
@@ -66,6 +67,9 @@ impl Compared for Batch {
         if ours.read.is_ok() {
             for line in &ours.alone {
                 tally.lines.count(line);
+                if let Ok(answer) = line {
+                    tally.targets.count(answer);
+                }
             }
         }
         tally.times.count(time);
@@ -113,6 +117,7 @@ impl Tally for BatchTally {
     fn add(&mut self, other: &BatchTally) {
         self.all.add(&other.all);
         self.lines.add(&other.lines);
+        self.targets.add(&other.targets);
         self.times.add(&other.times);
     }
 
@@ -125,9 +130,10 @@ impl Tally for BatchTally {
             all.refusals()
         );
         println!(
-            "    in those answered {} lines, {} read, {}",
+            "    in those answered {} lines, {} read, {}, {}",
             lines.all,
             lines.answered,
+            self.targets.numbers(),
             lines.refusals()
         );
         self.times.print(all.all);

@@ -1,5 +1,5 @@
 //! Lines as they are compared: what a reader says of the book alone, what it returns for the line, and what it leaves in the buffer.
-use super::outcomes::{Outcomes, Times};
+use super::outcomes::{Outcomes, Targets, Times};
 use super::{hex, prefilled, Compared, Tally};
 use crate::books::word_ranges;
 use crate::cases::Case;
@@ -15,10 +15,11 @@ pub struct Outcome {
     answer: Vec<u16>,
 }
 
-/// Outcomes of lines, those with capitals on both sides, and how many books are accepted.
+/// Outcomes of lines, the targets that they are read for, those with capitals on both sides, and how many books are accepted.
 #[derive(Default)]
 pub struct LineTally {
     pub all: Outcomes,
+    pub targets: Targets,
     capitals: Outcomes,
     accepted: u64,
     times: Times,
@@ -43,6 +44,9 @@ impl Compared for Case {
 
     fn count(&self, tally: &mut LineTally, ours: &Outcome, time: Duration) {
         tally.all.count(&ours.read);
+        if ours.read.is_ok() {
+            tally.targets.count(&ours.answer);
+        }
         tally.accepted += u64::from(ours.checked.is_ok());
         if capitals_on_both_sides(self, ours) {
             tally.capitals.count(&ours.read);
@@ -75,6 +79,7 @@ fn capitals_on_both_sides(case: &Case, ours: &Outcome) -> bool {
 impl Tally for LineTally {
     fn add(&mut self, other: &LineTally) {
         self.all.add(&other.all);
+        self.targets.add(&other.targets);
         self.capitals.add(&other.capitals);
         self.accepted += other.accepted;
         self.times.add(&other.times);
@@ -86,7 +91,7 @@ impl Tally for LineTally {
             "lines, {kind}: {} cases, {} books accepted, {} lines read",
             all.all, self.accepted, all.answered
         );
-        println!("    {}", all.refusals());
+        println!("    {}, {}", self.targets.numbers(), all.refusals());
         println!(
             "    with capitals on both sides {} cases, {} lines read, {}",
             capitals.all,

@@ -1,9 +1,12 @@
-//! Counts outcomes by their refusals.
+//! Counts outcomes by their refusals, and answers by their targets.
 use crate::types::Refusal;
 use std::time::Duration;
 
 /// The greatest number of a refusal.
 pub const LAST_REFUSAL: usize = 18;
+
+/// How many targets a book has at most.
+const MOST_TARGETS: usize = 8;
 
 /// How many outcomes there were, how many of them are no refusal, and how many have each number.
 #[derive(Default)]
@@ -37,6 +40,34 @@ impl Outcomes {
             .map(|number| format!("{number}: {}", self.refused[number]))
             .collect();
         format!("refusals {}", refused.join(", "))
+    }
+}
+
+/// How many answers there were for each number of a target.
+#[derive(Default)]
+pub struct Targets {
+    pub answered: [u64; MOST_TARGETS],
+}
+
+impl Targets {
+    /// Counts an answer by its first value.
+    pub fn count(&mut self, answer: &[u16]) {
+        self.answered[answer[0] as usize] += 1;
+    }
+
+    pub fn add(&mut self, other: &Targets) {
+        for (mine, more) in self.answered.iter_mut().zip(other.answered) {
+            *mine += more;
+        }
+    }
+
+    /// How often each number occurred.
+    pub fn numbers(&self) -> String {
+        let answered: Vec<String> = (0..MOST_TARGETS)
+            .filter(|number| self.answered[*number] > 0)
+            .map(|number| format!("{number}: {}", self.answered[number]))
+            .collect();
+        format!("targets {}", answered.join(", "))
     }
 }
 

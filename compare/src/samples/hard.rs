@@ -1,4 +1,4 @@
-//! Lines at the bounds, where much contracts with much: 24 words and 504 to 512 simple types.
+//! Lines at the bounds, where much contracts with much: 24 words and 504 to 512 simple types. Some stand again with eight targets.
 use super::{Growth, Sample, Simple};
 use crate::books::Records;
 use crate::random::Random;
@@ -61,6 +61,36 @@ pub enum Bases {
 /// The line of words w0, w1 and so on with these entries.
 fn sample(name: &str, words: &[Vec<Exponents>], bases: Bases) -> Sample {
     let (book, line) = records(words, bases, |k| format!("w{k}"));
+    Sample {
+        name: name.to_string(),
+        book: book.bytes(),
+        line,
+    }
+}
+
+/// The targets before a hard line's own, seven of them: equal to it, or of types that nothing else in the book has.
+#[derive(Clone, Copy)]
+enum Others {
+    Equal,
+    Strange,
+}
+
+/// The line of one basic type with eight targets, of which its own is the last.
+fn eight_targets(name: &str, words: &[Vec<Exponents>], others: Others) -> Sample {
+    let (mut book, line) = records(words, Bases::One, |k| format!("w{k}"));
+    let mut before = Records::default();
+    for k in 1..8 {
+        match others {
+            Others::Equal => before.target(0),
+            Others::Strange => {
+                before.basic_type(format!("t{k}").as_bytes());
+                before.target(k);
+            }
+        }
+    }
+    let own = book.list.iter().position(|record| record[2] == 4);
+    let own = own.expect("a target");
+    book.list.splice(own..own, before.list);
     Sample {
         name: name.to_string(),
         book: book.bytes(),
@@ -314,6 +344,36 @@ pub fn hard() -> Vec<Sample> {
         sample("entries of 12, none", &twelves(false), one),
         sample("entries of 12, 1 and 0, reads", &mixed, one),
         sample("entries of 12, 1 and 0, 64 types, reads", &mixed, all),
+        eight_targets(
+            "alternating 0 1, last of eight targets, reads",
+            &alternate,
+            Others::Strange,
+        ),
+        eight_targets(
+            "alternating 0 1, eight equal targets, reads",
+            &alternate,
+            Others::Equal,
+        ),
+        eight_targets(
+            "alternating 0 1, eight targets, none",
+            &even_alternate,
+            Others::Strange,
+        ),
+        eight_targets(
+            "alternating 0 1, eight equal targets, none",
+            &even_alternate,
+            Others::Equal,
+        ),
+        eight_targets(
+            "entries of 12, 1 and 0, last of eight targets, reads",
+            &mixed,
+            Others::Strange,
+        ),
+        eight_targets(
+            "entries of 12, 1 and 0, eight equal targets, reads",
+            &mixed,
+            Others::Equal,
+        ),
     ]
 }
 

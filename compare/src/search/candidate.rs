@@ -9,7 +9,7 @@ use crate::twin::figures::limits::{
 const TYPES: u8 = MAX_TYPES as u8;
 
 /// How many bytes a pair's record has.
-const PAIR: usize = 6;
+pub const PAIR: usize = 6;
 
 /// What words and the names of types begin with. They differ in their last bytes alone, and have seven: so few are compared one by
 /// one, which is dearer than up to 31 of them eight at a time.

@@ -1,6 +1,6 @@
 //! Reads a batch of lines against a book: the lines are counted, the book is opened once, each line is read into a store, and the store
 //! is copied into the lent buffer where its values fit.
-use super::figures::limits::{MAX_BATCH, MAX_BATCH_VALUES, MAX_ENTRIES, MAX_LINES};
+use super::figures::limits::{MAX_BATCH, MAX_BATCH_VALUES, MAX_ENTRIES, MAX_LINES, MAX_TARGETS};
 use super::figures::refusals::{ANSWERS_TOO_LONG, BAD_BATCH};
 use super::keys::{NO_ENTRY, PLACES};
 use super::reader::{open, read_open, Answer, Open};
@@ -36,11 +36,13 @@ fn read_part(
     offsets: &[u16],
     alike: &[u16],
     open: &Open,
+    targets: &[u8],
     line: &[u8],
     store: &mut [u16],
     used: usize,
 ) -> usize {
-    let length = match read_open(book, offsets, alike, open, line, &mut store[used + 2..]) {
+    let answer = &mut store[used + 2..];
+    let length = match read_open(book, offsets, alike, open, targets, line, answer) {
         Ok(values) => {
             store[used + 1] = 0;
             values
@@ -61,7 +63,8 @@ pub fn read_batch(book: &[u8], lines: &[u8], answers: &mut [u16]) -> Answer {
     let count = count_lines(lines)?;
     let mut offsets = [0u16; MAX_ENTRIES];
     let mut alike = [NO_ENTRY; PLACES];
-    let open = open(book, &mut offsets, &mut alike)?;
+    let mut targets = [0u8; MAX_TARGETS];
+    let open = open(book, &mut offsets, &mut alike, &mut targets)?;
     let mut store = [0u16; MAX_BATCH_VALUES];
     let mut used = 0;
     let mut at = 0;
@@ -72,6 +75,7 @@ pub fn read_batch(book: &[u8], lines: &[u8], answers: &mut [u16]) -> Answer {
             &offsets,
             &alike,
             &open,
+            &targets[..open.targets],
             &lines[at..end],
             &mut store,
             used,

@@ -2,11 +2,12 @@
 use super::bits;
 use super::compare;
 use super::figures::limits::{
-    MAX_BOOK, MAX_ENTRIES, MAX_ENTRY_SIMPLES, MAX_EXPONENT, MAX_NAME, MAX_TYPES, MAX_WORD,
+    MAX_BOOK, MAX_ENTRIES, MAX_ENTRY_SIMPLES, MAX_EXPONENT, MAX_NAME, MAX_TARGETS, MAX_TYPES,
+    MAX_WORD,
 };
 use super::figures::refusals::{
     BAD_LAYOUT, BOOK_TOO_LONG, CUT_SHORT, EXPONENT_OUTSIDE, KIND_NOT_LISTED, NAME_USED, NO_TARGET,
-    SECOND_TARGET, TOO_MANY_RECORDS, UNDECLARED_TYPE,
+    TOO_MANY_RECORDS, TOO_MANY_TARGETS, UNDECLARED_TYPE,
 };
 use super::order;
 
@@ -16,31 +17,27 @@ const HEAD: usize = 4;
 /// The byte of the least exponent.
 const LEAST_EXPONENT: u8 = 255 - (MAX_EXPONENT - 1);
 
-/// What is kept for the target before there is one: no basic type has this number.
-const UNSET_TARGET: u8 = MAX_TYPES as u8;
-
 /// A reader of a book's records: the book and the offset of the next record.
 struct RecordReader<'a> {
     book: &'a [u8],
     at: usize,
 }
 
-/// How far a book has been read: the offset of the next record, how many basic types and entries there were, and the target, or
-/// `UNSET_TARGET` where there was none.
+/// How far a book has been read: the offset of the next record, and how many basic types, entries and targets there were.
 #[derive(Clone, Copy)]
 struct Progress {
     at: usize,
     types: usize,
     entries: usize,
-    target: u8,
+    targets: usize,
 }
 
-/// What reading all records gives: the book's counts and its target, or the number of the refusal and the value returned with it.
+/// What reading all records gives: the book's counts, or the number of the refusal and the value returned with it.
 pub enum Scan {
     Accepted {
         types: usize,
         entries: usize,
-        target: u8,
+        targets: usize,
     },
     Refused {
         number: u32,
@@ -211,16 +208,16 @@ fn entry_fault(body: &[u8], types: usize, entries: usize) -> u32 {
     0
 }
 
-/// The rules for a target: its layout, a declared type number, no target before.
-fn target_fault(body: &[u8], types: usize, seen: bool) -> u32 {
+/// The rules for a target: its layout, a declared type number, one too many.
+fn target_fault(body: &[u8], types: usize, targets: usize) -> u32 {
     if body.len() != 1 {
         return BAD_LAYOUT;
     }
     if types <= wide_byte(body[0]) {
         return UNDECLARED_TYPE;
     }
-    if seen {
-        return SECOND_TARGET;
+    if MAX_TARGETS <= targets {
+        return TOO_MANY_TARGETS;
     }
     0
 }
@@ -232,7 +229,7 @@ fn record_fault(
     names: &[u16],
     types: usize,
     entries: usize,
-    seen: bool,
+    targets: usize,
 ) -> u32 {
     if book.len() - at < HEAD {
         return CUT_SHORT;
@@ -246,7 +243,7 @@ fn record_fault(
         1 => name_fault(book, names, types, body),
         2 => pair_fault(body, types),
         3 => entry_fault(body, types, entries),
-        4 => target_fault(body, types, seen),
+        4 => target_fault(body, types, targets),
         _ => KIND_NOT_LISTED,
     }
 }
@@ -257,8 +254,8 @@ fn reader_at(book: &[u8], at: usize) -> RecordReader<'_> {
 }
 
 /// The smallest number that the next record is refused with, or 0.
-fn next_fault(r: RecordReader, names: &[u16], types: usize, entries: usize, seen: bool) -> u32 {
-    record_fault(r.book, r.at, names, types, entries, seen)
+fn next_fault(r: RecordReader, names: &[u16], types: usize, entries: usize, targets: usize) -> u32 {
+    record_fault(r.book, r.at, names, types, entries, targets)
 }
 
 /// The same for a caller that has the book and the offset.
@@ -268,9 +265,9 @@ fn fault_at(
     names: &[u16],
     types: usize,
     entries: usize,
-    seen: bool,
+    targets: usize,
 ) -> u32 {
-    next_fault(reader_at(book, at), names, types, entries, seen)
+    next_fault(reader_at(book, at), names, types, entries, targets)
 }
 
 /// Takes the next record in: its offset, its pair or its target is kept, or it is refused with a number.
@@ -279,16 +276,10 @@ fn take_record(
     names: &mut [u16],
     entries: &mut [u16],
     direct: &mut [u64],
+    targets: &mut [u8],
     p: Progress,
 ) -> Result<Progress, u32> {
-    let fault = fault_at(
-        book,
-        p.at,
-        names,
-        p.types,
-        p.entries,
-        p.target < UNSET_TARGET,
-    );
+    let fault = fault_at(book, p.at, names, p.types, p.entries, p.targets);
     if fault != 0 {
         return Err(fault);
     }
@@ -308,13 +299,23 @@ fn take_record(
             entries[p.entries] = p.at as u16;
             next.entries += 1;
         }
-        _ => next.target = body[0],
+        _ => {
+            targets[p.targets] = body[0];
+            next.targets += 1;
+        }
     }
     Ok(next)
 }
 
-/// Reads all records of a book. Of an accepted book the arrays hold where its basic types and entries stand, and its pairs.
-pub fn scan_book(book: &[u8], names: &mut [u16], entries: &mut [u16], direct: &mut [u64]) -> Scan {
+/// Reads all records of a book. Of an accepted book the arrays hold where its basic types and entries stand, its pairs, and the type
+/// numbers of its targets.
+pub fn scan_book(
+    book: &[u8],
+    names: &mut [u16],
+    entries: &mut [u16],
+    direct: &mut [u64],
+    targets: &mut [u8],
+) -> Scan {
     if MAX_BOOK < book.len() {
         return Scan::Refused {
             number: BOOK_TOO_LONG,
@@ -325,10 +326,10 @@ pub fn scan_book(book: &[u8], names: &mut [u16], entries: &mut [u16], direct: &m
         at: 0,
         types: 0,
         entries: 0,
-        target: UNSET_TARGET,
+        targets: 0,
     };
     while p.at < book.len() {
-        match take_record(book, names, entries, direct, p) {
+        match take_record(book, names, entries, direct, targets, p) {
             Ok(next) => p = next,
             Err(number) => {
                 return Scan::Refused {
@@ -338,7 +339,7 @@ pub fn scan_book(book: &[u8], names: &mut [u16], entries: &mut [u16], direct: &m
             }
         }
     }
-    if p.target == UNSET_TARGET {
+    if p.targets == 0 {
         return Scan::Refused {
             number: NO_TARGET,
             value: book.len(),
@@ -347,7 +348,7 @@ pub fn scan_book(book: &[u8], names: &mut [u16], entries: &mut [u16], direct: &m
     Scan::Accepted {
         types: p.types,
         entries: p.entries,
-        target: p.target,
+        targets: p.targets,
     }
 }
 
@@ -357,7 +358,8 @@ pub fn check_book(book: &[u8]) -> BookCheck {
     let mut names = [0u16; MAX_TYPES];
     let mut entries = [0u16; MAX_ENTRIES];
     let mut direct = [0u64; MAX_TYPES];
-    match scan_book(book, &mut names, &mut entries, &mut direct) {
+    let mut targets = [0u8; MAX_TARGETS];
+    match scan_book(book, &mut names, &mut entries, &mut direct, &mut targets) {
         Scan::Refused { number, value } => BookCheck::Refused { number, value },
         Scan::Accepted { types, entries, .. } => {
             let order = order::close(&direct, types);

@@ -139,8 +139,9 @@ fn first_slot(
     s
 }
 
-/// The first choice of a line that reads: the slot of each word into `slots`, its simple types into `string`, and the table of that
-/// string into `table`. `leaving` is for rows on the way. How many simple types the choice has is returned.
+/// The first choice of a line that reads for the target of an end: the slot of each word into `slots`, its simple types with the target
+/// behind them into `string`, and the table of that string into `table`. `leaving` is for rows on the way. How many simple types there
+/// are is returned.
 pub fn choose(
     order: &[u64],
     count: usize,

@@ -3,10 +3,11 @@
 
 /// The limits of books, lines and batches, and the sizes of lists that follow from them.
 pub mod limits {
-    /// How many bytes a book has at most, and how many basic types and entries.
+    /// How many bytes a book has at most, and how many basic types, entries and targets.
     pub const MAX_BOOK: usize = 65535;
     pub const MAX_TYPES: usize = 64;
     pub const MAX_ENTRIES: usize = 1024;
+    pub const MAX_TARGETS: usize = 8;
 
     /// How many bytes a name and a word have at most, and how many simple types an entry.
     pub const MAX_NAME: usize = 15;
@@ -20,13 +21,13 @@ pub mod limits {
     pub const MAX_WORDS: usize = 24;
     pub const MAX_LINE_SIMPLES: usize = 512;
 
-    /// How many simple types a choice has at most, and how many with the target behind it.
+    /// How many simple types a choice has at most, and how many with a target behind it.
     pub const MAX_STRING: usize = MAX_WORDS * MAX_ENTRY_SIMPLES;
     pub const MAX_PLACES: usize = MAX_STRING + 1;
 
-    /// How many nodes a line's graph has at most: a boundary for each word and one behind the last, the simple types, the target and
-    /// the end.
-    pub const MAX_NODES: usize = MAX_WORDS + MAX_LINE_SIMPLES + 3;
+    /// How many nodes a line's graph has at most: a boundary for each word and one behind the last, the simple types, and for each
+    /// target a node and an end.
+    pub const MAX_NODES: usize = MAX_WORDS + MAX_LINE_SIMPLES + 1 + 2 * MAX_TARGETS;
 
     /// How many words of 64 bits a set of nodes takes, and how many members it has room for.
     pub const ROW_WORDS: usize = MAX_NODES.div_ceil(64);
@@ -41,7 +42,7 @@ pub mod limits {
     pub const MAX_BATCH: usize = 65535;
 
     /// How many values hold any answer, and the answers of any batch: before each stand a count and a number.
-    pub const MAX_VALUES: usize = 2 + MAX_WORDS + MAX_STRING;
+    pub const MAX_VALUES: usize = 3 + MAX_WORDS + MAX_STRING;
     pub const MAX_BATCH_VALUES: usize = MAX_LINES * (2 + MAX_VALUES);
 }
 
@@ -68,8 +69,8 @@ pub mod refusals {
     /// Type name used before.
     pub const NAME_USED: u32 = 7;
 
-    /// Second target.
-    pub const SECOND_TARGET: u32 = 8;
+    /// Ninth target.
+    pub const TOO_MANY_TARGETS: u32 = 8;
 
     /// 65th basic type or 1,025th entry.
     pub const TOO_MANY_RECORDS: u32 = 9;

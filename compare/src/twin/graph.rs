@@ -1,5 +1,5 @@
 //! Lays a checked line out as a graph, in lent lists of nodes and slots: each word a boundary, then the simple types of its entries,
-//! and behind the last word the target.
+//! and behind the last word the targets.
 use super::book::{body_at, type_part, wide_number};
 use super::find::tally;
 use super::pregroup::{hold, EXPONENT_BIAS};
@@ -167,29 +167,38 @@ fn lay_words(
     place
 }
 
-/// Lays the target behind the last word: a boundary with one slot, the target's right adjoint, and the end. The number of nodes is
-/// returned.
-fn lay_goal(
-    target: u8,
+/// Lays the targets behind the last word: a boundary with a slot for each target, and for each its right adjoint and an end of its own.
+fn lay_goals(
+    targets: &[u8],
     p: Place,
     simples: &mut [u16],
     nexts: &mut [u16],
     froms: &mut [u16],
     tos: &mut [u16],
     enters: &mut [u16],
-) -> usize {
-    let goal = p.node + 1;
-    let end = p.node + 2;
+) {
     froms[p.node] = p.slot as u16;
-    tos[p.node] = (p.slot + 1) as u16;
-    enters[p.slot] = goal as u16;
-    simples[goal] = hold_simple(target, 1);
-    nexts[goal] = end as u16;
-    p.node + 3
+    tos[p.node] = (p.slot + targets.len()) as u16;
+    for (i, &target) in targets.iter().enumerate() {
+        let goal = p.node + 1 + 2 * i;
+        enters[p.slot + i] = goal as u16;
+        simples[goal] = hold_simple(target, 1);
+        nexts[goal] = end_of(p.node, i) as u16;
+    }
 }
 
-/// Lays a checked line out in empty lists and returns the number of nodes: a graph that goes up, from node 0 that of the line's words
-/// and the target, to its last node.
+/// The end of target number i, where `last` is the boundary behind the last word.
+pub fn end_of(last: usize, i: usize) -> usize {
+    last + 2 + 2 * i
+}
+
+/// How many nodes a graph with so many targets has, where `last` is the boundary behind the last word.
+pub fn count_nodes(last: usize, targets: usize) -> usize {
+    last + 1 + 2 * targets
+}
+
+/// Lays a checked line out in empty lists and returns the boundary behind the last word: a graph that goes up, from node 0 that of the
+/// line's words and each target, to that target's end.
 pub fn lay_out(
     book: &[u8],
     offsets: &[u16],
@@ -197,7 +206,7 @@ pub fn lay_out(
     same: &[u16],
     firsts: &[u16],
     words: usize,
-    target: u8,
+    targets: &[u8],
     simples: &mut [u16],
     nexts: &mut [u16],
     froms: &mut [u16],
@@ -214,5 +223,6 @@ pub fn lay_out(
         book, offsets, count, same, firsts, words, first, simples, nexts, froms, tos, enters,
         numbers,
     );
-    lay_goal(target, last, simples, nexts, froms, tos, enters)
+    lay_goals(targets, last, simples, nexts, froms, tos, enters);
+    last.node
 }

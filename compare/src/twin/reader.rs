@@ -1,14 +1,15 @@
 //! Reads a line against a book: the book is scanned, its entries threaded and its order closed, the line split and its words looked up,
-//! the entries laid out as a graph, its chart filled, the first choice found, and its first linking written.
+//! the entries laid out as a graph, its chart filled, the first target that has a reading and its first choice found, and the first
+//! linking of that choice written.
 use super::answer::write_answer;
 use super::book::{scan_book, Scan};
 use super::chart::fill;
 use super::choice::choose;
 use super::figures::limits::{
-    CHART_WORDS, MAX_ENTRIES, MAX_NODES, MAX_PLACES, MAX_TYPES, MAX_WORDS, TABLE_WORDS,
+    CHART_WORDS, MAX_ENTRIES, MAX_NODES, MAX_PLACES, MAX_TARGETS, MAX_TYPES, MAX_WORDS, TABLE_WORDS,
 };
 use super::figures::refusals::{BUFFER_TOO_SHORT, NO_READING};
-use super::graph::lay_out;
+use super::graph::{count_nodes, end_of, lay_out};
 use super::keys::{thread_entries, NO_ENTRY, PLACES};
 use super::line::{check_line, CheckedLine};
 use super::order::{close, Order};
@@ -18,24 +19,34 @@ use super::rows::member;
 /// with it; the buffer is then as it was.
 pub type Answer = Result<usize, (u32, usize)>;
 
-/// What is kept of an accepted book beside where its entries stand and how they are threaded: how many there are, the order and the
-/// target.
+/// What is kept of an accepted book beside where its entries stand, how they are threaded and which targets it has: how many entries and
+/// targets there are, and the order.
 pub struct Open {
     entries: usize,
+    pub targets: usize,
     order: Order,
-    target: u8,
 }
 
-/// Reads a line against a book whose entries, their threads and order are kept.
+/// The number of the first target whose end the row of node 0 has, or how many there are where it has none.
+fn first_goal(chart: &[u64], last: usize, targets: usize) -> usize {
+    let mut i = 0;
+    while i < targets && !member(chart, 0, end_of(last, i)) {
+        i += 1;
+    }
+    i
+}
+
+/// Reads a line against a book whose entries, their threads, order and targets are kept.
 pub fn read_open(
     book: &[u8],
     offsets: &[u16],
     alike: &[u16],
     open: &Open,
+    targets: &[u8],
     line: &[u8],
     answer: &mut [u16],
 ) -> Answer {
-    let (count, order, target) = (open.entries, &open.order.rows, open.target);
+    let (count, order) = (open.entries, &open.order.rows);
     let mut same = [0u16; MAX_ENTRIES];
     let mut firsts = [0u16; MAX_WORDS];
     let words = match check_line(book, offsets, count, alike, line, &mut same, &mut firsts) {
@@ -48,14 +59,14 @@ pub fn read_open(
     let mut tos = [0u16; MAX_NODES];
     let mut enters = [0u16; MAX_NODES];
     let mut numbers = [0u16; MAX_NODES];
-    let nodes = lay_out(
+    let last = lay_out(
         book,
         offsets,
         count,
         &same,
         &firsts,
         words,
-        target,
+        targets,
         &mut simples,
         &mut nexts,
         &mut froms,
@@ -63,12 +74,13 @@ pub fn read_open(
         &mut enters,
         &mut numbers,
     );
+    let nodes = count_nodes(last, targets.len());
     let mut chart = [0u64; CHART_WORDS];
     fill(
         order, nodes, &simples, &nexts, &froms, &tos, &enters, &mut chart,
     );
-    let end = nodes - 1;
-    if !member(&chart, 0, end) {
+    let i = first_goal(&chart, last, targets.len());
+    if targets.len() <= i {
         return Err((NO_READING, 0));
     }
     let mut string = [0u16; MAX_PLACES];
@@ -84,40 +96,45 @@ pub fn read_open(
         &tos,
         &enters,
         &chart,
-        end,
+        end_of(last, i),
         &mut string,
         &mut slots,
         &mut table,
         &mut leaving,
     );
     let m = places - 1;
-    let needed = 2 + words + m;
+    let needed = 3 + words + m;
     if answer.len() < needed {
         return Err((BUFFER_TOO_SHORT, needed));
     }
     write_answer(
-        order, &string, &table, m, target, &numbers, &slots, words, answer,
+        order, &string, &table, m, targets[i], i, &numbers, &slots, words, answer,
     );
     Ok(needed)
 }
 
 /// Opens a book: its records are scanned, its entries threaded by their keys and its order closed. Where the entries stand is kept in
-/// `offsets`, and their threads in `alike`.
-pub fn open(book: &[u8], offsets: &mut [u16], alike: &mut [u16]) -> Result<Open, (u32, usize)> {
+/// `offsets`, their threads in `alike`, and the type numbers of the targets in `targets`.
+pub fn open(
+    book: &[u8],
+    offsets: &mut [u16],
+    alike: &mut [u16],
+    targets: &mut [u8],
+) -> Result<Open, (u32, usize)> {
     let mut names = [0u16; MAX_TYPES];
     let mut direct = [0u64; MAX_TYPES];
-    match scan_book(book, &mut names, offsets, &mut direct) {
+    match scan_book(book, &mut names, offsets, &mut direct, targets) {
         Scan::Refused { number, value } => Err((number, value)),
         Scan::Accepted {
             types,
             entries,
-            target,
+            targets,
         } => {
             thread_entries(book, offsets, entries, alike);
             Ok(Open {
                 entries,
+                targets,
                 order: close(&direct, types),
-                target,
             })
         }
     }
@@ -128,6 +145,8 @@ pub fn open(book: &[u8], offsets: &mut [u16], alike: &mut [u16]) -> Result<Open,
 pub fn read_line(book: &[u8], line: &[u8], answer: &mut [u16]) -> Answer {
     let mut offsets = [0u16; MAX_ENTRIES];
     let mut alike = [NO_ENTRY; PLACES];
-    let open = open(book, &mut offsets, &mut alike)?;
-    read_open(book, &offsets, &alike, &open, line, answer)
+    let mut targets = [0u8; MAX_TARGETS];
+    let open = open(book, &mut offsets, &mut alike, &mut targets)?;
+    let targets = &targets[..open.targets];
+    read_open(book, &offsets, &alike, &open, targets, line, answer)
 }
