@@ -9,7 +9,8 @@ use lib.Seq.{length-take-le}
 use borrow.Author.Tests.{lt-ltb, le-ltb}
 use Rattle.figures.specs.Limits.{maxBatchValues}
 use Rattle.figures.specs.Refusals.{badBatch, answersTooLong}
-use Rattle.book.specs.Format.{Bytes, Book, accepted, refused, parse}
+use Rattle.format.specs.Records.{Bytes}
+use Rattle.book.specs.Format.{Book, accepted, refused, parse}
 use Rattle.reader.specs.Outcome.{Outcome, Gives}
 use Rattle.batch.specs.declared.BatchAnswer.{BatchAnswer}
 use Rattle.batch.specs.declared.BatchAnswer.the-variants.{Answered, Refused}

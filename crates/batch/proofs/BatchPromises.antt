@@ -12,7 +12,8 @@ use borrow.Author.Tests.{ltb-true, ltb-false}
 use Rattle.figures.specs.Limits.{maxBatch, maxLines, maxValues}
 use Rattle.figures.specs.Refusals.{Reply, refusal, noTarget, noReading, badBatch, answersTooLong}
 use Rattle.bits.proofs.Cases.{some-same, none-some}
-use Rattle.book.specs.Format.{Bytes, Book, Parsed, accepted, refused, parse}
+use Rattle.format.specs.Records.{Bytes}
+use Rattle.book.specs.Format.{Book, Parsed, accepted, refused, parse}
 use Rattle.linking.specs.Reading.{Words}
 use Rattle.reader.specs.Outcome.{Outcome, outcome, Gives}
 use Rattle.reader.specs.Demands.{Readable, TooShort, NoChain}

@@ -13,7 +13,7 @@ use lib.Seq.{drop-cons, split-at}
 use borrow.Author.Tests.{eqb-true, eqb-false, eq-eqb, ne-eqb, lt-ltb, le-ltb}
 use Rattle.figures.specs.Limits.{maxBatch, maxLines}
 use Rattle.bits.proofs.Cases.{some-same, none-some}
-use Rattle.book.specs.Format.{Bytes}
+use Rattle.format.specs.Records.{Bytes}
 use Rattle.batch.specs.declared.LineCount.the-variants.{Lines}
 use Rattle.batch.specs.Lines.{lineBreak, putLine, putByte, linesOf, upTo, batchLines, Unbroken, closeEach, IsLines, NotClosed}
 use Rattle.batch.specs.Runs.{breaks, ClosedSays, CountSays}

@@ -8,7 +8,8 @@ use lib.ListN.{length, getD, set, take, drop, replicate, length-append, length-t
 use lib.Seq.{drop-cons, take-suc, set-at, append-snoc, sets, sets-eq, take-at, drop-at, take-append-le, take-append-add, take-take, length-take-le}
 use Rattle.figures.specs.Limits.{maxValues, maxBatch, maxPart, valueBound}
 use Rattle.figures.specs.Refusals.{Reply, refusal}
-use Rattle.book.specs.Format.{Bytes, Book, accepted, refused, parse}
+use Rattle.format.specs.Records.{Bytes}
+use Rattle.book.specs.Format.{Book, accepted, refused, parse}
 use Rattle.reader.specs.declared.LineAnswer.{LineAnswer}
 use Rattle.reader.specs.declared.LineAnswer.the-variants.{Read, Refused}
 use Rattle.reader.specs.Outcome.{lineReply, outcomeReply, outcome, Gives}

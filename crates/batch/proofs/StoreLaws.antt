@@ -11,7 +11,7 @@ use lib.Seq.{drop-cons, drop-drop, getD-take, getD-drop, take-all}
 use Rattle.figures.specs.Limits.{maxPart}
 use Rattle.bits.proofs.Cases.{less-or-not, some-same, none-some}
 use Rattle.bytewise.specs.First.{First}
-use Rattle.book.specs.Format.{Bytes}
+use Rattle.format.specs.Records.{Bytes}
 use Rattle.batch.specs.Lines.{lineBreak, putLine, linesOf, Unbroken}
 use Rattle.batch.specs.Batch.{aloneReply, partOf, partsOf}
 use Rattle.batch.specs.Runs.{Put, Readying, StoredParts}

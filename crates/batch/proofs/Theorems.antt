@@ -9,7 +9,8 @@ use mathlib.Core.Option.{none, some}
 use lib.ListN.{length}
 use Rattle.figures.specs.Limits.{maxValues}
 use Rattle.figures.specs.Refusals.{refusal, noTarget, noReading, bufferTooShort, badBatch, answersTooLong}
-use Rattle.book.specs.Format.{Bytes, Book}
+use Rattle.format.specs.Records.{Bytes}
+use Rattle.book.specs.Format.{Book}
 use Rattle.linking.specs.Reading.{Words}
 use Rattle.reader.specs.declared.LineAnswer.the-variants.{Refused as RefusedLine}
 use Rattle.reader.specs.Outcome.{lineReply, outcomeReply, outcome}

@@ -7,7 +7,8 @@ use mathlib.Core.List.{List, [], _∷_, _++_}
 use lib.ListN.{length, drop}
 use Rattle.figures.specs.Limits.{maxValues}
 use Rattle.figures.specs.Refusals.{Reply, refusal, noReading, bufferTooShort, badBatch, answersTooLong}
-use Rattle.book.specs.Format.{Bytes, Book, accepted, refused, parse}
+use Rattle.format.specs.Records.{Bytes}
+use Rattle.book.specs.Format.{Book, accepted, refused, parse}
 use Rattle.linking.specs.Reading.{Words, IsReading, IsFirst, answer}
 use Rattle.reader.specs.Outcome.{outcomeReply, valuesOf, outcome}
 use Rattle.reader.specs.Demands.{OrderOf, Readable, NoChain}

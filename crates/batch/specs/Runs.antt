@@ -7,7 +7,7 @@ use mathlib.Core.Option.{none, some}
 use lib.Dec.{eqb}
 use lib.ListN.{length, take}
 use Rattle.figures.specs.Limits.{maxBatch, maxPart}
-use Rattle.book.specs.Format.{Bytes}
+use Rattle.format.specs.Records.{Bytes}
 use Rattle.batch.specs.declared.LineCount.{LineCount}
 use Rattle.batch.specs.declared.LineCount.the-variants.{Lines, Bad}
 use Rattle.batch.specs.Lines.{lineBreak, linesOf, batchLines}

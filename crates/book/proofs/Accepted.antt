@@ -9,10 +9,12 @@ use mathlib.Core.List.{List, [], _∷_, _++_, List·Memᴰ, List·Memᴰ·not-ni
 use lib.ListN.{length, getD, length-append}
 use Rattle.order.specs.Closed.{DeclaredPairs}
 use Rattle.figures.specs.Limits.{maxEntries, maxTargets, maxName, maxEntrySimples}
-use Rattle.book.specs.Format.{Bytes, Book, Entry, accepted, parse, kindAt, bodyAt, every, exponents, exponentListed, bodyRules, firstBroken, add, simplesOf, typePart, isEntry, entryOf}
+use Rattle.format.specs.Records.{Bytes, kindAt, bodyAt, every}
+use Rattle.book.specs.Format.{Book, Entry, accepted, parse, exponents, exponentListed, bodyRules, firstBroken, add, simplesOf, typePart, isEntry, entryOf}
 use Rattle.book.specs.Check.{GoodUpTo, start, next}
 use Rattle.book.proofs.NoFault.{Kind, basic-type, order-pair, entry, target, no-fault-kind, no-fault-body, name-no-fault, pair-no-fault, entry-no-fault, target-no-fault}
-use Rattle.book.proofs.Layouts.{name-short, entry-shape}
+use Rattle.format.proofs.NameLaws.{name-short}
+use Rattle.book.proofs.Layouts.{entry-shape}
 use Rattle.book.proofs.Keeping.{listed-more}
 use Rattle.book.proofs.SmallestNumber.{fault-clean}
 use Rattle.book.proofs.Parsing.{accepted-good}

@@ -9,11 +9,13 @@ use Rattle.order.specs.Closed.{Closed, Listed, DeclaredPairs}
 use Rattle.order.specs.Rows.{Hold, DeclaredRows, pairsIn}
 use Rattle.order.proofs.ClosureLaws.{hold-closed}
 use Rattle.order.proofs.Counting.{pairs-in-closed}
-use Rattle.book.specs.Format.{Bytes, Book, refused, parse, entryOf}
-use Rattle.book.specs.Kept.{bodiesAt, Store, NoPairs, Opened}
+use Rattle.format.specs.Records.{Bytes}
+use Rattle.book.specs.Format.{Book, refused, parse, entryOf}
+use Rattle.format.specs.Records.{bodiesAt}
+use Rattle.book.specs.Kept.{Store, NoPairs, Opened}
 use Rattle.book.specs.Check.{bookCheck}
 use Rattle.book.specs.declared.BookCheck.the-variants.{Accepted, Refused}
-use Rattle.book.proofs.Names.{bodies-length}
+use Rattle.format.proofs.NameLaws.{bodies-length}
 
 pub zeros : (n p : ℕ) → getD {A = ℕ} (replicate n 0) p 0 ≡ 0
 zeros zero p = refl

@@ -8,7 +8,9 @@ use lib.IntN.{pos, negsuc}
 use Rattle.bits.specs.Totals.{total}
 use Rattle.pregroup.specs.Types.{PregroupType, _⁽_⁾, plain}
 use Rattle.order.specs.Closed.{below, closedCount}
-use Rattle.book.specs.Format.{Bytes, Entry, recordOf, accepted, every, twoBytes, nameByte, isName, exponentOf, simplesOf, isEntry, exponentListed, sameBytes, bodyRules, recordRules, firstBroken, add, ended, recordsFrom, parse}
+use Rattle.format.specs.Records.{Bytes, recordOf, every, twoBytes, sameBytes}
+use Rattle.format.specs.Names.{nameByte, isName}
+use Rattle.book.specs.Format.{Entry, accepted, exponentOf, simplesOf, isEntry, exponentListed, bodyRules, recordRules, firstBroken, add, ended, recordsFrom, parse}
 use Rattle.book.specs.Check.{bookCheck, AcceptedCounts, Cause}
 use Rattle.book.specs.declared.BookCheck.{BookCheck}
 use Rattle.book.specs.declared.BookCheck.the-variants.{Accepted, Refused}

@@ -9,8 +9,10 @@ use borrow.Author.Tests.{lt-ltb, le-ltb}
 use lib.ListN.{length, getD}
 use Rattle.figures.specs.Limits.{maxTypes, maxEntries, maxTargets}
 use Rattle.figures.specs.Refusals.{kindNotListed, badLayout, undeclaredType, exponentOutside, nameUsed, tooManyTargets, tooManyRecords}
-use Rattle.book.proofs.Bools.{and-true}
-use Rattle.book.specs.Format.{Bytes, every, between, isName, isEntry, isAmong, declaredAmong, exponentListed, bodyRules, firstBroken, bases, exponents, simplesOf, typePart}
+use Rattle.format.proofs.Bools.{and-true}
+use Rattle.format.specs.Records.{Bytes, every, between}
+use Rattle.format.specs.Names.{isName, isAmong}
+use Rattle.book.specs.Format.{isEntry, declaredAmong, exponentListed, bodyRules, firstBroken, bases, exponents, simplesOf, typePart}
 
 -- Every one of one, and of two.
 pub every-one : (test : ℕ → Bool) (body : Bytes) → length body ≡ 1 → every test body ≡ test (getD {A = ℕ} body 0 0)

@@ -16,11 +16,13 @@ use Rattle.pregroup.specs.Held.{InRows}
 use Rattle.order.specs.Closed.{Pair, Within, Listed}
 use Rattle.figures.specs.Limits.{maxTypes, maxEntries, maxTargets}
 use Rattle.order.specs.Rows.{Hold}
-use Rattle.book.specs.Format.{Bytes, Book, Entry, twoBytes, bodyAt, nextAt, kindAt, bodyRules, recordRules, firstBroken, entryOf, add, every, declaredAmong}
-use Rattle.book.specs.Kept.{bodiesAt, Whole, Formed, AllFormed, TargetsDeclared, Store, store, Sound, Keeps, Taking, nextFault}
+use Rattle.format.specs.Records.{Bytes, twoBytes, bodyAt, nextAt, kindAt, every}
+use Rattle.book.specs.Format.{Book, Entry, bodyRules, recordRules, firstBroken, entryOf, add, declaredAmong}
+use Rattle.format.specs.Records.{bodiesAt, Whole}
+use Rattle.book.specs.Kept.{Formed, AllFormed, TargetsDeclared, Store, store, Sound, Keeps, Taking, nextFault}
 use Rattle.book.specs.declared.Progress.{Progress}
-use Rattle.book.proofs.Bools.{both}
-use Rattle.book.proofs.Names.{bodies-length}
+use Rattle.format.proofs.Bools.{both}
+use Rattle.format.proofs.NameLaws.{bodies-length}
 use Rattle.book.proofs.NoFault.{no-fault-whole, no-fault-body, name-no-fault, pair-no-fault, entry-no-fault, target-no-fault, Kind, basic-type, order-pair, entry, target, no-fault-kind}
 
 -- One offset more.

@@ -2,34 +2,16 @@
 use Prim.Native.Nat.{ℕ, _+_, _-_, _*_, _%_, _≤_, _<_}
 use native.Mathlib.Omega.{arith}
 use mathlib.Core.Path.{_≡_, sym, ap, _∙_}
-use mathlib.Core.Bool.{Bool, true, false, _&&_}
+use mathlib.Core.Bool.{Bool, true, false}
 use lib.Dec.{leb}
-use lib.ListN.{length, getD, take, drop, length-drop, List·getD-eq-default}
+use lib.ListN.{length, take, drop, length-drop, List·getD-eq-default}
 use borrow.Author.Tests.{lt-ltb, le-ltb, eq-eqb, ne-eqb, leb-true, ltb-true, eqb-true}
-use Rattle.figures.specs.Limits.{maxName, maxWord, maxEntrySimples}
-use Rattle.book.specs.Format.{Bytes, every, nameByte, isName, wordLength, wordOf, between, typePart, isEntry}
-use Rattle.book.proofs.Bools.{inside, outside, both}
+use Rattle.figures.specs.Limits.{maxWord, maxEntrySimples}
+use Rattle.format.specs.Records.{Bytes, every, between}
+use Rattle.book.specs.Format.{wordLength, wordOf, typePart, isEntry}
+use Rattle.format.proofs.Bools.{inside, outside, both}
 
 module _ (body : Bytes) where
-  pub name-length-no : (1 ≤ length body → length body ≤ maxName → ⊥) → false ≡ isName body
-  unfolding isName
-  name-length-no h = rw (outside 1 maxName (length body) h)
-
-  pub name-first-no : (1 ≤ length body) × (length body ≤ maxName) → between 97 122 (getD {A = ℕ} body 0 0) ≡ false → false ≡ isName body
-  unfolding isName
-  name-first-no h e = rw (inside 1 maxName (length body) h, e)
-
-  pub name-rest : (1 ≤ length body) × (length body ≤ maxName) → between 97 122 (getD {A = ℕ} body 0 0) ≡ true → every nameByte body ≡ isName body
-  unfolding isName
-  name-rest h e = rw (inside 1 maxName (length body) h, e)
-
-  pub name-short : isName body ≡ true → length body ≤ maxName
-  unfolding isName
-  name-short h =
-      let front = both (between 1 maxName (length body) && between 97 122 (getD {A = ℕ} body 0 0)) (every nameByte body) h in
-      let size = both (between 1 maxName (length body)) (between 97 122 (getD {A = ℕ} body 0 0)) (front .0) in
-      leb-true _ _ (both (leb 1 (length body)) (leb (length body) maxName) (size .0) .1)
-
   pub entry-length-no : (1 ≤ wordLength body → wordLength body ≤ maxWord → ⊥) → false ≡ isEntry body
   unfolding isEntry
   entry-length-no h = rw (outside 1 maxWord (wordLength body) h)

@@ -1,11 +1,9 @@
 -- Laws that the proofs of several functions cite.
 pub mod Bools
-pub mod Every
 pub mod Layouts
 pub mod Simples
 pub mod Faults
-pub mod Names
-pub mod RecordLaws
+pub mod EntryLaws
 pub mod WholeRecords
 pub mod NoFault
 pub mod SmallestNumber

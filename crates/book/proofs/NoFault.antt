@@ -9,8 +9,10 @@ use lib.ListN.{length, getD}
 use borrow.Author.Tests.{not-false, eqb-true, ltb-true, leb-false}
 use Rattle.figures.specs.Limits.{maxTypes, maxEntries, maxTargets}
 use Rattle.figures.specs.Refusals.{cutShort, kindNotListed, badLayout, undeclaredType, exponentOutside, nameUsed, tooManyTargets, tooManyRecords}
-use Rattle.book.specs.Format.{Bytes, every, between, declaredAmong, isName, isEntry, isAmong, bases, simplesOf, typePart, exponents, exponentListed, kindAt, bodyAt, nextAt, bodyRules, recordRules, firstBroken}
-use Rattle.book.proofs.Bools.{outside, both}
+use Rattle.format.specs.Records.{Bytes, every, between, kindAt, bodyAt, nextAt}
+use Rattle.format.specs.Names.{isName, isAmong}
+use Rattle.book.specs.Format.{declaredAmong, isEntry, bases, simplesOf, typePart, exponents, exponentListed, bodyRules, recordRules, firstBroken}
+use Rattle.format.proofs.Bools.{outside, both}
 use Rattle.book.proofs.Faults.{every-one, every-two, name-rules, pair-rules, entry-rules, target-rules}
 use Rattle.book.proofs.WholeRecords.{isCut, cut-whole}
 

@@ -1,7 +1,8 @@
 -- Document 01's "A book to try", byte by byte, for closed examples: how a record is laid out, the two books, and words as bytes.
 use Prim.Native.Nat.{ℕ}
 use mathlib.Core.List.{List, [], _∷_, _++_}
-use Rattle.book.specs.Format.{Bytes, recordOf, entryBody}
+use Rattle.format.specs.Records.{Bytes, recordOf}
+use Rattle.book.specs.Format.{entryBody}
 
 -- The records of each kind.
 abbrev pub typeRecord : Bytes → Bytes

@@ -12,7 +12,8 @@ use borrow.Author.Tests.{lt-ltb, le-ltb, ne-eqb}
 use Rattle.figures.specs.Limits.{maxBook}
 use Rattle.figures.specs.Refusals.{bookTooLong, noTarget}
 use Rattle.pregroup.specs.Types.{Basic}
-use Rattle.book.specs.Format.{Bytes, Book, Parsed, accepted, refused, parse, nothingYet, recordsFrom, ended, nextAt, nextRules, withNext}
+use Rattle.format.specs.Records.{Bytes, nextAt}
+use Rattle.book.specs.Format.{Book, Parsed, accepted, refused, parse, nothingYet, recordsFrom, ended, nextRules, withNext}
 use Rattle.book.specs.Kept.{nextFault}
 use Rattle.book.specs.Check.{GoodUpTo, start, next, Cause, too-long, bad-record, no-target}
 use Rattle.book.proofs.NoFault.{no-fault-whole}

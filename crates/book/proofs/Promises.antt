@@ -9,7 +9,8 @@ use Rattle.figures.specs.Refusals.{Reply, noTarget}
 use Rattle.pregroup.specs.Types.{Basic}
 use Rattle.order.specs.Closed.{Closed, Listed, HasPairs, closedCount}
 use Rattle.order.proofs.PairCount.{closed-has-pairs, pairs-unique}
-use Rattle.book.specs.Format.{Bytes, Book, Parsed, accepted, refused, parse}
+use Rattle.format.specs.Records.{Bytes}
+use Rattle.book.specs.Format.{Book, Parsed, accepted, refused, parse}
 use Rattle.book.specs.Check.{answerFor, bookCheck, checkReply, Cause, too-long, bad-record, no-target, BookPromised}
 use Rattle.book.proofs.SmallestNumber.{breaks-within}
 use Rattle.book.proofs.Parsing.{end-parse, ended-some, cause-refuses, Comes, whole, stopped, parse-comes}

@@ -6,8 +6,10 @@ use mathlib.Core.List.{List, List·Memᴰ·not-nil}
 use lib.ListN.{length, take}
 use Rattle.figures.specs.Limits.{maxBook}
 use Rattle.figures.specs.Refusals.{noTarget}
-use Rattle.book.specs.Format.{Bytes, Book, nothingYet, refused, parse, ended, withNext}
-use Rattle.book.specs.Kept.{Whole, Store, Roomy, NoPairs, Sound, Keeps, Taking, Refusing, Opened}
+use Rattle.format.specs.Records.{Bytes}
+use Rattle.book.specs.Format.{Book, nothingYet, refused, parse, ended, withNext}
+use Rattle.format.specs.Records.{Whole}
+use Rattle.book.specs.Kept.{Store, Roomy, NoPairs, Sound, Keeps, Taking, Refusing, Opened}
 use Rattle.book.specs.Check.{GoodUpTo, start, next}
 use Rattle.book.specs.declared.Progress.{Progress}
 use Rattle.book.proofs.SmallestNumber.{fault-none}

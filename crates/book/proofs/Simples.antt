@@ -8,7 +8,8 @@ use mathlib.Core.List.{_∷_, map}
 use lib.ListN.{length, getD, drop, drop-of-length-le}
 use lib.Seq.{drop-cons}
 use Rattle.pregroup.specs.Types.{Simple, _⁽_⁾}
-use Rattle.book.specs.Format.{Bytes, every, exponentOf, simplesOf}
+use Rattle.format.specs.Records.{Bytes, every}
+use Rattle.book.specs.Format.{exponentOf, simplesOf}
 
 -- The simple type of the two bytes from an offset on.
 abbrev pub simpleFrom : Bytes → ℕ → Simple

@@ -6,7 +6,8 @@ use mathlib.Core.Logic.{⊎-elim}
 use mathlib.Core.Bool.{Bool, true, false, cond, true≢false}
 use mathlib.Core.List.{List, [], _∷_, List·Memᴰ, List·Memᴰ·head, List·Memᴰ·tail, List·Memᴰ·not-nil, List·Memᴰ·cases-cons}
 use Rattle.figures.specs.Refusals.{tooManyRecords}
-use Rattle.book.specs.Format.{Bytes, Book, bodyRules, recordRules, firstBroken, nextRules}
+use Rattle.format.specs.Records.{Bytes}
+use Rattle.book.specs.Format.{Book, bodyRules, recordRules, firstBroken, nextRules}
 use Rattle.book.specs.Kept.{nextFault}
 use Rattle.book.specs.Check.{Breaks}
 

@@ -9,10 +9,11 @@ use lib.Seq.{take-append-le, drop-append-le, drop-append-seam}
 use borrow.Author.Tests.{lt-leb}
 use Rattle.figures.specs.Limits.{maxBook, maxTargets}
 use Rattle.pregroup.specs.Types.{Basic}
-use Rattle.book.specs.Format.{Bytes, Book, accepted, parse, twoBytes, headLength, recordOf, kindAt, bodyAt, nextAt, bodyRules, firstBroken, add, withNext}
+use Rattle.format.specs.Records.{Bytes, twoBytes, headLength, recordOf, kindAt, bodyAt, nextAt}
+use Rattle.book.specs.Format.{Book, accepted, parse, bodyRules, firstBroken, add, withNext}
 use Rattle.book.specs.Kept.{nextFault}
 use Rattle.book.specs.Check.{GoodUpTo, start, next}
-use Rattle.book.proofs.RecordLaws.{size-first, kind-first, body-first, size-at, kind-at, body-at}
+use Rattle.format.proofs.RecordLaws.{size-first, kind-first, body-first, size-at, kind-at, body-at}
 use Rattle.book.proofs.WholeRecords.{record-whole}
 use Rattle.book.proofs.Faults.{one-yes, target-faults}
 use Rattle.book.proofs.NoFault.{no-fault-whole}

@@ -6,12 +6,12 @@ use mathlib.Core.Path.{_≡_, refl, sym, _∙_}
 use mathlib.Core.Bool.{Bool, true, false, _||_, true≢false}
 use mathlib.Core.List.{List}
 use lib.Dec.{ltb}
-use lib.ListN.{length, drop, length-drop}
-use lib.Seq.{length-take-le}
+use lib.ListN.{length}
 use borrow.Author.Tests.{lt-ltb, le-ltb}
 use Rattle.figures.specs.Refusals.{cutShort}
-use Rattle.book.proofs.Bools.{outside}
-use Rattle.book.specs.Format.{Bytes, between, twoBytes, headLength, kindAt, bodyAt, nextAt, bodyRules, recordRules, firstBroken}
+use Rattle.format.proofs.Bools.{outside}
+use Rattle.format.specs.Records.{Bytes, between, headLength, kindAt, bodyAt, nextAt}
+use Rattle.book.specs.Format.{bodyRules, recordRules, firstBroken}
 
 or-true : (b : Bool) → b || true ≡ true
 or-true true = refl
@@ -58,7 +58,3 @@ module _ (bytes : Bytes) (at : ℕ) (names : List Bytes) (entries : ℕ) (target
   pub record-whole : {kind : ℕ} → nextAt bytes at ≤ length bytes → kindAt bytes at ≡ kind → firstBroken (bodyRules kind (bodyAt bytes at) names entries targets) ≡ firstBroken (recordRules bytes at names entries targets)
   unfolding recordRules firstBroken isCut
   record-whole h k = rw (not-cut bytes at h, k)
-
--- The body of a whole record is as long as its head says.
-pub whole-length : (bytes : Bytes) (at : ℕ) → nextAt bytes at ≤ length bytes → length (bodyAt bytes at) ≡ twoBytes bytes at
-whole-length bytes at h = length-take-le (twoBytes bytes at) (drop (at + headLength) bytes) (omega (arith, length-drop (at + headLength) bytes))

@@ -9,7 +9,8 @@ use lib.ListN.{length}
 use Rattle.figures.specs.Limits.{maxBook}
 use Rattle.figures.specs.Refusals.{Reply, refusal, bookTooLong, noTarget}
 use Rattle.order.specs.Closed.{Closed, Listed, HasPairs, closedCount}
-use Rattle.book.specs.Format.{Bytes, Book, Parsed, accepted, refused, parse, nothingYet, nextAt, nextRules, withNext}
+use Rattle.format.specs.Records.{Bytes, nextAt}
+use Rattle.book.specs.Format.{Book, Parsed, accepted, refused, parse, nothingYet, nextRules, withNext}
 use Rattle.book.specs.declared.BookCheck.{BookCheck}
 use Rattle.book.specs.declared.BookCheck.the-variants.{Accepted, Refused}
 

@@ -1,19 +1,18 @@
 -- Document 01, "The book's bytes" and, of "When the screen says no", causes 1 to 10: what any list of bytes is as a book. The rules for a
 -- record stand with their numbers in `bodyRules` and `recordRules`; within a record the smallest number counts, and the earliest bad record
 -- decides. This file alone knows the byte layout.
-use Prim.Native.Nat.{ℕ, zero, suc, _+_, _-_, _*_, _/_, _%_}
-use mathlib.Core.Bool.{Bool, true, false, cond, not, _&&_, _||_}
+use Prim.Native.Nat.{ℕ, zero, suc, _+_, _-_, _*_, _%_}
+use mathlib.Core.Bool.{Bool, false, cond, not, _&&_, _||_}
 use mathlib.Core.List.{List, [], _∷_, _++_, map}
 use lib.Dec.{leb, ltb, eqb}
 use lib.IntN.{ℤ, pos, negsuc}
 use lib.ListN.{length, getD, take, drop}
-use Rattle.figures.specs.Limits.{maxBook, maxTypes, maxEntries, maxTargets, maxName, maxWord, maxEntrySimples, maxExponent}
+use Rattle.figures.specs.Limits.{maxBook, maxTypes, maxEntries, maxTargets, maxWord, maxEntrySimples, maxExponent}
 use Rattle.figures.specs.Refusals.{bookTooLong, cutShort, kindNotListed, badLayout, undeclaredType, exponentOutside, nameUsed, tooManyTargets, tooManyRecords, noTarget}
 use Rattle.pregroup.specs.Types.{Basic, Simple, PregroupType, _⁽_⁾}
 use Rattle.order.specs.Closed.{Pair}
-
-abbrev pub Bytes : Type 0
-Bytes = List ℕ
+use Rattle.format.specs.Records.{Bytes, every, between, headLength, kindAt, bodyAt, nextAt}
+use Rattle.format.specs.Names.{isName, isAmong}
 
 -- An entry (the lexical entry of a pregroup lexicon): a word with one of its types.
 pub record Entry : Type 0 where
@@ -33,48 +32,9 @@ pub data Parsed : Type 0 where
   accepted : Book → Parsed
   refused : ℕ → ℕ → Parsed
 
--- Every one of a list passes the test.
-unfoldable pub every {ℓ} : {A : Type ℓ} → (A → Bool) → List A → Bool
-every test [] = true
-every test (x ∷ xs) = test x && every test xs
-
-abbrev pub between : ℕ → ℕ → ℕ → Bool
-between low high n = leb low n && leb n high
-
--- Records: a two-byte body length, a two-byte kind, the body. Two-byte numbers are little-endian.
-
-unfoldable pub twoBytes : Bytes → ℕ → ℕ
-twoBytes bytes at = getD {A = ℕ} bytes at 0 + 256 * getD {A = ℕ} bytes (at + 1) 0
-
--- The bytes of a record's head.
-abbrev pub headLength : ℕ
-headLength = 4
-
--- A record written out.
-abbrev pub recordOf : ℕ → Bytes → Bytes
-recordOf kind body = length body % 256 ∷ length body / 256 ∷ kind % 256 ∷ kind / 256 ∷ body
-
-abbrev pub kindAt : Bytes → ℕ → ℕ
-kindAt bytes at = twoBytes bytes (at + 2)
-
-abbrev pub bodyAt : Bytes → ℕ → Bytes
-bodyAt bytes at = take (twoBytes bytes at) (drop (at + headLength) bytes)
-
--- Where the record behind the one at this offset starts.
-abbrev pub nextAt : Bytes → ℕ → ℕ
-nextAt bytes at = at + headLength + twoBytes bytes at
-
 -- Of four things the one that goes with a listed kind: 1 basic type, 2 order pair, 3 entry, 4 target.
 abbrev pub byKind {ℓ} : {A : Type ℓ} → ℕ → A → A → A → A → A
 byKind kind basic-type order-pair entry target = cond (eqb kind 1) basic-type (cond (eqb kind 2) order-pair (cond (eqb kind 3) entry target))
-
--- Kind 1, a basic type: its name, 1 to 15 bytes, a–z and 0–9, a letter first.
-
-unfoldable pub nameByte : ℕ → Bool
-nameByte byte = between 97 122 byte || between 48 57 byte
-
-unfoldable pub isName : Bytes → Bool
-isName body = between 1 maxName (length body) && between 97 122 (getD {A = ℕ} body 0 0) && every nameByte body
 
 -- Kind 3, an entry: the word's length (1 to 31), the word (bytes 33 to 126), then 0 to 12 simple types, each a type number and an
 -- exponent, a byte in two's complement.
@@ -126,15 +86,6 @@ declaredAmong types number = ltb number types
 unfoldable pub exponentListed : ℤ → Bool
 exponentListed (pos n) = leb n maxExponent
 exponentListed (negsuc n) = ltb n maxExponent
-
-unfoldable pub sameBytes : Bytes → Bytes → Bool
-sameBytes [] [] = true
-sameBytes [] (y ∷ ys) = false
-sameBytes (x ∷ xs) [] = false
-sameBytes (x ∷ xs) (y ∷ ys) = eqb x y && sameBytes xs ys
-
-abbrev pub isAmong : List Bytes → Bytes → Bool
-isAmong names body = not (every (λ name. not (sameBytes body name)) names)
 
 -- The rules for a record that is there whole, each a number and whether the record is refused with it. Of the records before it they look at
 -- the names of the basic types, the number of entries, and that of targets.

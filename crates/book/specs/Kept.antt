@@ -9,21 +9,13 @@ use Rattle.pregroup.specs.Held.{InRows}
 use Rattle.order.specs.Closed.{Within, Listed}
 use Rattle.figures.specs.Limits.{maxTypes, maxEntries, maxTargets, maxBook}
 use Rattle.order.specs.Rows.{Hold}
-use Rattle.book.specs.Format.{Bytes, Book, accepted, refused, parse, bodyAt, nextAt, every, declaredAmong, bases, exponents, exponentListed, simplesOf, typePart, isEntry, entryOf, firstBroken, nextRules, withNext}
+use Rattle.format.specs.Records.{bodiesAt, Whole, Bytes, bodyAt, nextAt, every}
+use Rattle.book.specs.Format.{Book, accepted, refused, parse, declaredAmong, bases, exponents, exponentListed, simplesOf, typePart, isEntry, entryOf, firstBroken, nextRules, withNext}
 use Rattle.book.specs.declared.Progress.{Progress}
 use Rattle.book.specs.declared.Taken.{Taken}
 use Rattle.book.specs.declared.Taken.the-variants.{Next, Bad}
 use Rattle.book.specs.declared.Scan.{Scan}
 use Rattle.book.specs.declared.Scan.the-variants.{Accepted, Refused}
-
--- The bodies of the first records whose offsets are kept.
-abbrev pub bodiesAt : Bytes → List ℕ → ℕ → List Bytes
-bodiesAt bytes offsets count = map (bodyAt bytes) (take count offsets)
-
--- The first offsets are those of records that are there whole.
-pub record Whole (bytes : Bytes) (offsets : List ℕ) (count : ℕ) : Type 0 where
-  pub room : count ≤ length offsets
-  pub whole : (i : ℕ) → i < count → nextAt bytes (getD {A = ℕ} offsets i 0) ≤ length bytes
 
 -- A body is an entry's, with declared types and with exponents from −8 to 8.
 pub record Formed (types : ℕ) (body : Bytes) : Type 0 where

@@ -6,7 +6,7 @@ ghost use mathlib.Core.Path.{_≡_};
 ghost use Prim.Native.Nat.{_≤_};
 ghost use lib.ListN.{length};
 ghost use Rattle.book.specs.Format.{recordRules, firstBroken};
-ghost use Rattle.book.specs.Kept.{bodiesAt, Whole};
+ghost use Rattle.format.specs.Records.{bodiesAt, Whole};
 
 // A reader at an offset of the book.
 pub fn reader_at<'a>(book: &'a [u8], at: usize) -> RecordReader<'a>

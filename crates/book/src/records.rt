@@ -2,14 +2,14 @@
 use crate::Progress;
 use crate::Scan;
 use crate::Taken;
-use crate::layout::HEAD;
-use crate::layout::body_at;
 use crate::record_reader::fault_at;
 use bytewise::widths::two_bytes;
 use bytewise::widths::wide_byte;
 use figures::limits::MAX_BOOK;
 use figures::refusals::BOOK_TOO_LONG;
 use figures::refusals::NO_TARGET;
+use format::layout::HEAD;
+use format::layout::body_at;
 ghost use Prim.Native.Nat.{_+_, _<_};
 ghost use Rattle.book.specs.Kept.{store, Roomy, NoPairs, Sound, TakenSays, ScanSays};
 

@@ -1,10 +1,7 @@
 // The rules for one record: which of the numbers 2 to 9 it is refused with, the smallest, or 0. The functions go by the record's kind,
 // each over the record's body as a part of the book.
-use crate::layout::HEAD;
-use crate::layout::body_at;
 use crate::layout::is_entry;
 use crate::layout::is_exponent;
-use crate::layout::is_name;
 use crate::layout::type_part;
 use bytewise::compare::same;
 use bytewise::widths::two_bytes;
@@ -21,12 +18,17 @@ use figures::refusals::NAME_USED;
 use figures::refusals::TOO_MANY_RECORDS;
 use figures::refusals::TOO_MANY_TARGETS;
 use figures::refusals::UNDECLARED_TYPE;
+use format::layout::HEAD;
+use format::layout::body_at;
+use format::names::is_name;
 ghost use mathlib.Core.Path.{_≡_};
 ghost use mathlib.Core.List.{List};
 ghost use Prim.Native.Nat.{ℕ, _+_, _%_, _≤_, _<_};
 ghost use lib.ListN.{length};
-ghost use Rattle.book.specs.Format.{Bytes, every, simplesOf, bases, declaredAmong, exponents, exponentListed, isAmong, bodyRules, recordRules, firstBroken};
-ghost use Rattle.book.specs.Kept.{bodiesAt, Whole};
+ghost use Rattle.format.specs.Records.{Bytes, every};
+ghost use Rattle.format.specs.Names.{isAmong};
+ghost use Rattle.book.specs.Format.{simplesOf, bases, declaredAmong, exponents, exponentListed, bodyRules, recordRules, firstBroken};
+ghost use Rattle.format.specs.Records.{bodiesAt, Whole};
 
 // Whether all type numbers of a type are below the number of basic types.
 fn all_declared(part: &[u8], types: usize) -> bool

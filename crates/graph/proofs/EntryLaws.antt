@@ -10,7 +10,8 @@ use lib.ListN.{length, getD, set, length-set}
 use lib.Seq.{getD-set-same}
 use borrow.Author.Tests.{ne-eqb}
 use Rattle.linking.specs.Reading.{NumberedEntry}
-use Rattle.book.specs.Format.{Bytes, simplesOf, bodyAt, typePart}
+use Rattle.format.specs.Records.{Bytes, bodyAt}
+use Rattle.book.specs.Format.{simplesOf, typePart}
 use Rattle.book.proofs.Layouts.{entry-shape}
 use Rattle.lookup.specs.Entries.{simplesIn}
 use Rattle.lookup.specs.Threads.{Thread}

@@ -7,7 +7,7 @@ use mathlib.Core.List.{List, [], _∷_}
 use lib.ListN.{length, getD}
 use Rattle.pregroup.specs.Types.{Basic}
 use Rattle.linking.specs.Reading.{NumberedEntry, Words, targetAt}
-use Rattle.book.specs.Format.{Bytes}
+use Rattle.format.specs.Records.{Bytes}
 use Rattle.lookup.specs.Entries.{simplesOfWords}
 use Rattle.lookup.specs.Threads.{Thread, Threads, none, word}
 use Rattle.lookup.proofs.ThreadLaws.{simples-cons}

@@ -10,7 +10,8 @@ use lib.ListN.{length, getD, drop}
 use borrow.Author.Tests.{lt-ltb, le-ltb, ltb-true}
 use Rattle.pregroup.specs.Types.{Simple}
 use Rattle.pregroup.specs.Held.{bias}
-use Rattle.book.specs.Format.{Bytes, every, exponents, exponentOf, exponentListed, simplesOf}
+use Rattle.format.specs.Records.{Bytes, every}
+use Rattle.book.specs.Format.{exponents, exponentOf, exponentListed, simplesOf}
 use Rattle.book.proofs.Simples.{simpleFrom, simples-stop, simples-pass}
 use Rattle.graph.specs.Cells.{ExponentsListed}
 

@@ -9,7 +9,8 @@ use lib.ListN.{length, getD, drop, set, length-set, drop-of-length-le}
 use lib.Seq.{getD-set-same, getD-set-other}
 use Rattle.pregroup.specs.Types.{PregroupType}
 use Rattle.pregroup.specs.Held.{held}
-use Rattle.book.specs.Format.{Bytes, simplesOf, exponentOf, exponentListed}
+use Rattle.format.specs.Records.{Bytes}
+use Rattle.book.specs.Format.{simplesOf, exponentOf, exponentListed}
 use Rattle.book.proofs.Simples.{simpleFrom, simples-step}
 use Rattle.graph.specs.Graph.{Graph, Labelled, labelOf, Boundary, Spells, ended, more}
 use Rattle.figures.specs.Limits.{maxNodes}

@@ -7,7 +7,8 @@ use mathlib.Core.List.{List, []}
 use lib.ListN.{length, getD}
 use Rattle.figures.specs.Limits.{maxNodes, maxEntries}
 use Rattle.linking.specs.Reading.{NumberedEntry}
-use Rattle.book.specs.Format.{Bytes, bodyAt, typePart, simplesOf, every, exponents, exponentListed}
+use Rattle.format.specs.Records.{Bytes, bodyAt, every}
+use Rattle.book.specs.Format.{typePart, simplesOf, exponents, exponentListed}
 use Rattle.lookup.specs.Entries.{Entries, simplesIn}
 use Rattle.lookup.specs.Threads.{Thread}
 use Rattle.graph.specs.Graph.{Graph, graph, Boundary, Spells}

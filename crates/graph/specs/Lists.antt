@@ -8,7 +8,7 @@ use Rattle.figures.specs.Limits.{maxWords, maxLineSimples, maxTargets, maxNodes
 use Rattle.pregroup.specs.Types.{Basic, _⁽_⁾}
 use Rattle.pregroup.specs.Held.{held}
 use Rattle.linking.specs.Reading.{NumberedEntry, Words, targetAt}
-use Rattle.book.specs.Format.{Bytes}
+use Rattle.format.specs.Records.{Bytes}
 use Rattle.lookup.specs.Entries.{simplesIn, simplesOfWords}
 use Rattle.lookup.specs.Threads.{Thread, Threads}
 use Rattle.graph.specs.Graph.{Graph, graph, Upward}

@@ -1,9 +1,9 @@
 // Lays a line out whose words are looked up: each word a boundary, then the simple types of its entries, and behind the last word the targets.
 use crate::Place;
 use book::layout::LEAST_EXPONENT;
-use book::layout::body_at;
 use book::layout::type_part;
 use bytewise::widths::wide_number;
+use format::layout::body_at;
 use lookup::find::tally;
 use pregroup::EXPONENT_BIAS;
 use pregroup::hold;

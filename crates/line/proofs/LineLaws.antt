@@ -15,7 +15,8 @@ use borrow.Author.Tests.{eq-eqb, ne-eqb, lt-ltb, le-ltb}
 use Rattle.figures.specs.Limits.{maxWord, maxWords, maxEntries, maxEntrySimples, maxLineSimples}
 use Rattle.figures.specs.Refusals.{unknownWord, tooManySimples}
 use Rattle.linking.specs.Reading.{Words}
-use Rattle.book.specs.Format.{Bytes, Book}
+use Rattle.format.specs.Records.{Bytes}
+use Rattle.book.specs.Format.{Book}
 use Rattle.lookup.specs.Entries.{Entries, entriesKept, simplesIn, simplesOfWords}
 use Rattle.lookup.specs.Threads.{Found as FoundWord, Finds, Thread, Threads, none as none-threaded, word as next-thread, Tallied}
 use Rattle.lookup.proofs.ThreadLaws.{simples-cons, thread-next, thread-end}

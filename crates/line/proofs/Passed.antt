@@ -15,7 +15,8 @@ use Rattle.figures.specs.Limits.{maxWord, maxWords, maxEntrySimples, maxLineSim
 use Rattle.figures.specs.Refusals.{badLineByte, badWord, unknownWord, tooManySimples}
 use Rattle.linking.specs.Reading.{NumberedEntry, Words, Choice, take, empty as empty-choice}
 use Rattle.linking.specs.Ascending.{empty, more, AllAscending}
-use Rattle.book.specs.Format.{Bytes, Book, Entry}
+use Rattle.format.specs.Records.{Bytes}
+use Rattle.book.specs.Format.{Book, Entry}
 use Rattle.book.proofs.Accepted.{AllShort}
 use Rattle.line.specs.Passing.{AllKnown, no-word, known, Brief, AllBrief, no-words, brief}
 use Rattle.line.specs.LineWords.{Word, wordsOf}

@@ -13,7 +13,8 @@ use Rattle.bits.proofs.Cases.{some-same}
 use Rattle.figures.specs.Limits.{maxLineSimples}
 use Rattle.figures.specs.Refusals.{badLineByte, badWord, unknownWord, tooManySimples}
 use Rattle.linking.specs.Reading.{NumberedEntry, Words}
-use Rattle.book.specs.Format.{Bytes, Book}
+use Rattle.format.specs.Records.{Bytes}
+use Rattle.book.specs.Format.{Book}
 use Rattle.lookup.specs.Entries.{simplesOfWords}
 use Rattle.lookup.proofs.ExactLaws.{finds-all, finds-one}
 use Rattle.line.specs.LineWords.{Word, wordsOf}

@@ -8,8 +8,10 @@ use lib.Dec.{eqb, ltb}
 use lib.ListN.{length, getD, drop, length-append, length-map}
 use Rattle.figures.specs.Limits.{maxBook}
 use Rattle.figures.specs.Refusals.{bookTooLong, cutShort, noTarget}
-use Rattle.book.specs.Format.{Bytes, Book, Entry, Parsed, accepted, refused, every, between, headLength, twoBytes, kindAt, bodyAt, nextAt, byKind, recordOf, entryBody, isEntry, entryOf, bodyRules, recordRules, firstBroken, add, nextRules, withNext, ended, recordsFrom, parse}
-use Rattle.book.proofs.RecordLaws.{size-first, kind-first, body-first, rest-first, size-at, kind-at, body-at, rest-at, word-part, type-part}
+use Rattle.format.specs.Records.{Bytes, every, between, headLength, twoBytes, kindAt, bodyAt, nextAt, recordOf}
+use Rattle.book.specs.Format.{Book, Entry, Parsed, accepted, refused, byKind, entryBody, isEntry, entryOf, bodyRules, recordRules, firstBroken, add, nextRules, withNext, ended, recordsFrom, parse}
+use Rattle.format.proofs.RecordLaws.{size-first, kind-first, body-first, rest-first, size-at, kind-at, body-at, rest-at}
+use Rattle.book.proofs.EntryLaws.{word-part, type-part}
 use Rattle.lookup.specs.Capitals.{smallBytes, DifferInCase, same-rest, same-record, respelt}
 use Rattle.lookup.proofs.CapitalLaws.{small-every, same-exactly, same-length}
 use Rattle.line.proofs.SmallLines.{smallEntry, smallBook}

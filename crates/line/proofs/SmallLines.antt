@@ -7,7 +7,8 @@ use mathlib.Core.List.{List, [], _∷_, map}
 use lib.Dec.{eqb}
 use lib.ListN.{length-map}
 use Rattle.linking.specs.Reading.{NumberedEntry, Words}
-use Rattle.book.specs.Format.{Bytes, Book, Entry}
+use Rattle.format.specs.Records.{Bytes}
+use Rattle.book.specs.Format.{Book, Entry}
 use Rattle.lookup.specs.Capitals.{small, smallBytes}
 use Rattle.line.specs.LineWords.{Word, putBefore, wordsFrom, wordsOf}
 use Rattle.line.specs.LineFaults.{entriesOf, byteFault, wordFault, entryFault, lineCheck}

@@ -11,7 +11,7 @@ use lib.Seq.{getD-set-same, getD-set-other, length-take-le}
 use borrow.Author.Tests.{lt-ltb, le-ltb, le-leb, lt-leb}
 use Rattle.figures.specs.Limits.{maxWord, maxWords}
 use Rattle.figures.specs.Refusals.{badWord}
-use Rattle.book.specs.Format.{Bytes}
+use Rattle.format.specs.Records.{Bytes}
 use Rattle.line.specs.LineWords.{Word, wordsOf}
 use Rattle.line.specs.LineFaults.{byteFault, wordFault}
 use Rattle.line.specs.Split.{wordAt, wordsKept, Skipped, Lying, SplitInto, Stopped, at-word}

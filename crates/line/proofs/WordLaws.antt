@@ -13,7 +13,7 @@ use lib.Seq.{drop-cons}
 use borrow.Author.Tests.{eq-eqb, ne-eqb}
 use Rattle.bytewise.specs.First.{First}
 use Rattle.bytewise.proofs.Searching.{Passed}
-use Rattle.book.specs.Format.{Bytes, between}
+use Rattle.format.specs.Records.{Bytes, between}
 use Rattle.line.specs.LineWords.{Word, putBefore, wordsFrom}
 use Rattle.line.specs.LineFaults.{byteFault}
 use Rattle.line.specs.Split.{wordAt}

@@ -6,7 +6,8 @@ use mathlib.Core.Option.{none, some}
 use lib.ListN.{length}
 use Rattle.figures.specs.Limits.{maxWords, maxLineSimples}
 use Rattle.figures.specs.Refusals.{unknownWord, tooManySimples}
-use Rattle.book.specs.Format.{Bytes, Book}
+use Rattle.format.specs.Records.{Bytes}
+use Rattle.book.specs.Format.{Book}
 use Rattle.lookup.specs.Entries.{simplesOfWords}
 use Rattle.lookup.specs.Threads.{Threads}
 use Rattle.line.specs.LineFaults.{entriesOfLine, entryFault, passed, stopped, lineCheck}

@@ -7,7 +7,8 @@ use mathlib.Core.Option.{none}
 use Rattle.figures.specs.Limits.{maxLineSimples}
 use Rattle.figures.specs.Refusals.{unknownWord, tooManySimples}
 use Rattle.linking.specs.Reading.{NumberedEntry, Words}
-use Rattle.book.specs.Format.{Bytes, Book}
+use Rattle.format.specs.Records.{Bytes}
+use Rattle.book.specs.Format.{Book}
 use Rattle.lookup.specs.Found.{FindsAll}
 use Rattle.lookup.specs.Entries.{simplesOfWords}
 use Rattle.line.specs.LineWords.{Word, wordsOf}

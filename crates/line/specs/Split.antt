@@ -6,7 +6,7 @@ use mathlib.Core.Option.{none, some}
 use lib.ListN.{length, getD, take, drop}
 use Rattle.figures.specs.Limits.{maxWord, maxWords}
 use Rattle.figures.specs.Refusals.{badLineByte, badWord}
-use Rattle.book.specs.Format.{Bytes}
+use Rattle.format.specs.Records.{Bytes}
 use Rattle.line.specs.LineWords.{Word, wordsFrom, wordsOf}
 use Rattle.line.specs.LineFaults.{byteFault, wordFault}
 use Rattle.line.specs.declared.CheckedLine.{CheckedLine}

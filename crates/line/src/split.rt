@@ -12,7 +12,7 @@ ghost use Prim.Native.Nat.{_≤_};
 ghost use lib.Dec.{ltb};
 ghost use lib.ListN.{length};
 ghost use Rattle.figures.specs.Limits.{maxWords};
-ghost use Rattle.book.specs.Format.{between};
+ghost use Rattle.format.specs.Records.{between};
 ghost use Rattle.line.specs.LineFaults.{byteFault};
 ghost use Rattle.line.specs.Split.{Skipped, SplitSays};
 

@@ -12,7 +12,8 @@ use lib.Seq.{take-append-seam, drop-append-add, getD-append-seam, take-length}
 use Rattle.pregroup.specs.Types.{PregroupType}
 use Rattle.linking.specs.Reading.{NumberedEntry, Words, Choice, empty, IsFirst, answer}
 use Rattle.linking.specs.Reading.{take as chosen-entry}
-use Rattle.book.specs.Format.{Bytes, Entry, Book}
+use Rattle.format.specs.Records.{Bytes}
+use Rattle.book.specs.Format.{Entry, Book}
 use Rattle.line.specs.LineWords.{Word, wordsOf}
 use Rattle.line.specs.LineFaults.{entriesOf}
 use Rattle.lookup.specs.Entries.{entriesFrom}

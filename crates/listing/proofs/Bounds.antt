@@ -10,8 +10,9 @@ use borrow.Author.Tests.{lt-ltb, le-ltb}
 use Rattle.figures.specs.Limits.{maxBook, maxEntrySimples}
 use Rattle.bits.proofs.Cases.{less-or-not}
 use Rattle.pregroup.specs.Types.{Simple}
-use Rattle.book.specs.Format.{Bytes, Entry, bodyAt, typePart, twoBytes, exponentOf, simplesOf}
-use Rattle.book.specs.Kept.{bodiesAt}
+use Rattle.format.specs.Records.{Bytes, bodyAt, twoBytes}
+use Rattle.book.specs.Format.{Entry, typePart, exponentOf, simplesOf}
+use Rattle.format.specs.Records.{bodiesAt}
 use Rattle.book.proofs.Layouts.{entry-shape}
 use Rattle.line.specs.LineWords.{wordsOf}
 use Rattle.lookup.specs.Entries.{entriesKept}

@@ -10,7 +10,8 @@ use lib.Dec.{ltb}
 use lib.ListN.{length, getD, length-append, List·getD-append}
 use borrow.Author.Tests.{lt-ltb, le-ltb}
 use Rattle.bits.proofs.Cases.{less-or-not}
-use Rattle.book.specs.Format.{Bytes, exponentOf}
+use Rattle.format.specs.Records.{Bytes}
+use Rattle.book.specs.Format.{exponentOf}
 use Rattle.listing.specs.Text.{lastDigits, decimal, signed}
 use Rattle.listing.specs.Placed.{Placed}
 use Rattle.listing.proofs.Placing.{placed-append}

@@ -2,7 +2,7 @@
 use Prim.Native.Nat.{ℕ}
 use mathlib.Core.Path.{_≡_, sym}
 use mathlib.Core.List.{List, [], _∷_, _++_, append-assoc}
-use Rattle.book.specs.Format.{Bytes}
+use Rattle.format.specs.Records.{Bytes}
 use Rattle.listing.specs.Text.{row}
 use Rattle.listing.specs.Placed.{Countable, Placed}
 use Rattle.listing.proofs.Placing.{countable-front, countable-back, placed-append}

@@ -11,7 +11,8 @@ use mathlib.Core.Option.{none}
 use lib.ListN.{length, getD, length-append}
 use Rattle.figures.specs.Limits.{maxEntrySimples}
 use Rattle.pregroup.specs.Types.{Simple, PregroupType}
-use Rattle.book.specs.Format.{Bytes, Entry}
+use Rattle.format.specs.Records.{Bytes}
+use Rattle.book.specs.Format.{Entry}
 use Rattle.line.specs.LineWords.{Word}
 use Rattle.line.specs.LineFaults.{wordFault}
 use Rattle.line.proofs.Passed.{word-fine}

@@ -14,8 +14,9 @@ use Rattle.bits.proofs.Cases.{less-or-not}
 use Rattle.pregroup.specs.Types.{Basic, Simple, PregroupType}
 use Rattle.pregroup.specs.Order.{Relation}
 use Rattle.linking.specs.Linking.{IsLinking}
-use Rattle.book.specs.Format.{Bytes, Entry, every, exponents, exponentListed}
-use Rattle.book.proofs.Bools.{both}
+use Rattle.format.specs.Records.{Bytes, every}
+use Rattle.book.specs.Format.{Entry, exponents, exponentListed}
+use Rattle.format.proofs.Bools.{both}
 use Rattle.book.proofs.Accepted.{BookDeclares, accepted-declares}
 use Rattle.line.specs.LineWords.{wordsOf}
 use Rattle.line.proofs.Passed.{Passing, line-passing, words-few}

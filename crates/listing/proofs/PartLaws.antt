@@ -6,9 +6,10 @@ use mathlib.Core.Path.{_≡_, refl, sym, ap, _∙_}
 use mathlib.Core.List.{List, [], _∷_}
 use lib.ListN.{length, getD, take, drop, length-drop, List·getD-eq-default, drop-of-length-le}
 use lib.Seq.{take-all, take-nil}
-use Rattle.book.specs.Format.{Bytes, Entry, bodyAt, typePart, entryOf, simplesOf}
-use Rattle.book.specs.Kept.{Whole, bodiesAt}
-use Rattle.book.proofs.Names.{bodies-length, bodies-at}
+use Rattle.format.specs.Records.{Bytes, bodyAt}
+use Rattle.book.specs.Format.{Entry, typePart, entryOf, simplesOf}
+use Rattle.format.specs.Records.{Whole, bodiesAt}
+use Rattle.format.proofs.NameLaws.{bodies-length, bodies-at}
 use Rattle.book.proofs.Layouts.{entry-shape}
 use Rattle.lookup.specs.Entries.{Entries, entriesKept}
 use Rattle.lookup.proofs.EntryLaws.{all-length, all-at}

@@ -7,7 +7,7 @@ use mathlib.Core.List.{[], _∷_, _++_}
 use native.Mathlib.Numerals.{add-one}
 use lib.ListN.{length, drop, getD, set, length-append, drop-of-length-le}
 use lib.Seq.{sets, length-sets, drop-cons}
-use Rattle.book.specs.Format.{Bytes}
+use Rattle.format.specs.Records.{Bytes}
 use Rattle.listing.specs.Placed.{Countable, Placed}
 
 pub sets-append : (xs ys l : Bytes) (i j : ℕ) → j ≡ i + length xs → sets l i (xs ++ ys) ≡ sets (sets l i xs) j ys

@@ -5,8 +5,10 @@ use mathlib.Core.Path.{_≡_, refl, ap, _∙_}
 use mathlib.Core.List.{List, _++_}
 use lib.ListN.{length, getD, drop}
 use lib.Seq.{sets-eq}
-use Rattle.book.specs.Format.{Bytes, Entry, Book, refused, parse}
-use Rattle.book.specs.Kept.{Store, Opened, bodiesAt}
+use Rattle.format.specs.Records.{Bytes}
+use Rattle.book.specs.Format.{Entry, Book, refused, parse}
+use Rattle.format.specs.Records.{bodiesAt}
+use Rattle.book.specs.Kept.{Store, Opened}
 use Rattle.book.proofs.Parsing.{accepted-short}
 use Rattle.line.specs.LineWords.{Word, wordsOf}
 use Rattle.lookup.specs.Entries.{entriesKept}

@@ -8,7 +8,8 @@ use lib.IntN.{ℤ}
 use lib.ListN.{length, getD, drop, length-append, drop-of-length-le}
 use lib.Seq.{drop-cons}
 use Rattle.pregroup.specs.Types.{PregroupType}
-use Rattle.book.specs.Format.{Bytes, Entry, exponentOf, simplesOf}
+use Rattle.format.specs.Records.{Bytes}
+use Rattle.book.specs.Format.{Entry, exponentOf, simplesOf}
 use Rattle.book.proofs.Simples.{simples-step}
 use Rattle.line.specs.LineWords.{wordsOf}
 use Rattle.line.specs.Split.{wordAt, SplitInto}

@@ -8,7 +8,8 @@ use lib.ListN.{length, getD, take, drop}
 use Rattle.figures.specs.Limits.{maxWords, maxString}
 use Rattle.figures.specs.Refusals.{badLineByte, badWord}
 use Rattle.pregroup.specs.Types.{PregroupType}
-use Rattle.book.specs.Format.{Bytes, Entry, Parsed, accepted, refused, parse}
+use Rattle.format.specs.Records.{Bytes}
+use Rattle.book.specs.Format.{Entry, Parsed, accepted, refused, parse}
 use Rattle.line.specs.LineWords.{Word, wordsOf}
 use Rattle.line.specs.LineFaults.{byteFault, wordFault}
 use Rattle.reader.specs.declared.LineAnswer.{LineAnswer}

@@ -4,8 +4,9 @@ use mathlib.Core.Path.{_≡_}
 use mathlib.Core.List.{List}
 use lib.ListN.{length}
 use Rattle.figures.specs.Limits.{maxBook, maxWords}
-use Rattle.book.specs.Format.{Bytes, Entry, simplesOf}
-use Rattle.book.specs.Kept.{Whole}
+use Rattle.format.specs.Records.{Bytes}
+use Rattle.book.specs.Format.{Entry, simplesOf}
+use Rattle.format.specs.Records.{Whole}
 use Rattle.line.specs.Split.{SplitInto}
 use Rattle.lookup.specs.Entries.{Entries}
 use Rattle.listing.specs.Listing.{typeOf}

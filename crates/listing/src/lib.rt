@@ -18,7 +18,7 @@ use reader::LineAnswer;
 use rows::put_reading;
 use rows::put_refusal_row;
 ghost use Prim.Native.Nat.{_≤_};
-ghost use Rattle.book.specs.Kept.{bodiesAt};
+ghost use Rattle.format.specs.Records.{bodiesAt};
 ghost use Rattle.line.specs.LineWords.{wordsOf};
 ghost use Rattle.lookup.specs.Entries.{entriesKept};
 ghost use Rattle.listing.specs.Listing.{refusalRow, answerRows, lineRows, listed, listing, Renders};

@@ -1,12 +1,12 @@
 // What the rows of a listing show, found where it stands: names and types in the book, counted values in the answer. Nothing is taken on
 // trust: what is not there counts as empty, or as 0.
-use book::layout::body_at;
 use book::layout::type_part;
 use bytewise::widths::wide_number;
+use format::layout::body_at;
 ghost use mathlib.Core.Path.{_≡_};
 ghost use mathlib.Core.List.{[]};
 ghost use lib.ListN.{getD};
-ghost use Rattle.book.specs.Kept.{Whole, bodiesAt};
+ghost use Rattle.format.specs.Records.{Whole, bodiesAt};
 ghost use Rattle.lookup.specs.Entries.{Entries, entriesKept};
 ghost use Rattle.listing.specs.Listing.{counted as Listing·counted};
 ghost use Rattle.listing.specs.Parts.{HasType};

@@ -11,7 +11,7 @@ ghost use mathlib.Core.Path.{_≡_};
 ghost use Prim.Native.Nat.{_%_, _≤_};
 ghost use lib.ListN.{length};
 ghost use Rattle.book.specs.Format.{exponentOf, simplesOf};
-ghost use Rattle.book.specs.Kept.{Whole, bodiesAt};
+ghost use Rattle.format.specs.Records.{Whole, bodiesAt};
 ghost use Rattle.line.specs.LineWords.{wordsOf};
 ghost use Rattle.lookup.specs.Entries.{entriesKept};
 ghost use Rattle.listing.specs.Listing.{firstRow, wordRow, typeRow, refusalRow, wordRows, typeRows, joined, readingRows};

@@ -10,9 +10,9 @@ use mathlib.Core.List.{[], _∷_}
 use lib.Dec.{eqb}
 use lib.ListN.{length, length-map}
 use borrow.Author.Tests.{ne-eqb}
-use Rattle.book.specs.Format.{Bytes, between, every, sameBytes}
-use Rattle.book.proofs.Bools.{both, inside, outside}
-use Rattle.book.proofs.Names.{same-equal, equal-same}
+use Rattle.format.specs.Records.{Bytes, between, every, sameBytes}
+use Rattle.format.proofs.Bools.{both, inside, outside}
+use Rattle.format.proofs.NameLaws.{same-equal, equal-same}
 use Rattle.lookup.specs.Capitals.{isCapital, small, smallBytes, sameWord}
 
 pub small-capital : (b : ℕ) → 65 ≤ b → b ≤ 90 → small b ≡ b + 32

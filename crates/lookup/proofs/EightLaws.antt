@@ -8,7 +8,7 @@ use mathlib.Core.Bool.{Bool, true, false, cond, _&&_}
 use lib.Bits.{bitAnd, bitXor, and-le-r, and-lt, xor-lt, and-block, xor-block}
 use lib.Dec.{eqb}
 use borrow.Author.Tests.{eqb-true}
-use Rattle.book.proofs.Bools.{both}
+use Rattle.format.proofs.Bools.{both}
 use Rattle.lookup.specs.Capitals.{isCapital, small}
 use Rattle.lookup.specs.Letters.{smallNumber}
 use Rattle.lookup.proofs.CapitalLaws.{small-below}

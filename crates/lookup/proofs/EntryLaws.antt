@@ -8,9 +8,11 @@ use mathlib.Core.List.{List, [], _∷_}
 use lib.ListN.{length, getD, drop, length-map, List·getD-map, drop-of-length-le}
 use lib.Seq.{drop-cons}
 use Rattle.linking.specs.Reading.{NumberedEntry}
-use Rattle.book.specs.Format.{Bytes, Entry, Book, bodyAt, entryOf, simplesOf}
-use Rattle.book.specs.Kept.{bodiesAt, Store, Opened}
-use Rattle.book.proofs.Names.{bodies-length, bodies-at}
+use Rattle.format.specs.Records.{Bytes, bodyAt}
+use Rattle.book.specs.Format.{Entry, Book, entryOf, simplesOf}
+use Rattle.format.specs.Records.{bodiesAt}
+use Rattle.book.specs.Kept.{Store, Opened}
+use Rattle.format.proofs.NameLaws.{bodies-length, bodies-at}
 use Rattle.lookup.specs.Entries.{entriesKept, Entries, entryAt, entriesFrom}
 use Rattle.lookup.specs.Capitals.{sameWord}
 

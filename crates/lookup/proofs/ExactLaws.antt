@@ -7,7 +7,8 @@ use mathlib.Core.Logic.{_⊎_, inl, inr, ⊎-elim}
 use mathlib.Core.List.{List, [], _∷_, List·Memᴰ, List·Memᴰ·not-nil, List·Memᴰ·head, List·Memᴰ·tail, List·Memᴰ·cases-cons}
 use Rattle.linking.specs.Reading.{NumberedEntry}
 use Rattle.linking.specs.Ascending.{Ascending, empty, more}
-use Rattle.book.specs.Format.{Bytes, Entry}
+use Rattle.format.specs.Records.{Bytes}
+use Rattle.book.specs.Format.{Entry}
 use Rattle.lookup.specs.Capitals.{sameWord}
 use Rattle.lookup.specs.Entries.{entriesFrom}
 use Rattle.lookup.specs.Found.{Stands, first, later, IsEntryOf, FindsAll}

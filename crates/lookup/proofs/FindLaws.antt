@@ -8,7 +8,7 @@ use mathlib.Core.List.{List}
 use lib.ListN.{length, getD, set, length-set}
 use lib.Seq.{getD-set-same, getD-set-other}
 use Rattle.figures.specs.Limits.{maxEntries}
-use Rattle.book.specs.Format.{Bytes}
+use Rattle.format.specs.Records.{Bytes}
 use Rattle.lookup.specs.Capitals.{sameWord}
 use Rattle.lookup.specs.Entries.{Entries, entriesFrom, entriesKept}
 use Rattle.bytewise.specs.First.{First}

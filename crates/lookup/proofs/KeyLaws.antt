@@ -9,7 +9,8 @@ use mathlib.Core.List.{List}
 use lib.ListN.{length, getD, set, drop, length-set, length-drop}
 use lib.Seq.{getD-set-same, getD-set-other, length-take-le}
 use Rattle.figures.specs.Limits.{maxEntries, maxWord}
-use Rattle.book.specs.Format.{Bytes, bodyAt, wordLength}
+use Rattle.format.specs.Records.{Bytes, bodyAt}
+use Rattle.book.specs.Format.{wordLength}
 use Rattle.book.proofs.Layouts.{entry-shape}
 use Rattle.lookup.specs.Capitals.{sameWord}
 use Rattle.lookup.specs.Entries.{Entries}

@@ -9,10 +9,10 @@ use mathlib.Core.Logic.{_↔_, _⊎_, inl, inr}
 use lib.Bits.{bitOr, or-block}
 use lib.ListN.{length, getD, length-map, List·getD-map}
 use lib.Seq.{ext-getD}
-use Rattle.book.specs.Format.{Bytes}
+use Rattle.format.specs.Records.{Bytes}
 use Rattle.bytewise.specs.Compare.{littleEndian, ReadsNumber, FirstOther}
 use Rattle.bytewise.proofs.Comparing.{Bytewise, equal-stretch, same-number}
-use Rattle.book.proofs.Names.{same-test}
+use Rattle.format.proofs.NameLaws.{same-test}
 use Rattle.lookup.specs.Capitals.{small, smallBytes, sameWord}
 use Rattle.lookup.specs.Letters.{SameLetters, smallNumber}
 use Rattle.lookup.proofs.CapitalLaws.{CapitalOf, alike-exactly, small-below, same-length}

@@ -6,7 +6,8 @@ use mathlib.Core.List.{List, [], _∷_}
 use lib.ListN.{length, getD}
 use Rattle.figures.specs.Limits.{maxEntries, maxEntrySimples}
 use Rattle.linking.specs.Reading.{NumberedEntry, Words}
-use Rattle.book.specs.Format.{Bytes, bodyAt, typePart}
+use Rattle.format.specs.Records.{Bytes, bodyAt}
+use Rattle.book.specs.Format.{typePart}
 use Rattle.book.proofs.Layouts.{entry-shape}
 use Rattle.lookup.specs.Entries.{Entries, entryAt, simplesIn, simplesOfWords}
 use Rattle.lookup.specs.Threads.{Thread, ends, goes, Tallied}

@@ -3,7 +3,8 @@ use Prim.Native.Nat.{ℕ, _+_}
 use mathlib.Core.Path.{_≡_}
 use mathlib.Core.Bool.{Bool, true, cond}
 use mathlib.Core.List.{_++_, map}
-use Rattle.book.specs.Format.{Bytes, between, sameBytes, recordOf, entryBody}
+use Rattle.format.specs.Records.{Bytes, between, sameBytes, recordOf}
+use Rattle.book.specs.Format.{entryBody}
 
 -- A–Z are 65 to 90, and a–z stand 32 behind them.
 abbrev pub isCapital : ℕ → Bool

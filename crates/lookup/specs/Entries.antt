@@ -6,8 +6,9 @@ use mathlib.Core.List.{List, [], _∷_, foldr, map}
 use lib.ListN.{length, getD}
 use Rattle.figures.specs.Limits.{maxEntries}
 use Rattle.linking.specs.Reading.{NumberedEntry, Words}
-use Rattle.book.specs.Format.{Bytes, Entry, bodyAt, entryOf, isEntry}
-use Rattle.book.specs.Kept.{bodiesAt, Whole}
+use Rattle.format.specs.Records.{Bytes, bodyAt}
+use Rattle.book.specs.Format.{Entry, entryOf, isEntry}
+use Rattle.format.specs.Records.{bodiesAt, Whole}
 use Rattle.lookup.specs.Capitals.{sameWord}
 
 -- The entries of a word, numbered as they stand in the book: the rest of its entries, and the number of the first of them.

@@ -5,7 +5,8 @@ use mathlib.Core.Bool.{true}
 use mathlib.Core.List.{List, _∷_, List·Memᴰ}
 use Rattle.linking.specs.Reading.{NumberedEntry}
 use Rattle.linking.specs.Ascending.{Ascending}
-use Rattle.book.specs.Format.{Bytes, Entry}
+use Rattle.format.specs.Records.{Bytes}
+use Rattle.book.specs.Format.{Entry}
 use Rattle.lookup.specs.Capitals.{sameWord}
 
 -- The entry that stands at a place of a book's entries, counted from 0: the place is its number.

@@ -2,10 +2,10 @@
 use crate::keys::entry_word;
 use crate::keys::key_of;
 use crate::letters::same_word;
-use book::layout::body_at;
 use book::layout::type_part;
 use bytewise::widths::wide_number;
 use figures::limits::MAX_ENTRIES;
+use format::layout::body_at;
 ghost use mathlib.Core.List.{List};
 ghost use Prim.Native.Nat.{ℕ, _≤_};
 ghost use lib.ListN.{length};

@@ -1,16 +1,17 @@
 // Keys of words, and the entries of a book threaded by them.
 use crate::letters::small_letter;
-use book::layout::body_at;
 use book::layout::word_part;
 use bytewise::widths::wide_byte;
 use bytewise::widths::wide_number;
 use figures::limits::MAX_ENTRIES;
+use format::layout::body_at;
 ghost use mathlib.Core.Path.{_≡_};
 ghost use mathlib.Core.Bool.{true};
 ghost use Prim.Native.Nat.{_≤_};
 ghost use lib.ListN.{length};
 ghost use Rattle.figures.specs.Limits.{maxWord};
-ghost use Rattle.book.specs.Format.{bodyAt, nextAt, isEntry, wordOf};
+ghost use Rattle.format.specs.Records.{bodyAt, nextAt};
+ghost use Rattle.book.specs.Format.{isEntry, wordOf};
 ghost use Rattle.lookup.specs.Entries.{Entries};
 ghost use Rattle.lookup.specs.Threads.{key, NoneAlike, Alike};
 

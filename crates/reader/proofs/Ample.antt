@@ -10,7 +10,8 @@ use lib.Seq.{take-append-seam}
 use Rattle.figures.specs.Limits.{maxValues}
 use Rattle.figures.specs.Refusals.{Reply, refusal, noReading, bufferTooShort}
 use Rattle.order.specs.Closed.{below}
-use Rattle.book.specs.Format.{Bytes, Book, Parsed, accepted, refused, parse}
+use Rattle.format.specs.Records.{Bytes}
+use Rattle.book.specs.Format.{Book, Parsed, accepted, refused, parse}
 use Rattle.book.proofs.Accepted.{accepted-declares}
 use Rattle.linking.specs.Reading.{Words, Answer, IsReading, firstReading}
 use Rattle.linking.proofs.FirstReading.{choice-length}

@@ -11,7 +11,8 @@ use Rattle.pregroup.specs.Held.{InRows}
 use Rattle.order.specs.Closed.{Closed, Listed, below}
 use Rattle.order.specs.Rows.{Hold}
 use Rattle.order.proofs.Decision.{below-decides}
-use Rattle.book.specs.Format.{Bytes, Book, accepted, refused, parse}
+use Rattle.format.specs.Records.{Bytes}
+use Rattle.book.specs.Format.{Book, accepted, refused, parse}
 use Rattle.book.specs.Kept.{Store, Opened}
 use Rattle.book.proofs.Checking.{opened-types, opened-order, zeros}
 use Rattle.book.proofs.Accepted.{accepted-declares}

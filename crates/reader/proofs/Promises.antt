@@ -16,7 +16,8 @@ use Rattle.pregroup.specs.Tests.{Decides}
 use Rattle.order.specs.Closed.{below, DeclaredPairs}
 use Rattle.order.proofs.Decision.{below-decides}
 use Rattle.order.proofs.ClosureLaws.{closed-is-order}
-use Rattle.book.specs.Format.{Bytes, Book, Parsed, accepted, refused, parse}
+use Rattle.format.specs.Records.{Bytes}
+use Rattle.book.specs.Format.{Book, Parsed, accepted, refused, parse}
 use Rattle.book.proofs.Accepted.{accepted-declares}
 use Rattle.linking.specs.Reading.{Words, Answer, answer, IsReading, IsFirst, firstReading}
 use Rattle.linking.specs.Ascending.{AllAscending}

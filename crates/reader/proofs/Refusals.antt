@@ -6,7 +6,8 @@ use mathlib.Core.Option.{Option, none, some}
 use lib.Dec.{ltb}
 use Rattle.figures.specs.Limits.{maxLineSimples}
 use Rattle.figures.specs.Refusals.{noTarget, badLineByte, badWord, unknownWord, tooManySimples}
-use Rattle.book.specs.Format.{Bytes, Book, Parsed, accepted, refused, parse}
+use Rattle.format.specs.Records.{Bytes}
+use Rattle.book.specs.Format.{Book, Parsed, accepted, refused, parse}
 use Rattle.book.proofs.Parsing.{Comes, whole, stopped as parsed-refused, parse-comes}
 use Rattle.book.proofs.Promises.{cause-within}
 use Rattle.line.specs.LineWords.{wordsOf}

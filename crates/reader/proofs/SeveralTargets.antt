@@ -10,7 +10,8 @@ use lib.Seq.{take-append-seam}
 use Rattle.figures.specs.Limits.{maxBook, maxTargets}
 use Rattle.pregroup.specs.Types.{Basic}
 use Rattle.order.specs.Closed.{below}
-use Rattle.book.specs.Format.{Bytes, Book, Parsed, accepted, parse, recordOf}
+use Rattle.format.specs.Records.{Bytes, recordOf}
+use Rattle.book.specs.Format.{Book, Parsed, accepted, parse}
 use Rattle.book.proofs.Accepted.{accepted-declares}
 use Rattle.book.proofs.TargetAdded.{withTarget, target-added}
 use Rattle.linking.specs.Reading.{Words, Answer, answer, targetAt, IsFirst}

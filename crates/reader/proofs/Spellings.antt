@@ -12,7 +12,9 @@ use Rattle.pregroup.specs.Tests.{sameExponent, contracts}
 use Rattle.order.specs.Closed.{below}
 use Rattle.linking.specs.Linking.{firstSome, linkedTo, firstWithin, unlinkedAt, firstFrom, firstLinking}
 use Rattle.linking.specs.Reading.{NumberedEntry, answer, firstEntry, firstBehind, firstTarget, firstReading}
-use Rattle.book.specs.Format.{Bytes, Entry, every, twoBytes, nameByte, isName, exponentOf, simplesOf, isEntry, exponentListed, sameBytes, bodyRules, recordRules, firstBroken, add, ended, recordsFrom, parse}
+use Rattle.format.specs.Records.{Bytes, every, twoBytes, sameBytes}
+use Rattle.format.specs.Names.{nameByte, isName}
+use Rattle.book.specs.Format.{Entry, exponentOf, simplesOf, isEntry, exponentListed, bodyRules, recordRules, firstBroken, add, ended, recordsFrom, parse}
 use Rattle.book.proofs.PaperBooks.{typeRecord, entryRecord, targetRecord, join, types, entries, fetch, bed4, ward7, firstBook}
 use Rattle.line.specs.LineWords.{wordsFrom}
 use Rattle.lookup.specs.Capitals.{small, sameWord, DifferInCase, same-rest, same-record, respelt}

@@ -27,7 +27,8 @@ use Rattle.order.specs.Closed.{Closed, Pair, Listed, DeclaredPairs, below, clos
 use Rattle.order.specs.Rows.{Hold, pairsIn}
 use Rattle.order.proofs.Decision.{below-decides}
 use Rattle.order.proofs.Counting.{pairs-in-closed}
-use Rattle.book.specs.Format.{Bytes, Book, accepted, parse, recordOf, nothingYet, recordsFrom}
+use Rattle.format.specs.Records.{Bytes, recordOf}
+use Rattle.book.specs.Format.{Book, accepted, parse, nothingYet, recordsFrom}
 use Rattle.book.specs.Check.{bookCheck, checkReply, BookPromised}
 use Rattle.book.proofs.Parsing.{bound-never-ends}
 use Rattle.book.proofs.Promises.{check-promised, one-answer}

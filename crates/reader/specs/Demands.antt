@@ -10,7 +10,8 @@ use Rattle.pregroup.specs.Types.{PregroupType, plain}
 use Rattle.pregroup.specs.Order.{Relation}
 use Rattle.pregroup.specs.Steps.{Chain}
 use Rattle.order.specs.Closed.{Closed, Listed}
-use Rattle.book.specs.Format.{Bytes, Book, accepted, parse}
+use Rattle.format.specs.Records.{Bytes}
+use Rattle.book.specs.Format.{Book, accepted, parse}
 use Rattle.linking.specs.Reading.{Words, Choice, targetAt, IsReading, IsFirst, answer}
 use Rattle.line.specs.LineFaults.{passed, lineCheck}
 use Rattle.reader.specs.declared.LineAnswer.{LineAnswer}

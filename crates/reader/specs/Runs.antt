@@ -9,7 +9,8 @@ use Rattle.pregroup.specs.Order.{Relation}
 use Rattle.pregroup.specs.Tests.{Test, Decides}
 use Rattle.pregroup.specs.Held.{InRows}
 use Rattle.order.specs.Closed.{below}
-use Rattle.book.specs.Format.{Bytes, Book, accepted, refused, parse}
+use Rattle.format.specs.Records.{Bytes}
+use Rattle.book.specs.Format.{Book, accepted, refused, parse}
 use Rattle.book.specs.declared.Scan.{Scan}
 use Rattle.book.specs.declared.Scan.the-variants.{Accepted, Refused}
 use Rattle.linking.specs.Reading.{Words, targetAt}

@@ -5,7 +5,8 @@ use mathlib.Core.Path.{_≡_, refl, sym, subst}
 use mathlib.Core.Logic.{⊎-elim}
 use mathlib.Core.List.{List, [], _∷_}
 use borrow.Author.Tests.{ne-eqb}
-use Rattle.book.specs.Format.{Bytes, Parsed, accepted, refused, parse}
+use Rattle.format.specs.Records.{Bytes}
+use Rattle.book.specs.Format.{Parsed, accepted, refused, parse}
 use Rattle.book.specs.Check.{bookCheck, answerFor, checkReply}
 use Rattle.book.specs.declared.BookCheck.{BookCheck}
 use Rattle.book.specs.declared.BookCheck.the-variants.{Accepted, Refused}

@@ -7,7 +7,7 @@ use mathlib.Core.List.{List}
 use mathlib.Core.Option.{some}
 use lib.ListN.{length}
 use lib.Seq.{length-take-le}
-use Rattle.book.specs.Format.{Bytes}
+use Rattle.format.specs.Records.{Bytes}
 use Rattle.reader.proofs.OpeningLaws.{none-alike}
 use Rattle.batch.specs.Lines.{batchLines}
 use Rattle.batch.proofs.BatchPromises.{gives-batch-promised}

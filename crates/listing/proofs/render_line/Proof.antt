@@ -1,7 +1,7 @@
 -- `listing::render_line` meets its contract: a line is split, or its refusal is rendered.
 use borrow.Author.Needs.{needs}
 use native.Mathlib.Omega.{arith}
-use Rattle.book.specs.Kept.{bodiesAt}
+use Rattle.format.specs.Records.{bodiesAt}
 use Rattle.lookup.specs.Entries.{entriesKept}
 use Rattle.listing.proofs.Rendering.{line-stopped, line-split}
 use Rattle.listing.proofs.render_line.Statement.{statement}

@@ -1,7 +1,7 @@
 -- `listing::render_values` meets its contract: the rows are counted, and put where there is room for them.
 use borrow.Author.Needs.{needs}
 use native.Mathlib.Omega.{arith}
-use Rattle.book.specs.Kept.{bodiesAt}
+use Rattle.format.specs.Records.{bodiesAt}
 use Rattle.line.specs.LineWords.{wordsOf}
 use Rattle.lookup.specs.Entries.{entriesKept}
 use Rattle.listing.specs.Listing.{answerRows}

@@ -8,7 +8,7 @@ use mathlib.Core.Bool.{Bool, true, false, _&&_, false≢true}
 use mathlib.Core.List.{List}
 use lib.Dec.{ltb}
 use borrow.Author.Tests.{ltb-true, lt-ltb}
-use Rattle.book.proofs.Bools.{both}
+use Rattle.format.proofs.Bools.{both}
 use Rattle.bits.specs.Rows.{InRow}
 use Rattle.graph.specs.Lists.{endAt}
 use Rattle.reader.proofs.first_target.Statement.{statement}

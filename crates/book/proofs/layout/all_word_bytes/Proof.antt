@@ -4,8 +4,8 @@ use Prim.Native.Nat.{_≤_, _-_}
 use mathlib.Core.Path.{_≡_, refl, sym, _∙_}
 use lib.ListN.{length, drop}
 use borrow.Author.Tests.{not-true, not-false}
-use Rattle.book.specs.Format.{every, between}
-use Rattle.book.proofs.Every.{every-stop, every-pass, every-end}
+use Rattle.format.specs.Records.{every, between}
+use Rattle.format.proofs.Every.{every-stop, every-pass, every-end}
 use Rattle.book.proofs.layout.all_word_bytes.Statement.{statement}
 use Rattle.book.proofs.layout.all_word_bytes.Tie as tie
 

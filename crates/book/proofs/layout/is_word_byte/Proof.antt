@@ -1,7 +1,7 @@
 -- `book::layout::is_word_byte` meets its contract: the range that led to each answer decides the test.
 use native.Mathlib.Omega.{arith}
 use mathlib.Core.Path.{sym}
-use Rattle.book.proofs.Bools.{inside, outside}
+use Rattle.format.proofs.Bools.{inside, outside}
 use Rattle.book.proofs.layout.is_word_byte.Statement.{statement}
 use Rattle.book.proofs.layout.is_word_byte.Tie as tie
 

@@ -3,7 +3,7 @@ use native.Mathlib.Omega.{arith}
 use Prim.Native.Nat.{_-_}
 use mathlib.Core.Path.{_≡_}
 use lib.ListN.{length}
-use Rattle.book.specs.Format.{nextAt}
+use Rattle.format.specs.Records.{nextAt}
 use Rattle.book.proofs.Parsing.{long-refused}
 use Rattle.book.proofs.Scanning.{Standing, standing-start, standing-next, standing-bad, standing-none, standing-some}
 use Rattle.book.specs.Kept.{store}

@@ -5,11 +5,11 @@ use mathlib.Core.Path.{_≡_, sym, ap, _∙_}
 use Prim.Native.Nat.{ℕ, _+_, _<_, _≤_}
 use lib.ListN.{length, getD}
 use Rattle.figures.specs.Limits.{maxTargets}
-use Rattle.book.specs.Format.{Bytes, bodyAt, headLength, nextAt, kindAt}
+use Rattle.format.specs.Records.{Bytes, bodyAt, headLength, nextAt, kindAt}
 use Rattle.book.specs.Kept.{Store, store, Sound}
 use Rattle.book.specs.declared.Progress.{Progress}
-use Rattle.book.proofs.RecordLaws.{two-bytes-read}
-use Rattle.book.proofs.WholeRecords.{whole-length}
+use Rattle.format.proofs.RecordLaws.{two-bytes-read}
+use Rattle.format.proofs.RecordLaws.{whole-length}
 use Rattle.book.proofs.Keeping.{Found, fault-kept, whole, name-place, entry-place, pair-place, target-place, kind-left, name-taken, entry-taken, pair-taken, target-taken}
 use Rattle.book.proofs.records.take_record.Statement.{statement}
 use Rattle.book.proofs.records.take_record.Tie as tie

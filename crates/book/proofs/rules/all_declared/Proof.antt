@@ -5,7 +5,8 @@ use mathlib.Core.Path.{_≡_, refl, sym, _∙_}
 use lib.ListN.{length, getD, drop}
 use borrow.Author.Tests.{lt-ltb, le-ltb}
 use Rattle.book.proofs.Simples.{simples-stop, simples-pass, simples-end}
-use Rattle.book.specs.Format.{every, simplesOf, bases, declaredAmong}
+use Rattle.format.specs.Records.{every}
+use Rattle.book.specs.Format.{simplesOf, bases, declaredAmong}
 use Rattle.pregroup.specs.Types.{Simple}
 use Rattle.book.proofs.rules.all_declared.Statement.{statement}
 use Rattle.book.proofs.rules.all_declared.Tie as tie

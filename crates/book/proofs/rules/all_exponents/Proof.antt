@@ -5,7 +5,8 @@ use mathlib.Core.Path.{_≡_, refl, sym, _∙_}
 use lib.ListN.{length, drop}
 use borrow.Author.Tests.{not-true, not-false}
 use Rattle.book.proofs.Simples.{simples-stop, simples-pass, simples-end}
-use Rattle.book.specs.Format.{every, simplesOf, exponents, exponentListed}
+use Rattle.format.specs.Records.{every}
+use Rattle.book.specs.Format.{simplesOf, exponents, exponentListed}
 use Rattle.pregroup.specs.Types.{Simple}
 use Rattle.book.proofs.rules.all_exponents.Statement.{statement}
 use Rattle.book.proofs.rules.all_exponents.Tie as tie

@@ -6,7 +6,8 @@ use Prim.Native.Nat.{ℕ}
 use native.Mathlib.Omega.{arith}
 use Rattle.figures.specs.Limits.{maxEntries}
 use Rattle.book.proofs.Layouts.{entry-shape}
-use Rattle.book.specs.Format.{Bytes, every, declaredAmong, bases, simplesOf, exponentListed, exponents}
+use Rattle.format.specs.Records.{Bytes, every}
+use Rattle.book.specs.Format.{declaredAmong, bases, simplesOf, exponentListed, exponents}
 use Rattle.book.proofs.Faults.{entry-faults}
 use Rattle.book.proofs.rules.entry_fault.Statement.{statement}
 use Rattle.book.proofs.rules.entry_fault.Tie as tie

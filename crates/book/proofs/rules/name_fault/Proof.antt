@@ -5,8 +5,8 @@ use borrow.Author.Tests.{not-true, not-false, le-leb, lt-leb}
 use lib.ListN.{length}
 use native.Mathlib.Omega.{arith}
 use Rattle.figures.specs.Limits.{maxTypes}
-use Rattle.book.proofs.Names.{bodies-length}
-use Rattle.book.specs.Kept.{bodiesAt}
+use Rattle.format.proofs.NameLaws.{bodies-length}
+use Rattle.format.specs.Records.{bodiesAt}
 use Rattle.book.proofs.Faults.{name-faults}
 use Rattle.book.proofs.rules.name_fault.Statement.{statement}
 use Rattle.book.proofs.rules.name_fault.Tie as tie

@@ -4,11 +4,11 @@ use Prim.Native.Nat.{_-_, _≤_}
 use mathlib.Core.Path.{_≡_, refl, sym, ap, _∙_}
 use mathlib.Core.Bool.{not}
 use lib.ListN.{drop}
-use Rattle.book.specs.Format.{Bytes, sameBytes}
-use Rattle.book.proofs.Names.{differs, same-test, bodies-length, name-found, name-other}
-use Rattle.book.proofs.Every.{every-end}
-use Rattle.book.specs.Kept.{bodiesAt}
-use Rattle.book.specs.Format.{every, bodyAt}
+use Rattle.format.specs.Records.{Bytes, sameBytes}
+use Rattle.format.proofs.NameLaws.{differs, same-test, bodies-length, name-found, name-other}
+use Rattle.format.proofs.Every.{every-end}
+use Rattle.format.specs.Records.{bodiesAt}
+use Rattle.format.specs.Records.{every, bodyAt}
 use Rattle.book.proofs.rules.name_used.Statement.{statement}
 use Rattle.book.proofs.rules.name_used.Tie as tie
 

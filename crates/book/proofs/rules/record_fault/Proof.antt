@@ -2,11 +2,11 @@
 use borrow.Author.Needs.{needs}
 use native.Mathlib.Omega.{arith}
 use mathlib.Core.Path.{refl, sym, _∙_}
-use Rattle.book.proofs.RecordLaws.{two-bytes-read}
+use Rattle.format.proofs.RecordLaws.{two-bytes-read}
 use Rattle.book.proofs.WholeRecords.{cut-head, cut-body, kind-other, record-cut, record-whole}
 use Rattle.book.proofs.Faults.{unlisted-faults}
-use Rattle.book.proofs.Names.{bodies-length}
-use Rattle.book.specs.Kept.{bodiesAt}
+use Rattle.format.proofs.NameLaws.{bodies-length}
+use Rattle.format.specs.Records.{bodiesAt}
 use Rattle.book.proofs.rules.record_fault.Statement.{statement}
 use Rattle.book.proofs.rules.record_fault.Tie as tie
 

@@ -1,7 +1,7 @@
 -- `line::split::is_line_byte` meets its contract: the range that led to each answer decides the test.
 use native.Mathlib.Omega.{arith}
 use mathlib.Core.Path.{sym}
-use Rattle.book.proofs.Bools.{inside, outside}
+use Rattle.format.proofs.Bools.{inside, outside}
 use Rattle.line.proofs.split.is_line_byte.Statement.{statement}
 use Rattle.line.proofs.split.is_line_byte.Tie as tie
 

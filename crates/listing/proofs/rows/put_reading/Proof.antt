@@ -2,7 +2,7 @@
 use borrow.Author.Needs.{needs}
 use mathlib.Core.List.{_++_}
 use lib.ListN.{length}
-use Rattle.book.specs.Kept.{bodiesAt}
+use Rattle.format.specs.Records.{bodiesAt}
 use Rattle.line.specs.LineWords.{wordsOf}
 use Rattle.lookup.specs.Entries.{entriesKept}
 use Rattle.listing.specs.Listing.{firstRow, wordRows, typeRows, joined}

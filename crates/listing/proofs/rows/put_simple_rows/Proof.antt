@@ -4,7 +4,7 @@ use Prim.Native.Nat.{_-_, _%_, _≤_}
 use mathlib.Core.Path.{_≡_, refl}
 use lib.ListN.{length, drop}
 use Rattle.book.specs.Format.{simplesOf}
-use Rattle.book.specs.Kept.{bodiesAt}
+use Rattle.format.specs.Records.{bodiesAt}
 use Rattle.listing.specs.Listing.{typeRows}
 use Rattle.listing.proofs.Placing.{Going, going-start, placed-length}
 use Rattle.listing.proofs.RowLaws.{simple-countable, place-countable, simple-put, simples-put}

@@ -2,7 +2,7 @@
 use native.Mathlib.Omega.{arith}
 use Prim.Native.Nat.{_-_, _≤_}
 use lib.ListN.{length, drop}
-use Rattle.book.specs.Kept.{bodiesAt}
+use Rattle.format.specs.Records.{bodiesAt}
 use Rattle.lookup.specs.Entries.{entriesKept}
 use Rattle.listing.specs.Listing.{typeRows, joined}
 use Rattle.listing.proofs.Placing.{Going, going-start, placed-length}

@@ -1,9 +1,9 @@
--- `book::layout::is_letter` meets its contract: the range that led to each answer decides the test.
+-- `format::names::is_letter` meets its contract: the range that led to each answer decides the test.
 use native.Mathlib.Omega.{arith}
 use mathlib.Core.Path.{sym}
-use Rattle.book.proofs.Bools.{inside, outside}
-use Rattle.book.proofs.layout.is_letter.Statement.{statement}
-use Rattle.book.proofs.layout.is_letter.Tie as tie
+use Rattle.format.proofs.Bools.{inside, outside}
+use Rattle.format.proofs.names.is_letter.Statement.{statement}
+use Rattle.format.proofs.names.is_letter.Tie as tie
 
 returns : tie.Need-returns
 returns c = sym (inside 97 122 (c .before .before .args .byte) (omega arith))

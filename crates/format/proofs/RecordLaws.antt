@@ -1,15 +1,14 @@
--- What the code reads off two bytes, and records written out: what the format's functions read off a record that stands first, off the record at an
--- offset, and off an entry's body.
-use Prim.Native.Nat.{ℕ, _+_}
+-- What the code reads off two bytes, and records written out: what is read off a record that stands first, and off the record at an offset.
+use Prim.Native.Nat.{ℕ, _+_, _≤_}
 use native.Mathlib.Omega.{arith}
 use native.Mathlib.Nat.{add-zero, add-assoc}
 use native.Mathlib.Numerals.{add-one}
 use mathlib.Core.Path.{_≡_, sym, ap, _∙_}
 use mathlib.Core.List.{_++_}
-use lib.ListN.{length, take, drop}
-use lib.Seq.{getD-drop, drop-drop, take-append-seam, drop-append-seam}
+use lib.ListN.{length, take, drop, length-drop}
+use lib.Seq.{length-take-le, getD-drop, drop-drop, take-append-seam, drop-append-seam}
 use Rattle.bytewise.specs.Compare.{littleEndian, ReadsNumber}
-use Rattle.book.specs.Format.{Bytes, twoBytes, kindAt, bodyAt, nextAt, recordOf, wordOf, typePart, entryBody}
+use Rattle.format.specs.Records.{Bytes, twoBytes, kindAt, bodyAt, nextAt, recordOf, headLength}
 
 -- The number that the code reads off two bytes is the format's.
 pub two-bytes-read : {bytes : Bytes} {at r : ℕ} → ReadsNumber 2 bytes at r → r ≡ twoBytes bytes at
@@ -50,10 +49,6 @@ module _ (bytes : Bytes) (at : ℕ) where
   rest-at other =
       ap (λ (n : ℕ). drop (4 + n) (drop at other)) size-at ∙ drop-drop (4 + twoBytes bytes at) at other ∙ ap (λ (n : ℕ). drop n other) (sym (add-assoc at 4 (twoBytes bytes at)))
 
--- An entry's parts.
-module _ (word type : Bytes) where
-  pub word-part : wordOf (entryBody word type) ≡ word
-  word-part = take-append-seam word type
-
-  pub type-part : typePart (entryBody word type) ≡ type
-  type-part = sym (drop-drop (length word) 1 (entryBody word type)) ∙ drop-append-seam word type
+-- The body of a whole record is as long as its head says.
+pub whole-length : (bytes : Bytes) (at : ℕ) → nextAt bytes at ≤ length bytes → length (bodyAt bytes at) ≡ twoBytes bytes at
+whole-length bytes at h = length-take-le (twoBytes bytes at) (drop (at + headLength) bytes) (omega (arith, length-drop (at + headLength) bytes))

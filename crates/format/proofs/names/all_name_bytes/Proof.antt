@@ -1,13 +1,14 @@
--- `book::layout::all_name_bytes` meets its contract: until a byte fails, the test of the whole is the test of what is left.
+-- `format::names::all_name_bytes` meets its contract: until a byte fails, the test of the whole is the test of what is left.
 use native.Mathlib.Omega.{arith}
 use Prim.Native.Nat.{_≤_, _-_}
 use mathlib.Core.Path.{_≡_, refl, sym, _∙_}
 use lib.ListN.{length, drop}
 use borrow.Author.Tests.{not-true, not-false}
-use Rattle.book.specs.Format.{every, nameByte}
-use Rattle.book.proofs.Every.{every-stop, every-pass, every-end}
-use Rattle.book.proofs.layout.all_name_bytes.Statement.{statement}
-use Rattle.book.proofs.layout.all_name_bytes.Tie as tie
+use Rattle.format.specs.Records.{every}
+use Rattle.format.specs.Names.{nameByte}
+use Rattle.format.proofs.Every.{every-stop, every-pass, every-end}
+use Rattle.format.proofs.names.all_name_bytes.Statement.{statement}
+use Rattle.format.proofs.names.all_name_bytes.Tie as tie
 
 abbrev Inv-loop : tie.InvT-loop
 Inv-loop bytes i₀ i = (i ≤ length bytes) × (every nameByte bytes ≡ every nameByte (drop i bytes))

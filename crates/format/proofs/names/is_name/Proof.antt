@@ -1,11 +1,11 @@
--- `book::layout::is_name` meets its contract: the tests come in the order of the definition.
+-- `format::names::is_name` meets its contract: the tests come in the order of the definition.
 use borrow.Author.Needs.{needs}
 use native.Mathlib.Omega.{arith}
 use mathlib.Core.Path.{sym, _∙_}
 use borrow.Author.Tests.{not-true, not-false}
-use Rattle.book.proofs.Layouts.{name-length-no, name-first-no, name-rest}
-use Rattle.book.proofs.layout.is_name.Statement.{statement}
-use Rattle.book.proofs.layout.is_name.Tie as tie
+use Rattle.format.proofs.NameLaws.{name-length-no, name-first-no, name-rest}
+use Rattle.format.proofs.names.is_name.Statement.{statement}
+use Rattle.format.proofs.names.is_name.Tie as tie
 
 returns : tie.Need-returns
 returns c = name-length-no _ (omega arith)

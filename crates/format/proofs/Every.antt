@@ -6,7 +6,7 @@ use mathlib.Core.Bool.{Bool, true, false, _&&_}
 use mathlib.Core.List.{List}
 use lib.ListN.{length, getD, drop, drop-of-length-le}
 use lib.Seq.{drop-cons}
-use Rattle.book.specs.Format.{every}
+use Rattle.format.specs.Records.{every}
 
 module _ {ℓ} {A : Type ℓ} (test : A → Bool) (d : A) (xs : List A) where
   every-at : (i : ℕ) → i < length xs → every test (drop i xs) ≡ test (getD xs i d) && every test (drop (i + 1) xs)

@@ -1,8 +1,8 @@
--- `book::layout::is_name_byte` meets its contract: the range that led to each answer decides the test.
+-- `format::names::is_name_byte` meets its contract: the range that led to each answer decides the test.
 use native.Mathlib.Omega.{arith}
-use Rattle.book.proofs.Bools.{name-letter, name-digit, name-byte-no}
-use Rattle.book.proofs.layout.is_name_byte.Statement.{statement}
-use Rattle.book.proofs.layout.is_name_byte.Tie as tie
+use Rattle.format.proofs.NameLaws.{name-letter, name-digit, name-byte-no}
+use Rattle.format.proofs.names.is_name_byte.Statement.{statement}
+use Rattle.format.proofs.names.is_name_byte.Tie as tie
 
 returns : tie.Need-returns
 returns c = name-digit _ (omega arith)

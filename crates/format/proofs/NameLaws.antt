@@ -1,16 +1,19 @@
--- The search for a name among those of earlier records: their bodies stand in the book, at the kept offsets.
+-- The laws of names: their form, and the search for one among those of earlier records, whose bodies stand in the book at the kept offsets.
 use Prim.Native.Nat.{ℕ, _+_, _≤_, _<_}
 use native.Mathlib.Omega.{arith}
 use mathlib.Core.Path.{_≡_, refl, sym, ap, ap₂, _∙_}
-use mathlib.Core.Bool.{Bool, true, false, not, false≢true}
+use mathlib.Core.Bool.{Bool, true, false, not, _&&_, false≢true}
+use lib.Dec.{leb}
 use mathlib.Core.List.{List, [], _∷_}
 use lib.ListN.{length, getD, take, drop, length-map, List·getD-map}
 use lib.Seq.{length-take-le, getD-take}
-use borrow.Author.Tests.{eqb-true, eq-eqb}
-use Rattle.book.specs.Format.{Bytes, every, sameBytes, bodyAt}
-use Rattle.book.specs.Kept.{bodiesAt}
-use Rattle.book.proofs.Bools.{both}
-use Rattle.book.proofs.Every.{every-stop, every-pass}
+use borrow.Author.Tests.{leb-true, eqb-true, eq-eqb}
+use Rattle.figures.specs.Limits.{maxName}
+use Rattle.format.specs.Names.{nameByte, isName}
+use Rattle.format.specs.Records.{between, Bytes, every, sameBytes, bodyAt}
+use Rattle.format.specs.Records.{bodiesAt}
+use Rattle.format.proofs.Bools.{inside, outside, both}
+use Rattle.format.proofs.Every.{every-stop, every-pass}
 
 pub same-equal : (xs ys : Bytes) → sameBytes xs ys ≡ true → xs ≡ ys
 unfolding sameBytes
@@ -60,3 +63,36 @@ module _ (bytes : Bytes) (offsets : List ℕ) (count : ℕ) where
     pub name-other : t ≡ false → every (differs body) (drop i (bodiesAt bytes offsets count)) ≡ every (differs body) (drop (i + 1) (bodiesAt bytes offsets count))
     name-other e =
         every-pass (differs body) (bodyAt bytes 0) (bodiesAt bytes offsets count) i (omega (arith, bodies-length room)) (test-at ∙ ap not e)
+
+-- The form of a name, by the tests in their order: the first that fails decides, and the last is the answer.
+pub name-letter : (byte : ℕ) → (97 ≤ byte) × (byte ≤ 122) → true ≡ nameByte byte
+unfolding nameByte
+name-letter byte h = rw (inside 97 122 byte h)
+
+pub name-digit : (byte : ℕ) → (48 ≤ byte) × (byte ≤ 57) → true ≡ nameByte byte
+unfolding nameByte
+name-digit byte h = rw (outside 97 122 byte (omega arith), inside 48 57 byte h)
+
+pub name-byte-no : (byte : ℕ) → (97 ≤ byte → byte ≤ 122 → ⊥) → (48 ≤ byte → byte ≤ 57 → ⊥) → false ≡ nameByte byte
+unfolding nameByte
+name-byte-no byte h k = rw (outside 97 122 byte h, outside 48 57 byte k)
+
+module _ (body : Bytes) where
+  pub name-length-no : (1 ≤ length body → length body ≤ maxName → ⊥) → false ≡ isName body
+  unfolding isName
+  name-length-no h = rw (outside 1 maxName (length body) h)
+
+  pub name-first-no : (1 ≤ length body) × (length body ≤ maxName) → between 97 122 (getD {A = ℕ} body 0 0) ≡ false → false ≡ isName body
+  unfolding isName
+  name-first-no h e = rw (inside 1 maxName (length body) h, e)
+
+  pub name-rest : (1 ≤ length body) × (length body ≤ maxName) → between 97 122 (getD {A = ℕ} body 0 0) ≡ true → every nameByte body ≡ isName body
+  unfolding isName
+  name-rest h e = rw (inside 1 maxName (length body) h, e)
+
+  pub name-short : isName body ≡ true → length body ≤ maxName
+  unfolding isName
+  name-short h =
+      let front = both (between 1 maxName (length body) && between 97 122 (getD {A = ℕ} body 0 0)) (every nameByte body) h in
+      let size = both (between 1 maxName (length body)) (between 97 122 (getD {A = ℕ} body 0 0)) (front .0) in
+      leb-true _ _ (both (leb 1 (length body)) (leb (length body) maxName) (size .0) .1)

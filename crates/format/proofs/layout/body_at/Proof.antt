@@ -1,13 +1,13 @@
--- `book::layout::body_at` meets its contract: the part from behind the head, as long as the head says.
+-- `format::layout::body_at` meets its contract: the part from behind the head, as long as the head says.
 use borrow.Author.Needs.{needs}
 use native.Mathlib.Omega.{arith}
 use Prim.Native.Nat.{ℕ, _+_, _-_}
 use mathlib.Core.Path.{_≡_, ap, _∙_}
 use lib.ListN.{take, drop}
-use Rattle.book.specs.Format.{headLength}
-use Rattle.book.proofs.RecordLaws.{two-bytes-read}
-use Rattle.book.proofs.layout.body_at.Statement.{statement}
-use Rattle.book.proofs.layout.body_at.Tie as tie
+use Rattle.format.specs.Records.{headLength}
+use Rattle.format.proofs.RecordLaws.{two-bytes-read}
+use Rattle.format.proofs.layout.body_at.Statement.{statement}
+use Rattle.format.proofs.layout.body_at.Tie as tie
 
 add-start : tie.Need-add-start
 add-start c = search needs

@@ -1,0 +1,3 @@
+-- Records and the names of basic types.
+pub mod Records
+pub mod Names
