@@ -24,6 +24,10 @@ maxWord = 31
 abbrev pub maxEntrySimples : ℕ
 maxEntrySimples = 12
 
+-- How far brackets in a text may be open (document 02, 2.5).
+abbrev pub maxDepth : ℕ
+maxDepth = 6
+
 -- The greatest exponent of a book; its negative is the least.
 abbrev pub maxExponent : ℕ
 maxExponent = 8

@@ -83,3 +83,15 @@ badBatch = 17
 -- Answers of a batch do not fit.
 abbrev pub answersTooLong : ℕ
 answersTooLong = 18
+
+-- Brackets of a text open by more than six.
+abbrev pub bracketsTooDeep : ℕ
+bracketsTooDeep = 19
+
+-- Text that is no type.
+abbrev pub notAType : ℕ
+notAType = 20
+
+-- Text of over 12 simple types.
+abbrev pub typeTooLong : ℕ
+typeTooLong = 21

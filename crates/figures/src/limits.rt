@@ -16,6 +16,12 @@ pub const MAX_WORD: usize = 31;
 
 pub const MAX_ENTRY_SIMPLES: usize = 12;
 
+// How far brackets in a text may be open.
+pub const MAX_DEPTH: usize = 6;
+
+// How many simple types a text has at most whose brackets are not too deep: twice as many with every bracket.
+pub const MAX_TEXT_SIMPLES: usize = 128;
+
 // The greatest exponent of a book; its negative is the least.
 pub const MAX_EXPONENT: u8 = 8;
 

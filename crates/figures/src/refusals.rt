@@ -53,3 +53,12 @@ pub const BAD_BATCH: u32 = 17;
 
 // Answers of a batch do not fit.
 pub const ANSWERS_TOO_LONG: u32 = 18;
+
+// Brackets of a text open by more than six.
+pub const BRACKETS_TOO_DEEP: u32 = 19;
+
+// Text that is no type.
+pub const NOT_A_TYPE: u32 = 20;
+
+// Text of over 12 simple types.
+pub const TYPE_TOO_LONG: u32 = 21;

@@ -1,19 +1,19 @@
 -- The laws of names: their form, and the search for one among those of earlier records, whose bodies stand in the book at the kept offsets.
-use Prim.Native.Nat.{ℕ, _+_, _≤_, _<_}
+use Prim.Native.Nat.{ℕ, zero, suc, _+_, _≤_, _<_}
 use native.Mathlib.Omega.{arith}
-use mathlib.Core.Path.{_≡_, refl, sym, ap, ap₂, _∙_}
-use mathlib.Core.Bool.{Bool, true, false, not, _&&_, false≢true}
+use native.Mathlib.Decide.{ℕ-discrete}
+use mathlib.Core.Path.{_≡_, refl, sym, subst, ap, ap₂, _∙_}
+use mathlib.Core.Bool.{Bool, true, false, cond, _&&_, false≢true}
 use lib.Dec.{leb}
-use mathlib.Core.List.{List, [], _∷_}
-use lib.ListN.{length, getD, take, drop, length-map, List·getD-map}
+use mathlib.Core.List.{List, [], _∷_, _++_}
+use lib.ListN.{length, getD, take, length-map, List·getD-map}
 use lib.Seq.{length-take-le, getD-take}
 use borrow.Author.Tests.{leb-true, eqb-true, eq-eqb}
 use Rattle.figures.specs.Limits.{maxName}
-use Rattle.format.specs.Names.{nameByte, isName}
+use Rattle.format.specs.Names.{nameByte, isName, numberOf}
 use Rattle.format.specs.Records.{between, Bytes, every, sameBytes, bodyAt}
 use Rattle.format.specs.Records.{bodiesAt}
 use Rattle.format.proofs.Bools.{inside, outside, both}
-use Rattle.format.proofs.Every.{every-stop, every-pass}
 
 pub same-equal : (xs ys : Bytes) → sameBytes xs ys ≡ true → xs ≡ ys
 unfolding sameBytes
@@ -41,9 +41,30 @@ same-test xs ys false h = go (sameBytes xs ys) refl
     go true e = sym (h .1 (same-equal xs ys e))
     go false e = refl
 
--- Another name than the body's.
-abbrev pub differs : Bytes → Bytes → Bool
-differs body name = not (sameBytes body name)
+-- A name's number is the first place where it stands, or the length where it does not.
+pub number-first :
+    (d : Bytes) (names : List Bytes) (name : Bytes) (i : ℕ) → i ≤ length names → ((j : ℕ) → j < i → name ≡ getD names j d → ⊥)
+    → (i < length names → name ≡ getD names i d) → numberOf names name ≡ i
+unfolding numberOf
+number-first d [] name i h before there = omega arith
+number-first d (n ∷ names) name i h before there = go i h before there (λ k. number-first d names name k) (sameBytes name n) refl
+  where
+    go :
+        (i : ℕ) → i ≤ length (n ∷ names) → ((j : ℕ) → j < i → name ≡ getD (n ∷ names) j d → ⊥) → (i < length (n ∷ names) → name ≡ getD (n ∷ names) i d)
+        → ((k : ℕ) → k ≤ length names → ((j : ℕ) → j < k → name ≡ getD names j d → ⊥) → (k < length names → name ≡ getD names k d) → numberOf names name ≡ k)
+        → (t : Bool) → sameBytes name n ≡ t → cond t 0 (suc (numberOf names name)) ≡ i
+    go zero h before there rest true e = refl
+    go zero h before there rest false e = absurd (false≢true (sym e ∙ equal-same name n (there (omega arith))))
+    go (suc i) h before there rest true e = absurd (before 0 (omega arith) (same-equal name n e))
+    go (suc i) h before there rest false e = ap suc (rest i (omega arith) (λ j l. before (suc j) (omega arith)) (λ l. there (omega arith)))
+
+-- Of none before a place and not of that place, so of none up to it.
+pub none-more : {P : ℕ → Type 0} (i : ℕ) → ((j : ℕ) → j < i → P j → ⊥) → (P i → ⊥) → (j : ℕ) → j < i + 1 → P j → ⊥
+none-more {P} i before here j h p = go (ℕ-discrete j i)
+  where
+    go : Dec (j ≡ i) → ⊥
+    go (yes e) = here (subst P e p)
+    go (no d) = before j (omega (arith, d)) p
 
 module _ (bytes : Bytes) (offsets : List ℕ) (count : ℕ) where
   pub bodies-length : count ≤ length offsets → length (bodiesAt bytes offsets count) ≡ count
@@ -52,17 +73,13 @@ module _ (bytes : Bytes) (offsets : List ℕ) (count : ℕ) where
   pub bodies-at : (i : ℕ) → i < count → getD (bodiesAt bytes offsets count) i (bodyAt bytes 0) ≡ bodyAt bytes (getD {A = ℕ} offsets i 0)
   bodies-at i h = List·getD-map (bodyAt bytes) (take count offsets) i 0 ∙ ap (bodyAt bytes) (getD-take count offsets i 0 h)
 
-  module _ (room : count ≤ length offsets) (body : Bytes) (i : ℕ) (h : i < count) (t : Bool) (says : sameBytes body (bodyAt bytes (getD {A = ℕ} offsets i 0)) ≡ t) where
-    test-at : differs body (getD (bodiesAt bytes offsets count) i (bodyAt bytes 0)) ≡ not t
-    test-at = ap (differs body) (bodies-at i h) ∙ ap not says
-
-    pub name-found : t ≡ true → every (differs body) (drop i (bodiesAt bytes offsets count)) ≡ false
-    name-found e =
-        every-stop (differs body) (bodyAt bytes 0) (bodiesAt bytes offsets count) i (omega (arith, bodies-length room)) (test-at ∙ ap not e)
-
-    pub name-other : t ≡ false → every (differs body) (drop i (bodiesAt bytes offsets count)) ≡ every (differs body) (drop (i + 1) (bodiesAt bytes offsets count))
-    name-other e =
-        every-pass (differs body) (bodyAt bytes 0) (bodiesAt bytes offsets count) i (omega (arith, bodies-length room)) (test-at ∙ ap not e)
+  pub number-kept :
+      count ≤ length offsets → (name : Bytes) (i : ℕ) → i ≤ count → ((j : ℕ) → j < i → name ≡ bodyAt bytes (getD {A = ℕ} offsets j 0) → ⊥)
+      → (i < count → name ≡ bodyAt bytes (getD {A = ℕ} offsets i 0)) → numberOf (bodiesAt bytes offsets count) name ≡ i
+  number-kept room name i h before there =
+      let all = bodies-length room in
+      number-first (bodyAt bytes 0) (bodiesAt bytes offsets count) name i (omega arith) (λ j l e. before j l (e ∙ bodies-at j (omega arith)))
+      (λ l. let k : i < count = omega arith in there k ∙ sym (bodies-at i k))
 
 -- The form of a name, by the tests in their order: the first that fails decides, and the last is the answer.
 pub name-letter : (byte : ℕ) → (97 ≤ byte) × (byte ≤ 122) → true ≡ nameByte byte
@@ -96,3 +113,24 @@ module _ (body : Bytes) where
       let front = both (between 1 maxName (length body) && between 97 122 (getD {A = ℕ} body 0 0)) (every nameByte body) h in
       let size = both (between 1 maxName (length body)) (between 97 122 (getD {A = ℕ} body 0 0)) (front .0) in
       leb-true _ _ (both (leb 1 (length body)) (leb (length body) maxName) (size .0) .1)
+
+-- Names behind leave the number of one that is declared.
+pub number-more : (names more : List Bytes) (name : Bytes) → numberOf names name < length names → numberOf (names ++ more) name ≡ numberOf names name
+unfolding numberOf
+number-more [] more name h = absurd (omega arith)
+number-more (n ∷ names) more name h = go (sameBytes name n) h (number-more names more name)
+  where
+    go : (t : Bool) → cond t 0 (suc (numberOf names name)) < suc (length names)
+        → (numberOf names name < length names → numberOf (names ++ more) name ≡ numberOf names name)
+        → cond t 0 (suc (numberOf (names ++ more) name)) ≡ cond t 0 (suc (numberOf names name))
+    go true l rest = refl
+    go false l rest = ap suc (rest (omega arith))
+
+pub number-bound : (names : List Bytes) (name : Bytes) → numberOf names name ≤ length names
+unfolding numberOf
+number-bound [] name = omega arith
+number-bound (n ∷ names) name = go (sameBytes name n) (number-bound names name)
+  where
+    go : (t : Bool) → numberOf names name ≤ length names → cond t 0 (suc (numberOf names name)) ≤ suc (length names)
+    go true h = omega arith
+    go false h = omega arith

@@ -1,10 +1,12 @@
--- The names of basic types: their form, and whether one is used.
-use Prim.Native.Nat.{ℕ}
-use mathlib.Core.Bool.{Bool, not, _&&_, _||_}
-use mathlib.Core.List.{List}
-use lib.ListN.{length, getD}
-use Rattle.figures.specs.Limits.{maxName}
-use Rattle.format.specs.Records.{Bytes, every, between, sameBytes}
+-- The names of basic types: their form, their numbers, and how the code keeps them.
+use Prim.Native.Nat.{ℕ, suc, _+_, _≤_, _<_}
+use mathlib.Core.Path.{_≡_}
+use mathlib.Core.Bool.{Bool, cond, _&&_, _||_}
+use mathlib.Core.List.{List, [], _∷_}
+use lib.Dec.{ltb}
+use lib.ListN.{length, getD, set}
+use Rattle.figures.specs.Limits.{maxName, maxTypes}
+use Rattle.format.specs.Records.{Bytes, every, between, sameBytes, bodyAt, Whole}
 
 -- Kind 1, a basic type: its name, 1 to 15 bytes, a–z and 0–9, a letter first.
 
@@ -14,5 +16,30 @@ nameByte byte = between 97 122 byte || between 48 57 byte
 unfoldable pub isName : Bytes → Bool
 isName body = between 1 maxName (length body) && between 97 122 (getD {A = ℕ} body 0 0) && every nameByte body
 
+-- The number of a name, counted from 0; for one that is not among them, how many there are.
+unfoldable pub numberOf : List Bytes → Bytes → ℕ
+numberOf [] name = 0
+numberOf (n ∷ names) name = cond (sameBytes name n) 0 (suc (numberOf names name))
+
 abbrev pub isAmong : List Bytes → Bytes → Bool
-isAmong names body = not (every (λ name. not (sameBytes body name)) names)
+isAmong names name = ltb (numberOf names name) (length names)
+
+-- How many keys names have, and the places of a list that holds the offsets of names: behind them one for each key.
+abbrev pub nameKeys : ℕ
+nameKeys = 256
+
+abbrev pub namePlaces : ℕ
+namePlaces = maxTypes + nameKeys
+
+-- The first offsets are those of whole records with different bodies, no more than a book has basic types.
+pub record Named (bytes : Bytes) (offsets : List ℕ) (count : ℕ) : Type 0 where
+  pub whole : Whole bytes offsets count
+  pub few : count ≤ maxTypes
+  pub places : namePlaces ≤ length offsets
+  pub different : (i j : ℕ) → i < count → j < count → bodyAt bytes (getD {A = ℕ} offsets i 0) ≡ bodyAt bytes (getD {A = ℕ} offsets j 0) → i ≡ j
+
+-- A name's offset is kept as the next, and its number at some place behind all offsets.
+pub record Keeping (offsets : List ℕ) (count at : ℕ) (offsets′ : List ℕ) : Type 0 where
+  pub place : ℕ
+  pub behind : maxTypes ≤ place
+  pub kept : offsets′ ≡ set (set offsets count at) place count

@@ -1,10 +1,25 @@
-// The names of basic types: their form.
+// The names of basic types: their form, and their numbers. A name is looked for where its key was last seen, and else among all.
+use crate::layout::body_at;
+use bytewise::compare::same;
+use bytewise::widths::wide_byte;
+use bytewise::widths::wide_number;
 use figures::limits::MAX_NAME;
+use figures::limits::MAX_TYPES;
 ghost use mathlib.Core.Path.{_≡_};
-ghost use Rattle.format.specs.Records.{between, every};
-ghost use Rattle.format.specs.Names.{nameByte, isName};
+ghost use Rattle.format.specs.Records.{between, every, bodiesAt, Whole};
+ghost use Prim.Native.Nat.{_≤_, _<_};
+ghost use lib.ListN.{length};
+ghost use Rattle.figures.specs.Limits.{maxName, maxTypes};
+ghost use Rattle.format.specs.Names.{nameByte, isName, numberOf, nameKeys, namePlaces, Named, Keeping};
 
-fn is_letter(byte: u8) -> bool
+// How many keys names have.
+const KEYS: usize = 256;
+
+// The places of the kept names: one for each basic type, with the offset of its record, and behind them one for each key, with the number of
+// the last name of that key.
+pub const NAME_PLACES: usize = MAX_TYPES + KEYS;
+
+pub fn is_letter(byte: u8) -> bool
     ensures { λ r. ⌜ r ≡ between 97 122 byte ⌝ }
 {
     match byte {
@@ -13,7 +28,7 @@ fn is_letter(byte: u8) -> bool
     }
 }
 
-fn is_name_byte(byte: u8) -> bool
+pub fn is_name_byte(byte: u8) -> bool
     ensures { λ r. ⌜ r ≡ nameByte byte ⌝ }
 {
     match byte {
@@ -49,4 +64,57 @@ pub fn is_name(body: &[u8]) -> bool
         return false;
     }
     all_name_bytes(body)
+}
+
+// The key of a name: its length, its first byte and its last two, mixed so that names that end in two digits have different keys.
+fn key_of(name: &[u8]) -> usize
+    requires { ⌜ (1 ≤ length (now name)) × (length (now name) ≤ maxName) ⌝ }
+    ensures { λ r. ⌜ r < nameKeys ⌝ }
+{
+    let first = wide_byte(name[0]);
+    if name.len() < 2 {
+        return (7 * first) % KEYS;
+    }
+    let last = wide_byte(name[name.len() - 1]);
+    let before = wide_byte(name[name.len() - 2]);
+    (name.len() + 7 * first + 151 * before + 37 * last) % KEYS
+}
+
+// The number of a name among the basic types whose records start at the kept offsets, tried one by one; or how many there are.
+fn search_name(book: &[u8], names: &[u16], types: usize, name: &[u8]) -> usize
+    requires { ⌜ Whole (now book) (now names) types ⌝ }
+    ensures { λ r. ⌜ r ≡ numberOf (bodiesAt (now (book .entry)) (now (names .entry)) types) (now (name .entry)) ⌝ }
+{
+    let mut i = 0;
+    while i < types {
+        if same(name, body_at(book, wide_number(names[i]))) {
+            return i;
+        }
+        i += 1;
+    }
+    i
+}
+
+// The same, where the last name of the key is tried first.
+pub fn find_name(book: &[u8], names: &[u16], types: usize, name: &[u8]) -> usize
+    requires { ⌜ Named (now book) (now names) types × (1 ≤ length (now name)) × (length (now name) ≤ maxName) ⌝ }
+    ensures { λ r. ⌜ r ≡ numberOf (bodiesAt (now (book .entry)) (now (names .entry)) types) (now (name .entry)) ⌝ }
+{
+    let guess = wide_number(names[MAX_TYPES + key_of(name)]);
+    if guess < types {
+        if same(name, body_at(book, wide_number(names[guess]))) {
+            return guess;
+        }
+    }
+    search_name(book, names, types, name)
+}
+
+// Keeps the offset of a name's record as the next, and its number with its key.
+pub fn keep_name(names: &mut [u16], types: usize, at: usize, name: &[u8])
+    requires { ⌜ (types < maxTypes) × (at < 65536) × (namePlaces ≤ length (now names)) × (1 ≤ length (now name)) × (length (now name) ≤ maxName) ⌝ }
+    ensures { λ _. ⌜ Keeping (now (names .entry)) types at (now (names .exit)) ⌝ }
+{
+    let place = MAX_TYPES + key_of(name);
+    names[types] = at as u16;
+    names[place] = types as u16;
 }

@@ -1,14 +1,14 @@
 -- How the code's numbers say what the calculus asks: the bias keeps successors and parity, and so two held simple types could contract
 -- exactly when their exponents follow each other and the rows relate them, turned round where odd.
-use Prim.Native.Nat.{ℕ, zero, suc, _+_, _*_, _/_, _%_, _<_}
+use Prim.Native.Nat.{ℕ, zero, suc, _+_, _-_, _*_, _/_, _%_, _≤_, _<_}
 use native.Mathlib.Omega.{arith}
 use native.Mathlib.Numerals.{add-one}
 use mathlib.Core.Path.{_≡_, refl, sym, ap, _∙_}
 use mathlib.Core.Logic.{_↔_}
 use mathlib.Core.Bool.{Bool, true, false}
 use borrow.Author.Tests.{eq-eqb, ne-eqb}
-use lib.IntN.{ℤ, pos, negℤ, sucℤ, _+ℤ_, _-ℤ_, sucℤ-+ℤ, -ℤ-+ℤ-cancel}
-use Rattle.pregroup.specs.Types.{even}
+use lib.IntN.{ℤ, pos, negℤ, sucℤ, _+ℤ_, _-ℤ_, sucℤ-+ℤ, -ℤ-+ℤ-cancel, pred-suc}
+use Rattle.pregroup.specs.Types.{even, simpleLeft, simpleRight}
 use Rattle.pregroup.specs.Order.{Relation, Turned}
 use Rattle.pregroup.specs.Vanish.{Contracts}
 use Rattle.pregroup.specs.Held.{bias, lowered, held}
@@ -79,3 +79,17 @@ held-of a x small =
     let low : (x * 256 + a) % 256 ≡ a = omega arith in
     let high : (x * 256 + a) / 256 ≡ x = omega arith in
     rw (low, high)
+
+-- 256 more, or less: the exponent moved up, or down, by one.
+pub held-up : (x : ℕ) → held (x + 256) ≡ simpleRight (held x)
+unfolding held
+held-up x =
+    let low : (x + 256) % 256 ≡ x % 256 = omega arith in
+    let high : (x + 256) / 256 ≡ suc (x / 256) = omega arith in
+    rw (low, high, bias-suc (x / 256))
+
+pub held-down : (x : ℕ) → 256 ≤ x → held (x - 256) ≡ simpleLeft (held x)
+held-down x h =
+    let back : x - 256 + 256 ≡ x = omega arith in
+    let up : held x ≡ simpleRight (held (x - 256)) = ap held (sym back) ∙ held-up (x - 256) in
+    rw (up, pred-suc (held (x - 256) .exponent)) refl

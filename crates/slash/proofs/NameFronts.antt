@@ -1,0 +1,70 @@
+-- The name at the front of a text, byte by byte: what has been passed and the name at the front of what is left are the name.
+use Prim.Native.Nat.{ℕ, suc, _+_, _-_, _≤_, _<_}
+use native.Mathlib.Numerals.{add-one}
+use native.Mathlib.Omega.{arith}
+use mathlib.Core.Path.{_≡_, refl, sym, ap, _∙_}
+use mathlib.Core.Bool.{true, false}
+use mathlib.Core.List.{[], _∷_, _++_, append-nil, append-assoc}
+use lib.ListN.{length, getD, take, drop, length-drop, drop-of-length-le}
+use lib.Seq.{take-suc, getD-drop, drop-cons}
+use Rattle.format.specs.Records.{Bytes}
+use Rattle.format.specs.Names.{nameByte}
+use Rattle.slash.specs.Trees.{nameFront, nameBehind}
+use Rattle.slash.specs.Places.{NameEnds}
+
+-- So far the name has gone on.
+pub record NamePassed (text : Bytes) (at i : ℕ) : Type 0 where
+  pub forth : at ≤ i
+  pub inside : i ≤ length text
+  pub front : take (i - at) (drop at text) ++ nameFront (drop i text) ≡ nameFront (drop at text)
+  pub behind : nameBehind (drop i text) ≡ nameBehind (drop at text)
+
+pub name-start : (text : Bytes) (at : ℕ) → at ≤ length text → NamePassed text at at
+name-start text at h =
+    let none : at - at ≡ 0 = omega arith in
+    record { forth = omega arith; inside = h; front = ap (λ (n : ℕ). take n (drop at text) ++ nameFront (drop at text)) none; behind = refl }
+
+module _ {text : Bytes} {at i : ℕ} (p : NamePassed text at i) where
+  pub name-next : i < length text → nameByte (getD {A = ℕ} text i 0) ≡ true → NamePassed text at (i + 1)
+  unfolding nameFront nameBehind
+  name-next h e =
+      record {
+        forth = omega (arith, p .forth);
+        inside = omega arith;
+        front = ap (λ (l : Bytes). l ++ nameFront (drop (i + 1) text)) one-more ∙ append-assoc (take (i - at) (drop at text)) _ _ ∙ ap (λ (l : Bytes). take (i - at) (drop at text) ++ l) (sym goes) ∙ p .front;
+        behind = sym goes-behind ∙ p .behind;
+      }
+    where
+      byte : ℕ
+      byte = getD {A = ℕ} text i 0
+
+      goes : nameFront (drop i text) ≡ byte ∷ nameFront (drop (i + 1) text)
+      goes = rw (add-one i, drop-cons text i 0 h, e)
+
+      goes-behind : nameBehind (drop i text) ≡ nameBehind (drop (i + 1) text)
+      goes-behind = rw (add-one i, drop-cons text i 0 h, e)
+
+      one-more : take (i + 1 - at) (drop at text) ≡ take (i - at) (drop at text) ++ (byte ∷ [])
+      one-more =
+          let n : i + 1 - at ≡ suc (i - at) = omega (arith, p .forth) in
+          let k : at + (i - at) ≡ i = omega (arith, p .forth) in
+          ap (λ (m : ℕ). take m (drop at text)) n
+          ∙ take-suc (drop at text) (i - at) 0 (omega (arith, length-drop at text, p .forth))
+          ∙ ap (λ (b : ℕ). take (i - at) (drop at text) ++ (b ∷ [])) (getD-drop at text (i - at) 0 ∙ ap (λ (m : ℕ). getD {A = ℕ} text m 0) k)
+
+  ended : nameFront (drop i text) ≡ [] → nameBehind (drop i text) ≡ drop i text → NameEnds text at i
+  ended none rest =
+      record {
+        forth = p .forth;
+        inside = p .inside;
+        name = sym (append-nil (take (i - at) (drop at text))) ∙ ap (λ (l : Bytes). take (i - at) (drop at text) ++ l) (sym none) ∙ p .front;
+        left = sym rest ∙ p .behind;
+      }
+
+  pub name-stop : i < length text → nameByte (getD {A = ℕ} text i 0) ≡ false → NameEnds text at i
+  unfolding nameFront nameBehind
+  name-stop h e = ended (rw (drop-cons text i 0 h, e)) (rw (drop-cons text i 0 h, e))
+
+  pub name-end : length text ≤ i → NameEnds text at i
+  unfolding nameFront nameBehind
+  name-end h = ended (rw (drop-of-length-le text h)) (rw (drop-of-length-le text h))

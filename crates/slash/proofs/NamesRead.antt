@@ -1,0 +1,112 @@
+-- The name at the front of a text: whether it is one goes by its length and its first byte, and it is written as one plain simple type.
+use Prim.Native.Nat.{ℕ, zero, suc, _+_, _-_, _≤_, _<_, _/_}
+use native.Mathlib.Omega.{arith}
+use native.Mathlib.Nat.{add-zero}
+use mathlib.Core.Path.{_≡_, refl, sym, ap, _∙_}
+use mathlib.Core.Bool.{Bool, true, false, cond}
+use mathlib.Core.Option.{none, some}
+use mathlib.Core.List.{List, [], _∷_}
+use lib.ListN.{length, getD, set, take, drop, length-drop}
+use lib.Seq.{length-take-le, getD-take, getD-drop, getD-set-same, getD-set-other}
+use Rattle.figures.specs.Limits.{maxName}
+use Rattle.pregroup.specs.Types.{Simple, plain}
+use Rattle.pregroup.specs.Held.{bias, lowered, held}
+use Rattle.pregroup.proofs.HeldLaws.{held-plain}
+use Rattle.format.specs.Records.{Bytes, every, between, bodiesAt}
+use Rattle.format.specs.Names.{nameByte, isName, numberOf, Named}
+use Rattle.format.proofs.NameLaws.{bodies-length, name-length-no, name-first-no, name-rest, number-bound}
+use Rattle.slash.specs.Grammar.{named, meaning}
+use Rattle.slash.specs.Trees.{front, nameFront, nameAt}
+use Rattle.slash.specs.Places.{Holds, Tame, NameEnds, Written}
+use Rattle.slash.proofs.PlaceLaws.{room-some}
+
+-- All bytes of the name at the front are bytes of names.
+front-bytes : (text : Bytes) → every nameByte (nameFront text) ≡ true
+unfolding nameFront every
+front-bytes [] = refl
+front-bytes (b ∷ text) = go (nameByte b) refl (front-bytes text)
+  where
+    go : (t : Bool) → nameByte b ≡ t → every nameByte (nameFront text) ≡ true → every nameByte (cond t (b ∷ nameFront text) []) ≡ true
+    go true e rest = rw (e, rest)
+    go false e rest = refl
+
+-- A name's number is small enough for a byte.
+pub number-small :
+    {bytes : Bytes} {offsets : List ℕ} {count number : ℕ} (name : Bytes) → Named bytes offsets count → number ≡ numberOf (bodiesAt bytes offsets count) name → number < 256
+number-small {bytes} {offsets} {count} name n is =
+    omega (arith, number-bound (bodiesAt bytes offsets count) name, bodies-length bytes offsets count (n .whole .room), n .few)
+
+module _ {text : Bytes} {at behind : ℕ} (e : NameEnds text at behind) where
+  abbrev name : Bytes
+  name = take (behind - at) (drop at text)
+
+  name-size : length name ≡ behind - at
+  name-size = length-take-le (behind - at) (drop at text) (omega (arith, length-drop at text, e .inside))
+
+  first-byte : at < behind → getD {A = ℕ} name 0 0 ≡ getD {A = ℕ} text at 0
+  first-byte h =
+      getD-take (behind - at) (drop at text) 0 0 (omega arith) ∙ getD-drop at text 0 0 ∙ ap (λ (k : ℕ). getD {A = ℕ} text k 0) (add-zero at)
+
+  no-name : false ≡ isName name → nameAt (drop at text) ≡ none
+  unfolding nameAt
+  no-name h =
+      let k : isName (nameFront (drop at text)) ≡ false = ap isName (sym (e .name)) ∙ sym h in
+      rw k
+
+  pub name-empty : behind ≡ at → nameAt (drop at text) ≡ none
+  name-empty h = no-name (name-length-no name (λ l m. omega (arith, name-size)))
+
+  pub name-long : maxName < behind - at → nameAt (drop at text) ≡ none
+  name-long h = no-name (name-length-no name (λ l m. omega (arith, name-size)))
+
+  module _ (size : (at < behind) × (behind - at ≤ maxName)) where
+    sized : (1 ≤ length name) × (length name ≤ maxName)
+    sized = (omega (arith, name-size, size .0), omega (arith, name-size, size .1))
+
+    pub name-other : between 97 122 (getD {A = ℕ} text at 0) ≡ false → nameAt (drop at text) ≡ none
+    name-other h = no-name (name-first-no name sized (ap (between 97 122) (first-byte (size .0)) ∙ h))
+
+    pub name-there : between 97 122 (getD {A = ℕ} text at 0) ≡ true → nameAt (drop at text) ≡ some (front (named name) (drop behind text))
+    unfolding nameAt
+    name-there h =
+        let letter : between 97 122 (getD {A = ℕ} name 0 0) ≡ true = ap (between 97 122) (first-byte (size .0)) ∙ h in
+        let k : isName (nameFront (drop at text)) ≡ true
+        = ap isName (sym (e .name)) ∙ sym (name-rest name sized letter) ∙ ap (every nameByte) (e .name) ∙ front-bytes (drop at text) in
+        rw (k, e .name, e .left)
+
+  -- One place, with the plain simple type of the name's number.
+  module _ (names : List Bytes) (places : List ℕ) (from number simple : ℕ) (inside : from < length places) (is : number ≡ numberOf names name)
+      (plainly : held simple ≡ lowered number bias) where
+    written-there : getD {A = ℕ} (set places from simple) from 0 ≡ simple
+    written-there = getD-set-same places from simple 0 inside
+
+    holds-name : Holds (set places from simple) from (meaning names (named name))
+    unfolding meaning
+    holds-name = record { each = go }
+      where
+        go : (k : ℕ) → k < 1 → held (getD {A = ℕ} (set places from simple) (from + k) 0) ≡ getD (plain (numberOf names name) ∷ []) k (plain 0)
+        go zero h = ap (λ (k : ℕ). held (getD {A = ℕ} (set places from simple) k 0)) (add-zero from) ∙ ap held written-there ∙ plainly ∙ ap plain is
+        go (suc k) h = absurd (omega arith)
+
+    tame-name : Tame 0 (set places from simple) from (from + 1)
+    tame-name =
+        record {
+          small = λ k l m.
+              let same : k ≡ from = omega arith in
+              let high : simple / 256 ≡ bias = held-plain simple .0 (ap (λ (x : Simple). x .exponent) plainly) in
+              rw (same, written-there) (omega arith, omega arith);
+        }
+
+    pub name-written : Written (meaning names) text (front (named name) (drop behind text)) 0 0 from places (set places from simple) behind (from + 1)
+    unfolding meaning
+    name-written =
+        record {
+          inside = e .inside;
+          left = refl;
+          count = refl;
+          filled = omega arith;
+          few = omega (arith, room-some 0);
+          holds = holds-name;
+          tame = tame-name;
+          kept = λ k h. getD-set-other places from k simple 0 (omega arith);
+        }
