@@ -10,16 +10,17 @@ use lib.Dec.{ltb}
 use lib.ListN.{length, drop, replicate}
 use borrow.Author.Tests.{ltb-true, ltb-false}
 use Rattle.figures.specs.Limits.{maxBatch, maxLines, maxValues}
-use Rattle.figures.specs.Refusals.{Reply, refusal, noTarget, noReading, badBatch, answersTooLong}
+use Rattle.figures.specs.Refusals.{Reply, refusal, noReading, badBatch, answersTooLong}
 use Rattle.bits.proofs.Cases.{some-same, none-some}
 use Rattle.format.specs.Records.{Bytes}
 use Rattle.book.specs.Format.{Book, Parsed, accepted, refused, parse}
 use Rattle.linking.specs.Reading.{Words}
 use Rattle.reader.specs.Outcome.{Outcome, outcome, Gives}
 use Rattle.reader.specs.Demands.{Readable, TooShort, NoChain}
-use Rattle.reader.proofs.Refusals.{NamedParse, parse-named}
+use Rattle.reader.proofs.Refusals.{book-some, NamedParse, parse-named}
+use Rattle.book.specs.Check.{BookNumber}
 use Rattle.reader.proofs.Promises.{outcome-promised, other-number, same-value}
-use Rattle.reader.proofs.Ample.{below-short, reading-within}
+use Rattle.reader.proofs.Ample.{not-short, reading-within}
 use Rattle.batch.specs.declared.BatchAnswer.{BatchAnswer}
 use Rattle.batch.specs.declared.BatchAnswer.the-variants.{Answered, Refused}
 use Rattle.batch.specs.Lines.{linesOf, upTo, batchLines, IsLines, IsBatch, BadBatch, more-bytes, more-lines, not-closed}
@@ -39,7 +40,7 @@ line-gets book line =
     let promised = outcome-promised book line (replicate maxValues 0) in
     record {
       alone = alone-ample book line;
-      never-short = below-short (alone-is book line);
+      never-short = not-short (alone-is book line);
       answered = λ h. let a = promised .answered h in let w = a .3 in (a .0, a .1, a .2, record { target = w .target; entries = w .entries; partners = w .partners; first = w .first; whole = w .whole });
       found = λ B words r t entries partners reads. ⊎-elim (λ e. e) (λ s. absurd (never-lent r zeros-long (s .1))) (promised .found B words r t entries partners reads);
       unread = promised .unread;
@@ -109,6 +110,11 @@ not-bad i (more-bytes l) = omega (arith, i .short)
 not-bad i (more-lines j l) = let same = ap length (lines-same (i .are-lines) j) in omega (arith, i .few)
 not-bad i (not-closed n) = none-some (sym (not-closed-none n) ∙ lines-found (i .are-lines))
 
+-- No book is refused with a batch's own numbers.
+book-apart : {n : ℕ} → BookNumber n → (n ≡ badBatch) ⊎ (n ≡ answersTooLong) → ⊥
+book-apart named own =
+    ⊎-elim (λ low. ⊎-elim (λ q. omega (arith, low .1)) (λ q. omega (arith, low .1)) own) (λ high. ⊎-elim (λ q. omega (arith, high .0)) (λ q. omega (arith, high .0)) own) named
+
 accepted-refused : {C : Type 0} {p : Parsed} {B : Book} {number value : ℕ} → p ≡ accepted B → p ≡ refused number value → C
 accepted-refused e f = let z : _≡_ {A = ℕ} 0 1 = cc in absurd (omega arith)
 
@@ -116,7 +122,7 @@ module _ (book batch : Bytes) (buffer : List ℕ) where
   -- What the outcome came to, with its cause.
   data BatchCame : BatchAnswer → List ℕ → Type 0 where
     refused-batch : BadBatch batch → BatchCame (Refused badBatch 0) buffer
-    refused-book : {lines : List Bytes} {number value : ℕ} → IsBatch batch lines → parse book ≡ refused number value → (0 < number) × (number ≤ noTarget)
+    refused-book : {lines : List Bytes} {number value : ℕ} → IsBatch batch lines → parse book ≡ refused number value → BookNumber number
         → BatchCame (Refused number value) buffer
     too-many : {lines : List Bytes} {values : List ℕ} → GoodBatch book batch lines values → length buffer < length values → BatchCame (Refused answersTooLong (length values)) buffer
     all-answered : {lines : List Bytes} {values : List ℕ} → GoodBatch book batch lines values → length values ≤ length buffer
@@ -168,7 +174,7 @@ module _ (book batch : Bytes) (buffer : List ℕ) where
 
   bad-batch-of : {answer : BatchAnswer} {after : List ℕ} → BatchCame answer after → (batchReply answer ≡ refusal badBatch 0) ↔ BadBatch batch
   bad-batch-of (refused-batch b) = (λ h. b, λ c. refl)
-  bad-batch-of (refused-book {number = n} i e named) = (λ h. other-number {r = batchReply (Refused n _)} (omega arith) h, λ c. absurd (not-bad i c))
+  bad-batch-of (refused-book {number = n} i e named) = (λ h. other-number {r = batchReply (Refused n _)} (λ q. book-apart named (inl q)) h, λ c. absurd (not-bad i c))
   bad-batch-of (too-many g l) = (λ h. other-number (omega arith) h, λ c. absurd (good-not-bad g c))
   bad-batch-of (all-answered g l) = (λ h. other-number (omega arith) h, λ c. absurd (good-not-bad g c))
 
@@ -183,7 +189,7 @@ module _ (book batch : Bytes) (buffer : List ℕ) where
 
   written-of : {answer : BatchAnswer} {after : List ℕ} → BatchCame answer after → batchReply answer .number ≡ 0 → BatchWritten book batch buffer answer after
   written-of (refused-batch b) h = absurd (omega arith)
-  written-of (refused-book i e named) h = absurd (omega arith)
+  written-of (refused-book i e named) h = absurd (omega (arith, book-some named))
   written-of (too-many g l) h = absurd (omega arith)
   written-of (all-answered {lines} {values} g l) h = record { lines = lines; values = values; good = g; counted = refl; room = l; behind = refl }
 
@@ -195,7 +201,7 @@ module _ (book batch : Bytes) (buffer : List ℕ) where
 
   too-long-of : {answer : BatchAnswer} {after : List ℕ} → BatchCame answer after → (v : ℕ) → (batchReply answer ≡ refusal answersTooLong v) ↔ BatchTooLong book batch buffer v
   too-long-of (refused-batch b) v = (λ h. other-number (omega arith) h, λ t. absurd (good-not-bad (t .good) b))
-  too-long-of (refused-book {number = n} i e named) v = (λ h. other-number {r = batchReply (Refused n _)} (omega arith) h, λ t. accepted-refused (t .good .book-accepted) e)
+  too-long-of (refused-book {number = n} i e named) v = (λ h. other-number {r = batchReply (Refused n _)} (λ q. book-apart named (inr q)) h, λ t. accepted-refused (t .good .book-accepted) e)
   too-long-of (too-many {lines} {values} g l) v = (
     λ h. let q : length values ≡ v = same-value h in record { lines = lines; values = values; good = g; needed = sym q; lent = omega arith },
     λ t. ap (refusal answersTooLong) (good-same g (t .good) ∙ sym (t .needed)),
@@ -205,9 +211,9 @@ module _ (book batch : Bytes) (buffer : List ℕ) where
     λ t. let same = good-same g (t .good) in let needed = t .needed in let lent = t .lent in absurd (omega arith),
   )
 
-  named-of : {answer : BatchAnswer} {after : List ℕ} → BatchCame answer after → (number value : ℕ) → answer ≡ Refused number value → ((0 < number) × (number ≤ noTarget)) ⊎ ((number ≡ badBatch) ⊎ (number ≡ answersTooLong))
+  named-of : {answer : BatchAnswer} {after : List ℕ} → BatchCame answer after → (number value : ℕ) → answer ≡ Refused number value → BookNumber number ⊎ ((number ≡ badBatch) ⊎ (number ≡ answersTooLong))
   named-of (refused-batch b) number value h = inr (inl cc)
-  named-of (refused-book {number = n} i e named) number value h = let same : n ≡ number = cc in inl (omega arith)
+  named-of (refused-book {number = n} i e named) number value h = let same : n ≡ number = cc in inl (subst BookNumber same named)
   named-of (too-many g l) number value h = inr (inr cc)
   named-of (all-answered g l) number value h = let z : _≡_ {A = ℕ} 0 1 = cc in absurd (omega arith)
 
@@ -222,7 +228,7 @@ module _ (book batch : Bytes) (buffer : List ℕ) where
   }
 
   pub batch-refusals : (number value : ℕ) → batchOutcome book batch buffer .answer ≡ Refused number value
-      → ((0 < number) × (number ≤ noTarget)) ⊎ ((number ≡ badBatch) ⊎ (number ≡ answersTooLong))
+      → BookNumber number ⊎ ((number ≡ badBatch) ⊎ (number ≡ answersTooLong))
   batch-refusals = named-of came
 
 -- Whatever gives the outcome keeps the promises.

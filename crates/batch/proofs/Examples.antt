@@ -14,8 +14,8 @@ use Rattle.order.specs.Closed.{below}
 use Rattle.linking.specs.Linking.{firstSome, linkedTo, firstWithin, unlinkedAt, firstFrom, firstLinking}
 use Rattle.linking.specs.Reading.{firstEntry, firstBehind, firstTarget, firstReading}
 use Rattle.format.specs.Records.{Bytes, every, twoBytes, sameBytes}
-use Rattle.format.specs.Names.{nameByte, isName}
-use Rattle.book.specs.Format.{exponentOf, simplesOf, isEntry, exponentListed, bodyRules, recordRules, firstBroken, add, ended, recordsFrom, parse}
+use Rattle.format.specs.Names.{nameByte, isName, numberOf}
+use Rattle.book.specs.Format.{exponentOf, simplesOf, isWorded, isEntry, exponentListed, bodyRules, recordRules, firstBroken, add, ended, recordsFrom, parse}
 use Rattle.book.proofs.PaperBooks.{fetch, bed4, admit, site, go, firstBook}
 use Rattle.line.specs.LineWords.{wordsFrom}
 use Rattle.lookup.specs.Capitals.{small, sameWord}
@@ -84,5 +84,5 @@ answers = 9 ∷ 0 ∷ 0 ∷ 2 ∷ 0 ∷ 2 ∷ 3 ∷ 1 ∷ 3 ∷ 2 ∷ 2 ∷ 15 �
 pub morning-lines :
     map (batchOutcome firstBook morning) (replicate 21 7 ∷ replicate 19 7 ∷ replicate 18 7 ∷ [])
     ≡ record { answer = Answered 4; buffer = answers ++ (7 ∷ 7 ∷ []) } ∷ record { answer = Answered 4; buffer = answers } ∷ refused answersTooLong 19 (replicate 18 7) ∷ []
-unfolding every twoBytes nameByte isName exponentOf simplesOf isEntry exponentListed sameBytes bodyRules recordRules firstBroken add ended recordsFrom parse even sameExponent contracts firstSome linkedTo firstWithin unlinkedAt firstFrom firstLinking firstEntry firstBehind firstTarget firstReading below small sameWord wordsFrom entriesFrom byteFault wordFault entryFault simplesIn simplesOfWords lineCheck given readAgainst readParsed linesOf batchLines partsOf givenParts readLines readBatch
+unfolding every twoBytes nameByte isName exponentOf simplesOf isWorded isEntry exponentListed sameBytes numberOf bodyRules recordRules firstBroken add ended recordsFrom parse even sameExponent contracts firstSome linkedTo firstWithin unlinkedAt firstFrom firstLinking firstEntry firstBehind firstTarget firstReading below small sameWord wordsFrom entriesFrom byteFault wordFault entryFault simplesIn simplesOfWords lineCheck given readAgainst readParsed linesOf batchLines partsOf givenParts readLines readBatch
 morning-lines = refl

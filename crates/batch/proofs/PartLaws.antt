@@ -14,6 +14,7 @@ use Rattle.reader.specs.declared.LineAnswer.{LineAnswer}
 use Rattle.reader.specs.declared.LineAnswer.the-variants.{Read, Refused}
 use Rattle.reader.specs.Outcome.{lineReply, outcomeReply, outcome, Gives}
 use Rattle.reader.proofs.Promises.{refusals-within}
+use Rattle.reader.proofs.Refusals.{line-some, line-small}
 use Rattle.reader.proofs.OpeningLaws.{gives-promised}
 use Rattle.reader.proofs.Ample.{Ample, of-book, of-line, of-reading, ample, ample-reply}
 use Rattle.batch.specs.Batch.{aloneReply, partOf}
@@ -86,7 +87,7 @@ module _ (book line : Bytes) (lent : List ℕ) (enough : maxValues ≤ length le
       → Gives (outcome book line lent) (Refused number value) after → (number < valueBound) × (value < valueBound)
   refusal-small e short number value g =
       let named = refusals-within book line lent number value (sym (g .returned)) in
-      (omega (arith, named .1), omega (arith, value-of e (alone-is book line) number value (gives-alone g) (λ z. omega (arith, named .0))))
+      (omega (arith, line-small named), omega (arith, value-of e (alone-is book line) number value (gives-alone g) (λ z. omega (arith, line-some named))))
 
   -- A refused line.
   pub put-refused : (before post : List ℕ) (used number value : ℕ) {after : List ℕ} → used + 2 ≤ length before → Gives (outcome book line lent) (Refused number value) after

@@ -1,20 +1,20 @@
 -- The results on batches, each in full and proved elsewhere under the name on its last line: what the lines of a buffer are, what a line gets alone, and what
 -- reading a batch comes to.
-use Prim.Native.Nat.{ℕ, _≤_, _<_}
-use native.Mathlib.Omega.{arith}
+use Prim.Native.Nat.{ℕ, _≤_}
 use mathlib.Core.Path.{_≡_, sym, ap, _∙_}
 use mathlib.Core.Logic.{_↔_, _⊎_}
 use mathlib.Core.List.{List}
 use mathlib.Core.Option.{none, some}
 use lib.ListN.{length}
 use Rattle.figures.specs.Limits.{maxValues}
-use Rattle.figures.specs.Refusals.{refusal, noTarget, noReading, bufferTooShort, badBatch, answersTooLong}
+use Rattle.figures.specs.Refusals.{refusal, noReading, bufferTooShort, badBatch, answersTooLong}
 use Rattle.format.specs.Records.{Bytes}
 use Rattle.book.specs.Format.{Book}
 use Rattle.linking.specs.Reading.{Words}
 use Rattle.reader.specs.declared.LineAnswer.the-variants.{Refused as RefusedLine}
 use Rattle.reader.specs.Outcome.{lineReply, outcomeReply, outcome}
 use Rattle.reader.specs.Demands.{Readable, NoChain}
+use Rattle.book.specs.Check.{BookNumber}
 use Rattle.reader.proofs.Ample.{ample-reply, never-short}
 use Rattle.batch.specs.declared.BatchAnswer.the-variants.{Refused}
 use Rattle.batch.specs.Lines.{linesOf, IsLines, NotClosed, IsBatch, BadBatch}
@@ -39,7 +39,7 @@ module _ (bytes : Bytes) where
 module _ (book line : Bytes) (lent : List ℕ) (enough : maxValues ≤ length lent) where
   -- Where `maxValues` values are lent, a line never gets 16 ..
   pub ample-never-short : (v : ℕ) → outcome book line lent .answer ≡ RefusedLine bufferTooShort v → ⊥
-  ample-never-short v e = omega (arith, never-short book line lent enough, ap (λ a. lineReply a (outcome book line lent .buffer) .number) e)
+  ample-never-short v e = never-short book line lent enough (ap (λ a. lineReply a (outcome book line lent .buffer) .number) e)
 
   -- .. and every such buffer gets it the same.
   pub ample-all-the-same : (other : List ℕ) → maxValues ≤ length other → outcomeReply (outcome book line lent) ≡ outcomeReply (outcome book line other)
@@ -67,7 +67,7 @@ module _ (book batch : Bytes) (buffer : List ℕ) where
   pub batch-promises-kept : BatchPromised book batch buffer (batchOutcome book batch buffer .answer) (batchOutcome book batch buffer .buffer)
   batch-promises-kept = batch-promised book batch buffer
 
-  -- A batch is refused as its book is, with 1 to 10, or with 17 or 18.
+  -- A batch is refused as its book is, with 1 to 10 or 19 to 21, or with 17 or 18.
   pub refusals-of-a-batch : (number value : ℕ) → batchOutcome book batch buffer .answer ≡ Refused number value
-      → ((0 < number) × (number ≤ noTarget)) ⊎ ((number ≡ badBatch) ⊎ (number ≡ answersTooLong))
+      → BookNumber number ⊎ ((number ≡ badBatch) ⊎ (number ≡ answersTooLong))
   refusals-of-a-batch = batch-refusals book batch buffer

@@ -39,7 +39,7 @@ givenParts values lines buffer =
     cond (ltb (length buffer) (length values)) (record { answer = Refused answersTooLong (length values); buffer = buffer })
     (record { answer = Answered lines; buffer = values ++ drop (length values) buffer })
 
--- The book's refusals, 1 to 10.
+-- The book's refusals.
 unfoldable pub readLines : Parsed → Bytes → List Bytes → List ℕ → Outcome BatchAnswer
 readLines (refused number value) book lines buffer = record { answer = Refused number value; buffer = buffer }
 readLines (accepted B) book lines buffer = givenParts (partsOf book lines) (length lines) buffer

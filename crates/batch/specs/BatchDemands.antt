@@ -30,7 +30,7 @@ pub record LineGets (book line : Bytes) (reply : Reply) : Type 0 where
   -- What the line alone gets, with every buffer that holds any answer.
   pub alone : (lent : List ℕ) → maxValues ≤ length lent → outcomeReply (outcome book line lent) ≡ reply
   -- 16 is never among the answers.
-  pub never-short : reply .number < bufferTooShort
+  pub never-short : reply .number ≡ bufferTooShort → ⊥
   -- Only a line that breaks nothing is answered, and its answer is the first reading.
   pub answered : reply .number ≡ 0 → (B : Book) × (words : Words) × Readable book line B words × FirstWhole B words (reply .values)
   -- A line with a reading gets one.

@@ -6,6 +6,7 @@ use figures::limits::MAX_BATCH_VALUES;
 use figures::limits::MAX_ENTRIES;
 use figures::refusals::ANSWERS_TOO_LONG;
 use figures::refusals::BAD_BATCH;
+use format::names::NAME_PLACES;
 use lookup::keys::NO_ENTRY;
 use lookup::keys::PLACES;
 use reader::open_book;
@@ -41,22 +42,25 @@ pub fn read_batch(book: &[u8], lines: &[u8], answers: &mut [u16]) -> BatchAnswer
             value: 0,
         };
     };
+    let mut names = [0u16; NAME_PLACES];
     let mut entries = [0u16; MAX_ENTRIES];
     let mut alike = [NO_ENTRY; PLACES];
-    let opening = open_book(book, &mut entries, &mut alike);
+    let opening = open_book(book, &mut names, &mut entries, &mut alike);
     let rows = opening.rows;
     let targets = opening.targets;
     let scan = opening.scan;
     match scan {
         Scan::Refused { number, value } => BatchAnswer::Refused { number, value },
         Scan::Accepted {
-            types: _,
+            types,
             entries: count,
             targets: goals,
         } => {
             let mut store = [0u16; MAX_BATCH_VALUES];
             let used = parts::read_parts(
                 book,
+                &names,
+                types,
                 &entries,
                 count,
                 &alike,

@@ -37,6 +37,8 @@ fn put_head(store: &mut [u16], at: usize, values: usize) -> usize
 // Reads a line and puts its part behind the `used` values of the store. Gives how many values the store then has.
 fn read_part(
     book: &[u8],
+    names: &[u16],
+    types: usize,
     offsets: &[u16],
     count: usize,
     alike: &[u16],
@@ -46,12 +48,14 @@ fn read_part(
     store: &mut [u16],
     used: usize,
 ) -> usize
-    requires { ⌜ IsOpen (now book) (now offsets) count (now alike) (now order) (now targets) ⌝ }
+    requires { ⌜ IsOpen (now book) (now names) types (now offsets) count (now alike) (now order) (now targets) ⌝ }
     requires { ⌜ (length (now line) ≤ maxBatch) × (used + maxPart ≤ length (now store)) ⌝ }
     ensures { λ r. ⌜ Put (partOf (aloneReply (now (book .entry)) (now (line .entry)))) used (now (store .entry)) r (now (store .exit)) ⌝ }
 {
     let answer = read_open(
         book,
+        names,
+        types,
         offsets,
         count,
         alike,
@@ -69,6 +73,8 @@ fn read_part(
 // Reads all lines of a batch and puts their parts one behind another. Gives how many values these are.
 pub fn read_parts(
     book: &[u8],
+    names: &[u16],
+    types: usize,
     offsets: &[u16],
     count: usize,
     alike: &[u16],
@@ -77,7 +83,7 @@ pub fn read_parts(
     batch: &[u8],
     store: &mut [u16],
 ) -> usize
-    requires { ⌜ IsOpen (now book) (now offsets) count (now alike) (now order) (now targets) ⌝ }
+    requires { ⌜ IsOpen (now book) (now names) types (now offsets) count (now alike) (now order) (now targets) ⌝ }
     requires { ⌜ Readying (now batch) (now store) ⌝ }
     ensures { λ r. ⌜ StoredParts (now (book .entry)) (now (batch .entry)) r (now (store .exit)) ⌝ }
 {
@@ -88,6 +94,8 @@ pub fn read_parts(
         let line = &batch[at..end];
         used = read_part(
             book,
+            names,
+            types,
             offsets,
             count,
             alike,

@@ -1,6 +1,6 @@
 -- What holds of every accepted book: its pairs and its targets, one to eight, name declared basic types only, no name has more than 15 bytes,
 -- and its entries, at most 1,024, have at most 12 simple types each, with listed exponents.
-use Prim.Native.Nat.{ℕ, zero, suc, _*_, _≤_, _<_}
+use Prim.Native.Nat.{ℕ, zero, suc, _≤_, _<_}
 use native.Mathlib.Omega.{arith}
 use mathlib.Core.Path.{_≡_, refl, sym, subst}
 use mathlib.Core.Logic.{⊎-elim}
@@ -10,13 +10,14 @@ use lib.ListN.{length, getD, length-append}
 use Rattle.order.specs.Closed.{DeclaredPairs}
 use Rattle.figures.specs.Limits.{maxEntries, maxTargets, maxName, maxEntrySimples}
 use Rattle.format.specs.Records.{Bytes, kindAt, bodyAt, every}
-use Rattle.book.specs.Format.{Book, Entry, accepted, parse, exponents, exponentListed, bodyRules, firstBroken, add, simplesOf, typePart, isEntry, entryOf}
+use Rattle.book.specs.Format.{Book, Entry, accepted, parse, exponents, exponentListed, bodyRules, firstBroken, add, entryOf}
 use Rattle.book.specs.Check.{GoodUpTo, start, next}
-use Rattle.book.proofs.NoFault.{Kind, basic-type, order-pair, entry, target, no-fault-kind, no-fault-body, name-no-fault, pair-no-fault, entry-no-fault, target-no-fault}
+use Rattle.book.proofs.NoFault.{Kind, basic-type, order-pair, entry, target, slashed-entry, no-fault-kind, no-fault-body, name-no-fault, pair-no-fault, target-no-fault}
 use Rattle.format.proofs.NameLaws.{name-short}
-use Rattle.book.proofs.Layouts.{entry-shape}
+use Rattle.book.specs.Format.{EntryKind, of-simples, of-text}
+use Rattle.book.proofs.GoodEntries.{good-entry, add-entry}
 use Rattle.book.proofs.Keeping.{listed-more}
-use Rattle.book.proofs.SmallestNumber.{fault-clean}
+use Rattle.book.proofs.FirstBroken.{fault-clean}
 use Rattle.book.proofs.Parsing.{accepted-good}
 
 -- No entry has more than 12 simple types.
@@ -42,16 +43,6 @@ pub record BookDeclares (B : Book) : Type 0 where
   pub targets : (t : ℕ) → t < length (B .targets) → getD {A = ℕ} (B .targets) t 0 < length (B .names)
   pub few-targets : length (B .targets) ≤ maxTargets
 
--- Two bytes a simple type.
-simples-few : (part : Bytes) → length (simplesOf part) * 2 ≤ length part
-unfolding simplesOf
-simples-few [] = omega arith
-simples-few (number ∷ []) = omega arith
-simples-few (number ∷ (exponent ∷ rest)) = let h = simples-few rest in omega arith
-
-entry-short : (body : Bytes) → isEntry body ≡ true → length (entryOf body .type) ≤ maxEntrySimples
-entry-short body layout = omega (arith, simples-few (typePart body), entry-shape body layout .short)
-
 -- What holds of all of a list and of one more holds of all with that one behind them.
 all-more : {A : Type 0} (P : A → Type 0) (l : List A) (a : A) → P a → ((x : A) → List·Memᴰ x l → P x) → (x : A) → List·Memᴰ x (l ++ (a ∷ [])) → P x
 all-more P l a one all x m =
@@ -63,6 +54,23 @@ declared-behind n [] x small all zero h = small
 declared-behind n [] x small all (suc t) h = absurd (omega arith)
 declared-behind n (y ∷ l) x small all zero h = all zero (omega arith)
 declared-behind n (y ∷ l) x small all (suc t) h = declared-behind n l x small (λ u k. all (suc u) (omega arith)) t (omega arith)
+
+entry-declares : {kind : ℕ} → EntryKind kind → (body : Bytes) (B : Book) → firstBroken (bodyRules kind body (B .names) (length (B .entries)) (length (B .targets))) ≡ 0
+    → BookDeclares B → BookDeclares (add kind body B)
+entry-declares {kind} k body B fine s =
+    let good = good-entry k body (B .names) (length (B .entries)) (length (B .targets)) fine in
+    let entries = B .entries in
+    let new = entryOf kind (B .names) body in
+    rw (add-entry k body B)
+    (record {
+      names-short = s .names-short;
+      short = all-more (λ (e : Entry). length (e .type) ≤ maxEntrySimples) entries new (good .0 .short) (s .short);
+      exponents-listed = all-more (λ (e : Entry). every exponentListed (exponents (e .type)) ≡ true) entries new (good .0 .listed) (s .exponents-listed);
+      few = omega (arith, good .1, length-append entries (new ∷ []));
+      pairs = s .pairs;
+      targets = s .targets;
+      few-targets = s .few-targets;
+    })
 
 declares-add : {kind : ℕ} → Kind kind → (body : Bytes) (B : Book) → firstBroken (bodyRules kind body (B .names) (length (B .entries)) (length (B .targets))) ≡ 0
     → BookDeclares B → BookDeclares (add kind body B)
@@ -93,19 +101,7 @@ declares-add order-pair body B fine s =
       targets = s .targets;
       few-targets = s .few-targets;
     }
-declares-add entry body B fine s =
-    let formed = entry-no-fault body (B .names) (length (B .entries)) (length (B .targets)) fine in
-    let entries = B .entries in
-    record {
-      names-short = s .names-short;
-      short = all-more (λ (e : Entry). length (e .type) ≤ maxEntrySimples) entries (entryOf body) (entry-short body (formed .0)) (s .short);
-      exponents-listed =
-          all-more (λ (e : Entry). every exponentListed (exponents (e .type)) ≡ true) entries (entryOf body) (formed .2) (s .exponents-listed);
-      few = omega (arith, formed .3, length-append entries (entryOf body ∷ []));
-      pairs = s .pairs;
-      targets = s .targets;
-      few-targets = s .few-targets;
-    }
+declares-add entry body B fine s = entry-declares of-simples body B fine s
 declares-add target body B fine s =
     let one = target-no-fault body (B .names) (length (B .entries)) (length (B .targets)) fine in
     record {
@@ -117,6 +113,7 @@ declares-add target body B fine s =
       targets = declared-behind (length (B .names)) (B .targets) (getD {A = ℕ} body 0 0) (one .1) (s .targets);
       few-targets = omega (arith, one .2, length-append (B .targets) (getD {A = ℕ} body 0 0 ∷ []));
     }
+declares-add slashed-entry body B fine s = entry-declares of-text body B fine s
 
 -- Good records declare what they name.
 pub good-declares : {bytes : Bytes} {at : ℕ} {B : Book} → GoodUpTo bytes at B → BookDeclares B

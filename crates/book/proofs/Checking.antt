@@ -2,7 +2,8 @@
 use Prim.Native.Nat.{ℕ, zero, suc}
 use mathlib.Core.Path.{_≡_, refl, ap, _∙_}
 use mathlib.Core.List.{List}
-use lib.ListN.{length, getD, replicate, length-map}
+use lib.ListN.{length, getD, take, replicate, length-map}
+use lib.Seq.{length-take-le}
 use Rattle.bits.proofs.BitLaws.{empty-has-none}
 use Rattle.pregroup.specs.Held.{InRows}
 use Rattle.order.specs.Closed.{Closed, Listed, DeclaredPairs}
@@ -10,9 +11,8 @@ use Rattle.order.specs.Rows.{Hold, DeclaredRows, pairsIn}
 use Rattle.order.proofs.ClosureLaws.{hold-closed}
 use Rattle.order.proofs.Counting.{pairs-in-closed}
 use Rattle.format.specs.Records.{Bytes}
-use Rattle.book.specs.Format.{Book, refused, parse, entryOf}
-use Rattle.format.specs.Records.{bodiesAt}
-use Rattle.book.specs.Kept.{Store, NoPairs, Opened}
+use Rattle.book.specs.Format.{Book, refused, parse}
+use Rattle.book.specs.Kept.{entryFrom, Store, NoPairs, Opened}
 use Rattle.book.specs.Check.{bookCheck}
 use Rattle.book.specs.declared.BookCheck.the-variants.{Accepted, Refused}
 use Rattle.format.proofs.NameLaws.{bodies-length}
@@ -29,14 +29,14 @@ no-pairs n p q h = empty-has-none q (rw (zeros n p) at h)
 
 module _ (bytes : Bytes) (s : Store) (types count goals : ℕ) (B : Book) (o : Opened bytes s types count goals B) where
   pub opened-rows : DeclaredRows types (s .direct)
-  opened-rows = record { few = o .few-types; within = o .within }
+  opened-rows = record { few = o .named .few; within = o .within }
 
   pub opened-types : length (B .names) ≡ types
-  opened-types = ap length (o .names) ∙ bodies-length bytes (s .names) types (o .names-whole .room)
+  opened-types = ap length (o .names) ∙ bodies-length bytes (s .names) types (o .named .whole .room)
 
   pub opened-entries : length (B .entries) ≡ count
   opened-entries =
-      ap length (o .entries) ∙ length-map (bodiesAt bytes (s .entries) count) entryOf ∙ bodies-length bytes (s .entries) count (o .entries-whole .room)
+      ap length (o .entries) ∙ length-map (take count (s .entries)) (entryFrom bytes (B .names)) ∙ length-take-le count (s .entries) (o .entries-whole .room)
 
   pub opened-pairs : DeclaredPairs types (B .pairs)
   opened-pairs p q m = o .within p q (o .pairs p q .1 m)
@@ -47,7 +47,7 @@ module _ (bytes : Bytes) (s : Store) (types count goals : ℕ) (B : Book) (o : O
 
   pub check-accepted : (rows : List ℕ) → Hold rows (Closed types (InRows (s .direct))) → Accepted types count (pairsIn rows) ≡ bookCheck bytes
   check-accepted rows hold =
-      let pairs = pairs-in-closed types (B .pairs) rows (o .few-types) opened-pairs (opened-order rows hold) in
+      let pairs = pairs-in-closed types (B .pairs) rows (o .named .few) opened-pairs (opened-order rows hold) in
       rw (o .parsed, opened-types, opened-entries, pairs)
 
 pub check-refused : (bytes : Bytes) (number value : ℕ) → parse bytes ≡ refused number value → Refused number value ≡ bookCheck bytes

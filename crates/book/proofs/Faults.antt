@@ -4,15 +4,17 @@ use native.Mathlib.Omega.{arith}
 use mathlib.Core.Path.{_≡_, refl, _∙_}
 use mathlib.Core.Bool.{Bool, true, false, not, cond, _&&_}
 use mathlib.Core.List.{List, [], _∷_}
-use lib.Dec.{leb, eqb}
+use lib.Dec.{leb, ltb, eqb}
 use borrow.Author.Tests.{lt-ltb, le-ltb}
 use lib.ListN.{length, getD}
-use Rattle.figures.specs.Limits.{maxTypes, maxEntries, maxTargets}
-use Rattle.figures.specs.Refusals.{kindNotListed, badLayout, undeclaredType, exponentOutside, nameUsed, tooManyTargets, tooManyRecords}
+use Rattle.figures.specs.Limits.{maxTypes, maxEntries, maxTargets, maxEntrySimples}
+use Rattle.figures.specs.Refusals.{kindNotListed, badLayout, undeclaredType, exponentOutside, nameUsed, tooManyTargets, tooManyRecords, bracketsTooDeep, notAType, typeTooLong}
 use Rattle.format.proofs.Bools.{and-true}
 use Rattle.format.specs.Records.{Bytes, every, between}
 use Rattle.format.specs.Names.{isName, isAmong}
-use Rattle.book.specs.Format.{isEntry, declaredAmong, exponentListed, bodyRules, firstBroken, bases, exponents, simplesOf, typePart}
+use Rattle.slash.specs.Brackets.{tooDeep}
+use Rattle.slash.specs.Trees.{hasTree, textType}
+use Rattle.book.specs.Format.{isWorded, isEntry, declaredAmong, exponentListed, bodyRules, firstBroken, bases, exponents, simplesOf, typePart}
 
 -- Every one of one, and of two.
 pub every-one : (test : ℕ → Bool) (body : Bytes) → length body ≡ 1 → every test body ≡ test (getD {A = ℕ} body 0 0)
@@ -72,6 +74,17 @@ module _ (body : Bytes) (names : List Bytes) (entries : ℕ) (targets : ℕ) whe
   unfolding bodyRules firstBroken every
   target-rules = refl
 
+  pub slashed-rules :
+      firstBroken (bodyRules 5 body names entries targets)
+      ≡ cond (not (isWorded body)) badLayout
+      (cond (tooDeep (typePart body)) bracketsTooDeep
+      (cond (not (hasTree (typePart body))) notAType
+      (cond (not (every (declaredAmong (length names)) (bases (textType names (typePart body))))) undeclaredType
+      (cond (not (every exponentListed (exponents (textType names (typePart body))))) exponentOutside
+      (cond (ltb maxEntrySimples (length (textType names (typePart body)))) typeTooLong (cond (leb maxEntries entries) tooManyRecords 0))))))
+  unfolding bodyRules firstBroken every
+  slashed-rules = refl
+
   -- The same by the answers of the tests.
   pub name-faults :
       {layout used full : Bool} → isName body ≡ layout → isAmong names body ≡ used → leb maxTypes (length names) ≡ full
@@ -95,6 +108,18 @@ module _ (body : Bytes) (names : List Bytes) (entries : ℕ) (targets : ℕ) whe
       → firstBroken (bodyRules 4 body names entries targets) ≡ cond (not layout) badLayout (cond (not declared) undeclaredType (cond full tooManyTargets 0))
   target-faults l d f = rw (target-rules, l, d, f)
 
-  pub unlisted-faults : (kind : ℕ) → between 1 4 kind ≡ false → firstBroken (bodyRules kind body names entries targets) ≡ kindNotListed
+  pub slashed-faults :
+      {layout deep tree declared listed long full : Bool} → isWorded body ≡ layout → tooDeep (typePart body) ≡ deep → hasTree (typePart body) ≡ tree
+      → every (declaredAmong (length names)) (bases (textType names (typePart body))) ≡ declared
+      → every exponentListed (exponents (textType names (typePart body))) ≡ listed
+      → ltb maxEntrySimples (length (textType names (typePart body))) ≡ long → leb maxEntries entries ≡ full
+      → firstBroken (bodyRules 5 body names entries targets)
+      ≡ cond (not layout) badLayout
+      (cond deep bracketsTooDeep
+      (cond (not tree) notAType
+      (cond (not declared) undeclaredType (cond (not listed) exponentOutside (cond long typeTooLong (cond full tooManyRecords 0))))))
+  slashed-faults l b t d e s f = rw (slashed-rules, l, b, t, d, e, s, f)
+
+  pub unlisted-faults : (kind : ℕ) → between 1 5 kind ≡ false → firstBroken (bodyRules kind body names entries targets) ≡ kindNotListed
   unfolding bodyRules firstBroken
   unlisted-faults kind h = rw h

@@ -1,29 +1,30 @@
 -- What is kept behind a record that breaks no rule stands for the book read so far with the record added: a law for each kind of record.
-use Prim.Native.Nat.{ℕ, _+_, _≤_, _<_}
+use Prim.Native.Nat.{ℕ, zero, suc, _+_, _≤_, _<_}
 use native.Mathlib.Numerals.{add-one}
 use native.Mathlib.Omega.{arith}
 use native.Mathlib.Decide.{ℕ-discrete}
-use mathlib.Core.Path.{_≡_, refl, sym, ap, ap₂, _∙_}
+use mathlib.Core.Path.{_≡_, refl, sym, ap, ap₂, subst, _∙_}
 use mathlib.Core.Logic.{_↔_, _⊎_, inl, inr, ⊎-elim}
-use mathlib.Core.Bool.{true}
+use mathlib.Core.Bool.{Bool, true, false, cond, true≢false}
 use mathlib.Core.List.{List, [], _∷_, _++_, map, map-append, List·Memᴰ, List·Memᴰ·append-cases, Memᴰ·append-left, Memᴰ·append-right, List·Memᴰ·eq-of-singleton, List·Memᴰ·head}
-use lib.Dec.{ltb}
 use lib.ListN.{length, getD, take, set, length-map, length-set}
-use lib.Seq.{length-take-le, take-suc-set, getD-set-same, getD-set-other}
-use borrow.Author.Tests.{lt-ltb, ltb-true}
+use lib.Seq.{length-take-le, take-set-le, take-suc-set, getD-set-same, getD-set-other}
+use borrow.Author.Tests.{lt-ltb}
 use Rattle.bits.specs.Bits.{Has, Members}
 use Rattle.pregroup.specs.Held.{InRows}
 use Rattle.order.specs.Closed.{Pair, Within, Listed}
-use Rattle.figures.specs.Limits.{maxTypes, maxEntries, maxTargets}
+use Rattle.figures.specs.Limits.{maxTypes, maxEntries, maxTargets, maxName}
 use Rattle.order.specs.Rows.{Hold}
-use Rattle.format.specs.Records.{Bytes, twoBytes, bodyAt, nextAt, kindAt, every}
-use Rattle.book.specs.Format.{Book, Entry, bodyRules, recordRules, firstBroken, entryOf, add, declaredAmong}
-use Rattle.format.specs.Records.{bodiesAt, Whole}
-use Rattle.book.specs.Kept.{Formed, AllFormed, TargetsDeclared, Store, store, Sound, Keeps, Taking, nextFault}
+use Rattle.format.specs.Records.{Bytes, sameBytes, twoBytes, bodyAt, nextAt, kindAt, bodiesAt, Whole}
+use Rattle.format.specs.Names.{numberOf, isAmong, Named, Keeping}
+use Rattle.format.proofs.NameLaws.{equal-same, bodies-length, bodies-at, name-short}
+use Rattle.slash.proofs.Counting.{name-form}
+use Rattle.book.specs.Format.{Book, Entry, bodyRules, recordRules, firstBroken, add}
+use Rattle.book.specs.Kept.{entryFrom, entriesAt, Formed, AllFormed, TargetsDeclared, Store, store, Sound, Keeps, Taking, nextFault}
 use Rattle.book.specs.declared.Progress.{Progress}
-use Rattle.format.proofs.Bools.{both}
-use Rattle.format.proofs.NameLaws.{bodies-length}
-use Rattle.book.proofs.NoFault.{no-fault-whole, no-fault-body, name-no-fault, pair-no-fault, entry-no-fault, target-no-fault, Kind, basic-type, order-pair, entry, target, no-fault-kind}
+use Rattle.book.specs.Format.{EntryKind}
+use Rattle.book.proofs.GoodEntries.{good-entry, add-entry, formed-more, entries-more}
+use Rattle.book.proofs.NoFault.{no-fault-whole, no-fault-body, name-no-fault, pair-no-fault, target-no-fault, Kind, basic-type, order-pair, entry, target, slashed-entry, no-fault-kind}
 
 -- One offset more.
 whole-more : (bytes : Bytes) (offsets : List ℕ) (n at : ℕ) → n < length offsets → nextAt bytes at ≤ length bytes → Whole bytes offsets n → Whole bytes (set offsets n at) (n + 1)
@@ -36,30 +37,94 @@ whole-more bytes offsets n at room whole w = record { room = omega (arith, lengt
         go (yes e) = rw (e, getD-set-same offsets n at 0 room) whole
         go (no d) = rw (getD-set-other offsets n i at 0 d) (w .whole i (omega (arith, d)))
 
-bodies-more : (bytes : Bytes) (offsets : List ℕ) (n at : ℕ) → n < length offsets → bodiesAt bytes (set offsets n at) (n + 1) ≡ bodiesAt bytes offsets n ++ (bodyAt bytes at ∷ [])
-bodies-more bytes offsets n at room = rw (add-one n, take-suc-set offsets n at room) (map-append (bodyAt bytes) (take n offsets) (at ∷ []))
+take-more : (l : List ℕ) (n x : ℕ) → n < length l → take (n + 1) (set l n x) ≡ take n l ++ (x ∷ [])
+take-more l n x room = rw (add-one n) (take-suc-set l n x room)
 
--- More types declare no less.
-declared-more : (n m : ℕ) → n ≤ m → (numbers : List ℕ) → every (declaredAmong n) numbers ≡ true → every (declaredAmong m) numbers ≡ true
-unfolding every
-declared-more n m h [] e = refl
-declared-more n m h (x ∷ numbers) e =
-    let t = both (ltb x n) (every (declaredAmong n) numbers) e in
-    let small : x < n = ltb-true x n (t .0) in
-    rw (lt-ltb x m (omega arith), declared-more n m h numbers (t .1))
+-- A name that stands among others is found among them.
+among-place : (d : Bytes) (names : List Bytes) (name : Bytes) (i : ℕ) → i < length names → name ≡ getD names i d → numberOf names name < length names
+unfolding numberOf
+among-place d [] name i h e = absurd (omega arith)
+among-place d (n ∷ names) name zero h e = rw (equal-same name n e) (omega arith)
+among-place d (n ∷ names) name (suc i) h e = go (sameBytes name n) (among-place d names name i (omega arith) e)
+  where
+    go : (t : Bool) → numberOf names name < length names → cond t 0 (suc (numberOf names name)) < suc (length names)
+    go true l = omega arith
+    go false l = omega arith
 
-formed-more : (n m : ℕ) (body : Bytes) → n ≤ m → Formed n body → Formed m body
-formed-more n m body h f = record { layout = f .layout; declared = declared-more n m h _ (f .declared); listed = f .listed }
+-- One name more. What is kept of it but its offset stands behind all offsets.
+module _ (bytes : Bytes) (offsets : List ℕ) (n at : ℕ) (offsets′ : List ℕ) (k : Keeping offsets n at offsets′) (few : n < maxTypes) (named : Named bytes offsets n) where
+  kept-length : length offsets′ ≡ length offsets
+  kept-length = ap length (k .kept) ∙ length-set (set offsets n at) (k .place) n ∙ length-set offsets n at
+
+  kept-at : (i : ℕ) → i < n + 1 → getD {A = ℕ} offsets′ i 0 ≡ getD {A = ℕ} (set offsets n at) i 0
+  kept-at i h = ap (λ (l : List ℕ). getD {A = ℕ} l i 0) (k .kept) ∙ getD-set-other (set offsets n at) (k .place) i n 0 (λ e. omega (arith, k .behind))
+
+  kept-new : getD {A = ℕ} offsets′ n 0 ≡ at
+  kept-new = kept-at n (omega arith) ∙ getD-set-same offsets n at 0 (omega (arith, named .places))
+
+  kept-old : (i : ℕ) → i < n → getD {A = ℕ} offsets′ i 0 ≡ getD {A = ℕ} offsets i 0
+  kept-old i h = kept-at i (omega arith) ∙ getD-set-other offsets n i at 0 (λ e. omega arith)
+
+  kept-bodies : bodiesAt bytes offsets′ (n + 1) ≡ bodiesAt bytes offsets n ++ (bodyAt bytes at ∷ [])
+  kept-bodies =
+      ap (λ (l : List ℕ). bodiesAt bytes l (n + 1)) (k .kept)
+      ∙ ap (map (bodyAt bytes)) (take-set-le (n + 1) (set offsets n at) (k .place) n (omega (arith, k .behind)))
+      ∙ ap (map (bodyAt bytes)) (take-more offsets n at (omega (arith, named .places)))
+      ∙ map-append (bodyAt bytes) (take n offsets) (at ∷ [])
+
+  -- A name that is not used yet is that of no kept record ..
+  unused-fresh : isAmong (bodiesAt bytes offsets n) (bodyAt bytes at) ≡ false → (i : ℕ) → i < n → bodyAt bytes at ≡ bodyAt bytes (getD {A = ℕ} offsets i 0) → ⊥
+  unused-fresh unused i h e =
+      let all = bodies-length bytes offsets n (named .whole .room) in
+      let used = among-place (bodyAt bytes 0) (bodiesAt bytes offsets n) (bodyAt bytes at) i (omega arith) (e ∙ sym (bodies-at bytes offsets n i h)) in
+      true≢false (sym (lt-ltb _ _ used) ∙ unused)
+
+  -- .. so with it all names are different.
+  still-different :
+      isAmong (bodiesAt bytes offsets n) (bodyAt bytes at) ≡ false → (i j : ℕ) → i < n + 1 → j < n + 1
+      → bodyAt bytes (getD {A = ℕ} offsets′ i 0) ≡ bodyAt bytes (getD {A = ℕ} offsets′ j 0) → i ≡ j
+  still-different unused i j h l e = go (ℕ-discrete i n) (ℕ-discrete j n)
+    where
+      new : (i : ℕ) → i ≡ n → bodyAt bytes (getD {A = ℕ} offsets′ i 0) ≡ bodyAt bytes at
+      new i q = ap (λ (m : ℕ). bodyAt bytes (getD {A = ℕ} offsets′ m 0)) q ∙ ap (bodyAt bytes) kept-new
+
+      old : (i : ℕ) → i < n → bodyAt bytes (getD {A = ℕ} offsets′ i 0) ≡ bodyAt bytes (getD {A = ℕ} offsets i 0)
+      old i q = ap (bodyAt bytes) (kept-old i q)
+
+      go : Dec (i ≡ n) → Dec (j ≡ n) → i ≡ j
+      go (yes a) (yes b) = a ∙ sym b
+      go (yes a) (no b) = let small : j < n = omega (arith, b) in absurd (unused-fresh unused j small (sym (new i a) ∙ e ∙ old j small))
+      go (no a) (yes b) = let small : i < n = omega (arith, a) in absurd (unused-fresh unused i small (sym (new j b) ∙ sym e ∙ old i small))
+      go (no a) (no b) =
+          let left : i < n = omega (arith, a) in
+          let right : j < n = omega (arith, b) in
+          named .different i j left right (sym (old i left) ∙ e ∙ old j right)
+
+  named-more : nextAt bytes at ≤ length bytes → isAmong (bodiesAt bytes offsets n) (bodyAt bytes at) ≡ false → Named bytes offsets′ (n + 1)
+  named-more whole unused =
+      let more = whole-more bytes offsets n at (omega (arith, named .places)) whole (named .whole) in
+      record {
+        whole = record {
+          room = omega (arith, kept-length, named .places);
+          whole = λ i h. subst (λ (m : ℕ). nextAt bytes m ≤ length bytes) (sym (kept-at i h)) (more .whole i h);
+        };
+        few = omega arith;
+        places = omega (arith, kept-length, named .places);
+        different = still-different unused;
+      }
 
 -- One entry more.
 formed-next :
-    (bytes : Bytes) (offsets : List ℕ) (types n at : ℕ) → n < length offsets → Formed types (bodyAt bytes at) → AllFormed bytes offsets types n
-    → AllFormed bytes (set offsets n at) types (n + 1)
-formed-next bytes offsets types n at room f all i h = go (ℕ-discrete i n)
+    (bytes : Bytes) (names : List Bytes) (offsets : List ℕ) (n at : ℕ) → n < length offsets → Formed bytes names at → AllFormed bytes names offsets n
+    → AllFormed bytes names (set offsets n at) (n + 1)
+formed-next bytes names offsets n at room f all i h = go (ℕ-discrete i n)
   where
-    go : Dec (i ≡ n) → Formed types (bodyAt bytes (getD {A = ℕ} (set offsets n at) i 0))
+    go : Dec (i ≡ n) → Formed bytes names (getD {A = ℕ} (set offsets n at) i 0)
     go (yes e) = rw (e, getD-set-same offsets n at 0 room) f
     go (no d) = rw (getD-set-other offsets n i at 0 d) (all i (omega (arith, d)))
+
+entries-next : (bytes : Bytes) (names : List Bytes) (offsets : List ℕ) (n at : ℕ) → n < length offsets → entriesAt bytes names (set offsets n at) (n + 1) ≡ entriesAt bytes names offsets n ++ (entryFrom bytes names at ∷ [])
+entries-next bytes names offsets n at room = ap (map (entryFrom bytes names)) (take-more offsets n at room) ∙ map-append (entryFrom bytes names) (take n offsets) (at ∷ [])
 
 -- One target more.
 declared-next : (targets : List ℕ) (types n t : ℕ) → n < length targets → t < types → TargetsDeclared targets types n → TargetsDeclared (set targets n t) types (n + 1)
@@ -68,9 +133,6 @@ declared-next targets types n t room small all i h = go (ℕ-discrete i n)
     go : Dec (i ≡ n) → getD {A = ℕ} (set targets n t) i 0 < types
     go (yes e) = rw (e, getD-set-same targets n t 0 room) small
     go (no d) = rw (getD-set-other targets n i t 0 d) (all i (omega (arith, d)))
-
-targets-more : (targets : List ℕ) (n t : ℕ) → n < length targets → take (n + 1) (set targets n t) ≡ take n targets ++ (t ∷ [])
-targets-more targets n t room = rw (add-one n) (take-suc-set targets n t room)
 
 -- One pair more.
 pub listed-more :
@@ -122,11 +184,11 @@ within-more rows types a b w room small smaller members within p q = go (ℕ-dis
 
 module _ (bytes : Bytes) (s : Store) (p : Progress) (sound : Sound bytes s p) where
   names-count : length (bodiesAt bytes (s .names) (p .types)) ≡ p .types
-  names-count = bodies-length bytes (s .names) (p .types) (sound .names-whole .room)
+  names-count = bodies-length bytes (s .names) (p .types) (sound .named .whole .room)
 
   entries-count : (B : Book) → Keeps bytes s p B → length (B .entries) ≡ p .entries
   entries-count B k =
-      ap length (k .entries) ∙ length-map (bodiesAt bytes (s .entries) (p .entries)) entryOf ∙ bodies-length bytes (s .entries) (p .entries) (sound .entries-whole .room)
+      ap length (k .entries) ∙ length-map (take (p .entries) (s .entries)) (entryFrom bytes (B .names)) ∙ length-take-le (p .entries) (s .entries) (sound .entries-whole .room)
 
   pub targets-count : (B : Book) → Keeps bytes s p B → length (B .targets) ≡ p .targets
   targets-count B k = ap length (k .targets) ∙ length-take-le (p .targets) (s .targets) (omega (arith, sound .few-targets, sound .roomy .targets-room))
@@ -150,16 +212,18 @@ module _ (bytes : Bytes) (s : Store) (p : Progress) (sound : Sound bytes s p) wh
     body-fault k = no-fault-body bytes (p .at) _ _ _ (sym found) k
 
     -- The places that the code reads and writes are there.
-    pub name-place : kindAt bytes (p .at) ≡ 1 → p .types < maxTypes
-    name-place kind = let fine = name-no-fault _ _ _ _ (body-fault kind) in omega (arith, names-count)
+    pub name-place : kindAt bytes (p .at) ≡ 1 → (p .types < maxTypes) × (1 ≤ length (bodyAt bytes (p .at))) × (length (bodyAt bytes (p .at)) ≤ maxName)
+    name-place kind =
+        let fine = name-no-fault _ _ _ _ (body-fault kind) in
+        (omega (arith, names-count, fine .2), name-form (bodyAt bytes (p .at)) (fine .0) .some-bytes, name-short (bodyAt bytes (p .at)) (fine .0))
 
-    pub entry-place : kindAt bytes (p .at) ≡ 3 → p .entries < maxEntries
-    entry-place kind = entry-no-fault _ _ _ _ (body-fault kind) .3
+    pub entry-place : EntryKind (kindAt bytes (p .at)) → p .entries < maxEntries
+    entry-place kind = good-entry kind _ _ _ _ (body-fault refl) .1
 
-    entry-formed : kindAt bytes (p .at) ≡ 3 → Formed (p .types) (bodyAt bytes (p .at))
+    entry-formed : EntryKind (kindAt bytes (p .at)) → Formed bytes (bodiesAt bytes (s .names) (p .types)) (p .at)
     entry-formed kind =
-        let fine = entry-no-fault _ _ _ _ (body-fault kind) in
-        record { layout = fine .0; declared = rw names-count at (fine .1); listed = fine .2 }
+        let good = good-entry kind _ _ _ _ (body-fault refl) .0 in
+        record { worded = good .worded; shaped = good .shaped; declared = good .declared; listed = good .listed; short = good .short }
 
     pub pair-place : kindAt bytes (p .at) ≡ 2
         → (length (bodyAt bytes (p .at)) ≡ 2) × (getD {A = ℕ} (bodyAt bytes (p .at)) 0 0 < p .types) × (getD {A = ℕ} (bodyAt bytes (p .at)) 1 0 < p .types)
@@ -171,58 +235,60 @@ module _ (bytes : Bytes) (s : Store) (p : Progress) (sound : Sound bytes s p) wh
         → (length (bodyAt bytes (p .at)) ≡ 1) × (getD {A = ℕ} (bodyAt bytes (p .at)) 0 0 < p .types) × (p .targets < maxTargets)
     target-place kind = let fine = target-no-fault _ _ _ _ (body-fault kind) in (fine .0, omega (arith, names-count), fine .2)
 
-    -- A record that breaks no rule and is of none of the first three kinds is a target.
-    pub kind-left : (n : ℕ) → n ≡ twoBytes bytes (p .at + 2) → (n ≡ 1 → ⊥) → (n ≡ 2 → ⊥) → (n ≡ 3 → ⊥) → kindAt bytes (p .at) ≡ 4
-    kind-left n e a b c = go (no-fault-kind _ _ _ _ _ (body-fault refl)) (λ k. a (e ∙ k)) (λ k. b (e ∙ k)) (λ k. c (e ∙ k))
+    -- A record that breaks no rule, and is no basic type, no pair and no entry, is a target.
+    pub kind-left : (n : ℕ) → n ≡ twoBytes bytes (p .at + 2) → (n ≡ 1 → ⊥) → (n ≡ 2 → ⊥) → (n ≡ 3 → ⊥) → (n ≡ 5 → ⊥) → kindAt bytes (p .at) ≡ 4
+    kind-left n e a b c d = go (no-fault-kind _ _ _ _ _ (body-fault refl)) (λ k. a (e ∙ k)) (λ k. b (e ∙ k)) (λ k. c (e ∙ k)) (λ k. d (e ∙ k))
       where
-        go : {kind : ℕ} → Kind kind → (kind ≡ 1 → ⊥) → (kind ≡ 2 → ⊥) → (kind ≡ 3 → ⊥) → kind ≡ 4
-        go basic-type f g h = absurd (f refl)
-        go order-pair f g h = absurd (g refl)
-        go entry f g h = absurd (h refl)
-        go target f g h = refl
+        go : {kind : ℕ} → Kind kind → (kind ≡ 1 → ⊥) → (kind ≡ 2 → ⊥) → (kind ≡ 3 → ⊥) → (kind ≡ 5 → ⊥) → kind ≡ 4
+        go basic-type f g h k = absurd (f refl)
+        go order-pair f g h k = absurd (g refl)
+        go entry f g h k = absurd (h refl)
+        go target f g h k = refl
+        go slashed-entry f g h k = absurd (k refl)
 
   module _ (found : Found 0) (next : ℕ) (on : next ≡ nextAt bytes (p .at)) where
-    pub name-taken : kindAt bytes (p .at) ≡ 1
-        → Taking bytes s p (store (set (s .names) (p .types) (p .at)) (s .entries) (s .direct) (s .targets)) (record { at = next; types = p .types + 1; entries = p .entries; targets = p .targets })
+    pub name-taken : kindAt bytes (p .at) ≡ 1 → (names : List ℕ) → Keeping (s .names) (p .types) (p .at) names
+        → Taking bytes s p (store names (s .entries) (s .direct) (s .targets)) (record { at = next; types = p .types + 1; entries = p .entries; targets = p .targets })
     unfolding add
-    name-taken kind =
-        let few = name-place found kind in
-        let room : p .types < length (s .names) = omega (arith, sound .roomy .names-room) in
+    name-taken kind names kept =
+        let few = name-place found kind .0 in
+        let more = kept-bodies bytes (s .names) (p .types) (p .at) names kept few (sound .named) in
         record {
           sound = record {
             short = sound .short;
             reached = rw on (whole found);
             roomy = record {
-              names-room = omega (arith, length-set (s .names) (p .types) (p .at), sound .roomy .names-room);
+              names-room = omega (arith, kept-length bytes (s .names) (p .types) (p .at) names kept few (sound .named), sound .roomy .names-room);
               entries-room = sound .roomy .entries-room;
               rows = sound .roomy .rows;
               targets-room = sound .roomy .targets-room;
             };
-            few-types = omega arith;
             few-entries = sound .few-entries;
             few-targets = sound .few-targets;
-            names-whole = whole-more bytes (s .names) (p .types) (p .at) room (whole found) (sound .names-whole);
+            named = named-more bytes (s .names) (p .types) (p .at) names kept few (sound .named) (whole found) (name-no-fault _ _ _ _ (body-fault found kind) .1);
             entries-whole = sound .entries-whole;
-            formed = λ i h. formed-more (p .types) (p .types + 1) _ (omega arith) (sound .formed i h);
+            formed = λ i h.
+                subst (λ (l : List Bytes). Formed bytes l (getD {A = ℕ} (s .entries) i 0)) (sym more)
+                (formed-more (bodiesAt bytes (s .names) (p .types)) (bodyAt bytes (p .at) ∷ []) bytes (getD {A = ℕ} (s .entries) i 0) (sound .formed i h));
             targets-declared = λ i h. omega (arith, sound .targets-declared i h);
             within = λ a b h. let t = sound .within a b h in (omega arith, omega arith);
           };
           on = on;
-          right = λ B k. (
-            fault-kept 0 found B k,
-            rw kind
-                (record {
-                  names = ap (λ (l : List Bytes). l ++ (bodyAt bytes (p .at) ∷ [])) (k .names) ∙ sym (bodies-more bytes (s .names) (p .types) (p .at) room);
-                  pairs = k .pairs;
-                  entries = k .entries;
-                  targets = k .targets;
-                }),
-          );
+          right = λ B k.
+              let formed : AllFormed bytes (B .names) (s .entries) (p .entries) = subst (λ (l : List Bytes). AllFormed bytes l (s .entries) (p .entries)) (sym (k .names)) (sound .formed) in (
+                fault-kept 0 found B k,
+                rw kind
+                    (record {
+                      names = ap (λ (l : List Bytes). l ++ (bodyAt bytes (p .at) ∷ [])) (k .names) ∙ sym more;
+                      pairs = k .pairs;
+                      entries = k .entries ∙ sym (entries-more (B .names) (bodyAt bytes (p .at) ∷ []) bytes (s .entries) (p .entries) (sound .entries-whole .room) formed);
+                      targets = k .targets;
+                    }),
+              );
         }
 
-    pub entry-taken : kindAt bytes (p .at) ≡ 3
+    pub entry-taken : EntryKind (kindAt bytes (p .at))
         → Taking bytes s p (store (s .names) (set (s .entries) (p .entries) (p .at)) (s .direct) (s .targets)) (record { at = next; types = p .types; entries = p .entries + 1; targets = p .targets })
-    unfolding add
     entry-taken kind =
         let few = entry-place found kind in
         let room : p .entries < length (s .entries) = omega (arith, sound .roomy .entries-room) in
@@ -236,26 +302,24 @@ module _ (bytes : Bytes) (s : Store) (p : Progress) (sound : Sound bytes s p) wh
               rows = sound .roomy .rows;
               targets-room = sound .roomy .targets-room;
             };
-            few-types = sound .few-types;
             few-entries = omega arith;
             few-targets = sound .few-targets;
-            names-whole = sound .names-whole;
+            named = sound .named;
             entries-whole = whole-more bytes (s .entries) (p .entries) (p .at) room (whole found) (sound .entries-whole);
-            formed = formed-next bytes (s .entries) (p .types) (p .entries) (p .at) room (entry-formed found kind) (sound .formed);
+            formed = formed-next bytes (bodiesAt bytes (s .names) (p .types)) (s .entries) (p .entries) (p .at) room (entry-formed found kind) (sound .formed);
             targets-declared = sound .targets-declared;
             within = sound .within;
           };
           on = on;
           right = λ B k. (
             fault-kept 0 found B k,
-            rw kind
+            rw (add-entry kind (bodyAt bytes (p .at)) B)
                 (record {
                   names = k .names;
                   pairs = k .pairs;
                   entries =
-                      ap (λ (l : List Entry). l ++ (entryOf (bodyAt bytes (p .at)) ∷ [])) (k .entries)
-                      ∙ sym (map-append entryOf (bodiesAt bytes (s .entries) (p .entries)) (bodyAt bytes (p .at) ∷ []))
-                      ∙ ap (map entryOf) (sym (bodies-more bytes (s .entries) (p .entries) (p .at) room));
+                      ap (λ (l : List Entry). l ++ (entryFrom bytes (B .names) (p .at) ∷ [])) (k .entries)
+                      ∙ sym (entries-next bytes (B .names) (s .entries) (p .entries) (p .at) room);
                   targets = k .targets;
                 }),
           );
@@ -267,7 +331,7 @@ module _ (bytes : Bytes) (s : Store) (p : Progress) (sound : Sound bytes s p) wh
     unfolding add
     pair-taken kind lower upper row lo up members =
         let fine = pair-place found kind in
-        let room : lower < length (s .direct) = omega (arith, fine .1, sound .few-types, sound .roomy .rows) in
+        let room : lower < length (s .direct) = omega (arith, fine .1, sound .named .few, sound .roomy .rows) in
         record {
           sound = record {
             short = sound .short;
@@ -278,10 +342,9 @@ module _ (bytes : Bytes) (s : Store) (p : Progress) (sound : Sound bytes s p) wh
               rows = length-set (s .direct) lower row ∙ sound .roomy .rows;
               targets-room = sound .roomy .targets-room;
             };
-            few-types = sound .few-types;
             few-entries = sound .few-entries;
             few-targets = sound .few-targets;
-            names-whole = sound .names-whole;
+            named = sound .named;
             entries-whole = sound .entries-whole;
             formed = sound .formed;
             targets-declared = sound .targets-declared;
@@ -311,10 +374,9 @@ module _ (bytes : Bytes) (s : Store) (p : Progress) (sound : Sound bytes s p) wh
               rows = sound .roomy .rows;
               targets-room = omega (arith, length-set (s .targets) (p .targets) t, sound .roomy .targets-room);
             };
-            few-types = sound .few-types;
             few-entries = sound .few-entries;
             few-targets = omega (arith, fine .2);
-            names-whole = sound .names-whole;
+            named = sound .named;
             entries-whole = sound .entries-whole;
             formed = sound .formed;
             targets-declared = declared-next (s .targets) (p .types) (p .targets) t room (omega (arith, fine .1)) (sound .targets-declared);
@@ -328,7 +390,7 @@ module _ (bytes : Bytes) (s : Store) (p : Progress) (sound : Sound bytes s p) wh
                   names = k .names;
                   pairs = k .pairs;
                   entries = k .entries;
-                  targets = ap (λ (l : List ℕ). l ++ (t ∷ [])) (k .targets) ∙ sym (targets-more (s .targets) (p .targets) t room);
+                  targets = ap (λ (l : List ℕ). l ++ (t ∷ [])) (k .targets) ∙ sym (take-more (s .targets) (p .targets) t room);
                 }),
           );
         }

@@ -2,11 +2,16 @@
 pub mod Bools
 pub mod Layouts
 pub mod Simples
+pub mod RaiseLaws
+pub mod HeldTypes
 pub mod Faults
+pub mod Texts
+pub mod EntryTypes
 pub mod EntryLaws
 pub mod WholeRecords
 pub mod NoFault
-pub mod SmallestNumber
+pub mod FirstBroken
+pub mod GoodEntries
 pub mod Parsing
 pub mod Keeping
 pub mod Scanning
@@ -14,5 +19,8 @@ pub mod Checking
 pub mod Accepted
 pub mod Promises
 pub mod TargetAdded
+pub mod Notation
 pub mod PaperBooks
+pub mod Slashed
+pub mod TextRules
 pub mod Examples

@@ -15,6 +15,10 @@ pairRecord lower upper = recordOf 2 (lower ∷ upper ∷ [])
 abbrev pub entryRecord : Bytes → Bytes → Bytes
 entryRecord word simples = recordOf 3 (entryBody word simples)
 
+-- The type as its text.
+abbrev pub slashedRecord : Bytes → Bytes → Bytes
+slashedRecord word text = recordOf 5 (entryBody word text)
+
 abbrev pub targetRecord : ℕ → Bytes
 targetRecord number = recordOf 4 (number ∷ [])
 

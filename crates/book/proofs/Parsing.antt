@@ -17,21 +17,21 @@ use Rattle.book.specs.Format.{Book, Parsed, accepted, refused, parse, no
 use Rattle.book.specs.Kept.{nextFault}
 use Rattle.book.specs.Check.{GoodUpTo, start, next, Cause, too-long, bad-record, no-target}
 use Rattle.book.proofs.NoFault.{no-fault-whole}
-use Rattle.book.proofs.SmallestNumber.{Decided, clean, broken, fault-decided, fault-clean, fault-smallest, breaks-within}
+use Rattle.book.proofs.FirstBroken.{Decided, clean, broken, fault-decided, fault-clean, fault-first, breaks-within}
 
 module _ (bytes : Bytes) where
-  records-end : (more at : ℕ) (B : Book) → length bytes ≤ at → recordsFrom more bytes at B ≡ ended bytes B
+  pub records-end : (more at : ℕ) (B : Book) → length bytes ≤ at → recordsFrom more bytes at B ≡ ended bytes B
   unfolding recordsFrom
   records-end zero at B h = refl
   records-end (suc more) at B h = rw (le-ltb at (length bytes) h)
 
-  records-next :
+  pub records-next :
       (more at : ℕ) (B : Book) → at < length bytes → nextFault bytes at B ≡ 0
       → recordsFrom (suc more) bytes at B ≡ recordsFrom more bytes (nextAt bytes at) (withNext bytes at B)
   unfolding recordsFrom
   records-next more at B h e = rw (lt-ltb at (length bytes) h, e)
 
-  records-bad : (more at : ℕ) (B : Book) (n : ℕ) → at < length bytes → nextFault bytes at B ≡ n → 0 < n → recordsFrom (suc more) bytes at B ≡ refused n at
+  pub records-bad : (more at : ℕ) (B : Book) (n : ℕ) → at < length bytes → nextFault bytes at B ≡ n → 0 < n → recordsFrom (suc more) bytes at B ≡ refused n at
   unfolding recordsFrom
   records-bad more at B n h e real = rw (lt-ltb at (length bytes) h, e, ne-eqb n 0 (omega arith))
 
@@ -44,7 +44,7 @@ module _ (bytes : Bytes) where
   same-step m at B h rest n k (no l) fault f t = records-end (suc m) at B (omega (arith, l)) ∙ sym (records-end n at B (omega (arith, l)))
   same-step m at B h rest zero k (yes l) fault f t = absurd (omega arith)
   same-step m at B h rest (suc n) k (yes l) fault f (clean e never) = records-next m at B l (f ∙ e) ∙ rest n (omega arith) ∙ sym (records-next n at B l (f ∙ e))
-  same-step m at B h rest (suc n) k (yes l) fault f (broken real b least) = records-bad m at B fault l f real ∙ sym (records-bad n at B fault l f real)
+  same-step m at B h rest (suc n) k (yes l) fault f (broken real b first) = records-bad m at B fault l f real ∙ sym (records-bad n at B fault l f real)
 
   -- From an offset on, all bounds that reach the book's end give the same.
   records-same : (m n at : ℕ) (B : Book) → length bytes ≤ at + m → length bytes ≤ at + n → recordsFrom m bytes at B ≡ recordsFrom n bytes at B
@@ -69,7 +69,7 @@ module _ (bytes : Bytes) where
       by (no h) = omega (arith, h)
 
   module _ (short : length bytes ≤ maxBook) where
-    parse-short : parse bytes ≡ recordsFrom (length bytes) bytes 0 nothingYet
+    pub parse-short : parse bytes ≡ recordsFrom (length bytes) bytes 0 nothingYet
     unfolding parse
     parse-short = rw (le-ltb maxBook (length bytes) short)
 
@@ -103,8 +103,8 @@ module _ (bytes : Bytes) where
   -- A cause for a refusal is what the book comes to.
   pub cause-refuses : {n v : ℕ} → Cause bytes n v → parse bytes ≡ refused n v
   cause-refuses (too-long h) = long-refused h
-  cause-refuses (bad-record {at} {n} {B} short good h b least) =
-      bad-refuses short good n h (fault-smallest bytes at B n b least) (breaks-within bytes at B n b .0)
+  cause-refuses (bad-record {at} {n} {B} short good h b first) =
+      bad-refuses short good n h (fault-first bytes at B n b first) (breaks-within bytes at B n b .0)
   cause-refuses (no-target {B} short good none) = end-parse short good (omega arith) ∙ ended-none B none
 
   -- What a book comes to, with its cause.
@@ -130,7 +130,7 @@ module _ (bytes : Bytes) where
       → Dec (at < length bytes) → (fault : ℕ) → nextFault bytes at B ≡ fault → Decided (nextRules bytes at B) fault → Comes (recordsFrom (suc more) bytes at B)
   come-step more at B short inside good rest (no l) fault f t = rw (records-end (suc more) at B (omega (arith, l))) (at-end at B short inside (omega (arith, l)) good)
   come-step more at B short inside good rest (yes l) fault f (clean e never) = rw (records-next more at B l (f ∙ e)) (rest (f ∙ e) (next good l never))
-  come-step more at B short inside good rest (yes l) fault f (broken real b least) = rw (records-bad more at B fault l f real) (stopped (bad-record short good l b least))
+  come-step more at B short inside good rest (yes l) fault f (broken real b first) = rw (records-bad more at B fault l f real) (stopped (bad-record short good l b first))
 
   records-come : (more at : ℕ) (B : Book) → length bytes ≤ maxBook → length bytes ≤ at + more → at ≤ length bytes → GoodUpTo bytes at B → Comes (recordsFrom more bytes at B)
   records-come zero at B short enough inside good = rw (records-end zero at B (omega arith)) (at-end at B short inside (omega arith) good)

@@ -12,7 +12,7 @@ use Rattle.format.specs.Records.{Whole}
 use Rattle.book.specs.Kept.{Store, Roomy, NoPairs, Sound, Keeps, Taking, Refusing, Opened}
 use Rattle.book.specs.Check.{GoodUpTo, start, next}
 use Rattle.book.specs.declared.Progress.{Progress}
-use Rattle.book.proofs.SmallestNumber.{fault-none}
+use Rattle.book.proofs.FirstBroken.{fault-none}
 use Rattle.book.proofs.Parsing.{bad-refuses, end-parse, ended-none, ended-some}
 use Rattle.book.proofs.Keeping.{targets-count}
 
@@ -41,10 +41,9 @@ standing-start bytes s short roomy empty =
         short = short;
         reached = omega arith;
         roomy = roomy;
-        few-types = omega arith;
         few-entries = omega arith;
         few-targets = omega arith;
-        names-whole = none-yet (s .names);
+        named = record { whole = none-yet (s .names); few = omega arith; places = roomy .names-room; different = λ i j h k e. absurd (omega arith) };
         entries-whole = none-yet (s .entries);
         formed = λ i h. absurd (omega arith);
         targets-declared = λ i h. absurd (omega arith);
@@ -90,9 +89,8 @@ module _ (bytes : Bytes) (s₀ s : Store) (p : Progress) (w : Standing bytes s�
         w .contents,
         record {
           parsed = at-end h ∙ ended-some bytes (w .contents) (omega (arith, targets-count bytes s p (w .sound) (w .contents) (w .keeps)));
-          few-types = w .sound .few-types;
           few-entries = w .sound .few-entries;
-          names-whole = w .sound .names-whole;
+          named = w .sound .named;
           entries-whole = w .sound .entries-whole;
           formed = w .sound .formed;
           some-target = some;

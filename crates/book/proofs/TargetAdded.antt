@@ -17,7 +17,7 @@ use Rattle.format.proofs.RecordLaws.{size-first, kind-first, body-first, size-a
 use Rattle.book.proofs.WholeRecords.{record-whole}
 use Rattle.book.proofs.Faults.{one-yes, target-faults}
 use Rattle.book.proofs.NoFault.{no-fault-whole}
-use Rattle.book.proofs.SmallestNumber.{fault-none, fault-clean}
+use Rattle.book.proofs.FirstBroken.{fault-none, fault-clean}
 use Rattle.book.proofs.Parsing.{end-parse, ended-some, accepted-good}
 
 -- A record that is there whole, with more bytes behind the book.

@@ -40,14 +40,15 @@ cut-whole bytes at h = go (decLt (length bytes) (nextAt bytes at))
     go (yes l) = absurd (true≢false (sym (cut-body bytes at l) ∙ h))
     go (no n) = omega (arith, n)
 
--- A kind that is none of the four is not listed.
-pub kind-other : (n : ℕ) → (n ≡ 1 → ⊥) → (n ≡ 2 → ⊥) → (n ≡ 3 → ⊥) → (n ≡ 4 → ⊥) → between 1 4 n ≡ false
-kind-other zero a b c d = refl
-kind-other (suc zero) a b c d = absurd (a refl)
-kind-other (suc (suc zero)) a b c d = absurd (b refl)
-kind-other (suc (suc (suc zero))) a b c d = absurd (c refl)
-kind-other (suc (suc (suc (suc zero)))) a b c d = absurd (d refl)
-kind-other (suc (suc (suc (suc (suc n))))) a b c d = outside 1 4 (suc (suc (suc (suc (suc n))))) (omega arith)
+-- A kind that is none of the five is not listed.
+pub kind-other : (n : ℕ) → (n ≡ 1 → ⊥) → (n ≡ 2 → ⊥) → (n ≡ 3 → ⊥) → (n ≡ 4 → ⊥) → (n ≡ 5 → ⊥) → between 1 5 n ≡ false
+kind-other zero a b c d e = refl
+kind-other (suc zero) a b c d e = absurd (a refl)
+kind-other (suc (suc zero)) a b c d e = absurd (b refl)
+kind-other (suc (suc (suc zero))) a b c d e = absurd (c refl)
+kind-other (suc (suc (suc (suc zero)))) a b c d e = absurd (d refl)
+kind-other (suc (suc (suc (suc (suc zero))))) a b c d e = absurd (e refl)
+kind-other (suc (suc (suc (suc (suc (suc n)))))) a b c d e = outside 1 5 (suc (suc (suc (suc (suc (suc n)))))) (omega arith)
 
 module _ (bytes : Bytes) (at : ℕ) (names : List Bytes) (entries : ℕ) (targets : ℕ) where
   pub record-cut : isCut bytes at ≡ true → cutShort ≡ firstBroken (recordRules bytes at names entries targets)

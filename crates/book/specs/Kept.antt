@@ -1,31 +1,58 @@
 -- What the code keeps of a book while it reads it: where each basic type's and each entry's record starts, the order pairs as rows, the
 -- targets, and how far it has come.
-use Prim.Native.Nat.{ℕ, _≤_, _<_}
+use Prim.Native.Nat.{ℕ, _%_, _≤_, _<_}
 use mathlib.Core.Path.{_≡_}
-use mathlib.Core.Bool.{true}
+use mathlib.Core.Bool.{true, false}
 use mathlib.Core.List.{List, map}
 use lib.ListN.{length, getD, take}
 use Rattle.pregroup.specs.Held.{InRows}
 use Rattle.order.specs.Closed.{Within, Listed}
-use Rattle.figures.specs.Limits.{maxTypes, maxEntries, maxTargets, maxBook}
+use Rattle.figures.specs.Limits.{maxTypes, maxEntries, maxTargets, maxBook, maxEntrySimples}
 use Rattle.order.specs.Rows.{Hold}
-use Rattle.format.specs.Records.{bodiesAt, Whole, Bytes, bodyAt, nextAt, every}
-use Rattle.book.specs.Format.{Book, accepted, refused, parse, declaredAmong, bases, exponents, exponentListed, simplesOf, typePart, isEntry, entryOf, firstBroken, nextRules, withNext}
+use Rattle.format.specs.Records.{Bytes, every, kindAt, bodyAt, nextAt, bodiesAt, Whole}
+use Rattle.format.specs.Names.{namePlaces, Named}
+use Rattle.slash.specs.Brackets.{tooDeep}
+use Rattle.slash.specs.Trees.{hasTree}
+use Rattle.slash.specs.Places.{Holds}
+use Rattle.pregroup.specs.Types.{PregroupType}
+use Rattle.book.specs.Format.{Book, Entry, accepted, refused, parse, declaredAmong, bases, exponents, exponentListed, typePart, isWorded, entryOf, firstBroken, nextRules, withNext}
+use Rattle.book.specs.declared.EntryType.{EntryType}
 use Rattle.book.specs.declared.Progress.{Progress}
 use Rattle.book.specs.declared.Taken.{Taken}
 use Rattle.book.specs.declared.Taken.the-variants.{Next, Bad}
 use Rattle.book.specs.declared.Scan.{Scan}
 use Rattle.book.specs.declared.Scan.the-variants.{Accepted, Refused}
 
--- A body is an entry's, with declared types and with exponents from −8 to 8.
-pub record Formed (types : ℕ) (body : Bytes) : Type 0 where
-  pub layout : isEntry body ≡ true
-  pub declared : every (declaredAmong types) (bases (simplesOf (typePart body))) ≡ true
-  pub listed : every exponentListed (exponents (simplesOf (typePart body))) ≡ true
+-- The entry whose record starts at an offset, where basic types have these names.
+abbrev pub entryFrom : Bytes → List Bytes → ℕ → Entry
+entryFrom bytes names at = entryOf (kindAt bytes at) names (bodyAt bytes at)
 
--- The first offsets are those of such entries.
-abbrev pub AllFormed : Bytes → List ℕ → ℕ → ℕ → Type 0
-AllFormed bytes offsets types count = (i : ℕ) → i < count → Formed types (bodyAt bytes (getD {A = ℕ} offsets i 0))
+-- The entries whose records start at the first offsets.
+abbrev pub entriesAt : Bytes → List Bytes → List ℕ → ℕ → List Entry
+entriesAt bytes names offsets count = map (entryFrom bytes names) (take count offsets)
+
+-- The bytes of a type are as its entry's kind has them: simple types of two bytes each, or a text with a tree.
+pub data Shaped : ℕ → Bytes → Type 0 where
+  as-simples : {part : Bytes} → length part % 2 ≡ 0 → Shaped 3 part
+  as-text : {part : Bytes} → tooDeep part ≡ false → hasTree part ≡ true → Shaped 5 part
+
+-- At an offset stands an entry with a word, with declared types, with exponents from −8 to 8, and with no more than 12 simple types.
+pub record Formed (bytes : Bytes) (names : List Bytes) (at : ℕ) : Type 0 where
+  pub worded : isWorded (bodyAt bytes at) ≡ true
+  pub shaped : Shaped (kindAt bytes at) (typePart (bodyAt bytes at))
+  pub declared : every (declaredAmong (length names)) (bases (entryFrom bytes names at .type)) ≡ true
+  pub listed : every exponentListed (exponents (entryFrom bytes names at .type)) ≡ true
+  pub short : length (entryFrom bytes names at .type) ≤ maxEntrySimples
+
+-- At the first offsets stand such entries.
+abbrev pub AllFormed : Bytes → List Bytes → List ℕ → ℕ → Type 0
+AllFormed bytes names offsets count = (i : ℕ) → i < count → Formed bytes names (getD {A = ℕ} offsets i 0)
+
+-- A type as the code holds it.
+pub record HeldType (t : EntryType) (X : PregroupType) : Type 0 where
+  pub count : t .count ≡ length X
+  pub short : length X ≤ maxEntrySimples
+  pub simples : Holds (t .simples) 0 X
 
 -- What the lent arrays hold: the offsets of the basic types' records and of the entries' records, the order pairs as rows, and the targets'
 -- numbers of basic types.
@@ -40,7 +67,7 @@ store names entries direct targets = record { names = names; entries = entries; 
 
 -- There is room for all that a book may have.
 pub record Roomy (s : Store) : Type 0 where
-  pub names-room : maxTypes ≤ length (s .names)
+  pub names-room : namePlaces ≤ length (s .names)
   pub entries-room : maxEntries ≤ length (s .entries)
   pub rows : length (s .direct) ≡ maxTypes
   pub targets-room : maxTargets ≤ length (s .targets)
@@ -58,12 +85,11 @@ pub record Sound (bytes : Bytes) (s : Store) (p : Progress) : Type 0 where
   pub short : length bytes ≤ maxBook
   pub reached : p .at ≤ length bytes
   pub roomy : Roomy s
-  pub few-types : p .types ≤ maxTypes
   pub few-entries : p .entries ≤ maxEntries
   pub few-targets : p .targets ≤ maxTargets
-  pub names-whole : Whole bytes (s .names) (p .types)
+  pub named : Named bytes (s .names) (p .types)
   pub entries-whole : Whole bytes (s .entries) (p .entries)
-  pub formed : AllFormed bytes (s .entries) (p .types) (p .entries)
+  pub formed : AllFormed bytes (bodiesAt bytes (s .names) (p .types)) (s .entries) (p .entries)
   pub targets-declared : TargetsDeclared (s .targets) (p .types) (p .targets)
   pub within : Within (p .types) (InRows (s .direct))
 
@@ -71,7 +97,7 @@ pub record Sound (bytes : Bytes) (s : Store) (p : Progress) : Type 0 where
 pub record Keeps (bytes : Bytes) (s : Store) (p : Progress) (B : Book) : Type 0 where
   pub names : B .names ≡ bodiesAt bytes (s .names) (p .types)
   pub pairs : Hold (s .direct) (Listed (B .pairs))
-  pub entries : B .entries ≡ map entryOf (bodiesAt bytes (s .entries) (p .entries))
+  pub entries : B .entries ≡ entriesAt bytes (B .names) (s .entries) (p .entries)
   pub targets : B .targets ≡ take (p .targets) (s .targets)
 
 -- The number that the record at an offset, behind records that hold B, is refused with, or 0.
@@ -96,18 +122,17 @@ TakenSays bytes s p s′ (Bad number) = Refusing bytes s p number
 -- What is kept of an accepted book B.
 pub record Opened (bytes : Bytes) (s : Store) (types count goals : ℕ) (B : Book) : Type 0 where
   pub parsed : parse bytes ≡ accepted B
-  pub few-types : types ≤ maxTypes
   pub few-entries : count ≤ maxEntries
-  pub names-whole : Whole bytes (s .names) types
+  pub named : Named bytes (s .names) types
   pub entries-whole : Whole bytes (s .entries) count
-  pub formed : AllFormed bytes (s .entries) types count
+  pub formed : AllFormed bytes (bodiesAt bytes (s .names) types) (s .entries) count
   pub some-target : 0 < goals
   pub few-targets : goals ≤ maxTargets
   pub targets-declared : TargetsDeclared (s .targets) types goals
   pub within : Within types (InRows (s .direct))
   pub names : B .names ≡ bodiesAt bytes (s .names) types
   pub pairs : Hold (s .direct) (Listed (B .pairs))
-  pub entries : B .entries ≡ map entryOf (bodiesAt bytes (s .entries) count)
+  pub entries : B .entries ≡ entriesAt bytes (B .names) (s .entries) count
   pub targets : B .targets ≡ take goals (s .targets)
 
 abbrev pub ScanSays : Bytes → Store → Scan → Type 0

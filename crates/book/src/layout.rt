@@ -1,16 +1,13 @@
-// The layout of a record's body: byte ranges for names, words and exponents, and the layouts built from them, as specs/Format
-// has them.
-use bytewise::widths::two_bytes;
+// The layout of an entry's body: byte ranges for words and exponents, and the layouts built from them, as specs/Format has them.
 use bytewise::widths::wide_byte;
 use figures::limits::MAX_ENTRY_SIMPLES;
 use figures::limits::MAX_EXPONENT;
-use figures::limits::MAX_NAME;
 use figures::limits::MAX_WORD;
 ghost use mathlib.Core.Path.{_≡_};
 ghost use mathlib.Core.Bool.{true};
 ghost use lib.ListN.{length};
 ghost use Rattle.format.specs.Records.{between, every};
-ghost use Rattle.book.specs.Format.{exponentOf, exponentListed, isEntry, wordOf, typePart};
+ghost use Rattle.book.specs.Format.{exponentOf, exponentListed, isWorded, isEntry, wordOf, typePart};
 
 // The byte of the least exponent, in two's complement.
 pub const LEAST_EXPONENT: u8 = 255 - (MAX_EXPONENT - 1);
@@ -47,9 +44,9 @@ fn all_word_bytes(bytes: &[u8]) -> bool
     true
 }
 
-// Whether a body is an entry's: the word's length, the word, then pairs of a type number and an exponent.
-pub fn is_entry(body: &[u8]) -> bool
-    ensures { λ r. ⌜ r ≡ isEntry (now (body .entry)) ⌝ }
+// Whether a body has a word in front: the word's length, then the word.
+pub fn is_worded(body: &[u8]) -> bool
+    ensures { λ r. ⌜ r ≡ isWorded (now (body .entry)) ⌝ }
 {
     if body.len() < 1 {
         return false;
@@ -64,19 +61,26 @@ pub fn is_entry(body: &[u8]) -> bool
     if body.len() <= length {
         return false;
     }
-    if !all_word_bytes(&body[1..1 + length]) {
+    all_word_bytes(&body[1..1 + length])
+}
+
+// Whether a body is an entry's with simple types: behind the word pairs of a type number and an exponent.
+pub fn is_entry(body: &[u8]) -> bool
+    ensures { λ r. ⌜ r ≡ isEntry (now (body .entry)) ⌝ }
+{
+    if !is_worded(body) {
         return false;
     }
-    let rest = body.len() - 1 - length;
-    if rest % 2 != 0 {
+    let part = type_part(body);
+    if part.len() % 2 != 0 {
         return false;
     }
-    rest <= 2 * MAX_ENTRY_SIMPLES
+    part.len() <= 2 * MAX_ENTRY_SIMPLES
 }
 
 // The part of an entry's body that holds its type.
 pub fn type_part(body: &[u8]) -> &[u8]
-    requires { ⌜ isEntry (now body) ≡ true ⌝ }
+    requires { ⌜ isWorded (now body) ≡ true ⌝ }
     ensures { λ r. ⌜ now r ≡ typePart (now (body .entry)) ⌝ }
 {
     let start = 1 + wide_byte(body[0]);
@@ -85,7 +89,7 @@ pub fn type_part(body: &[u8]) -> &[u8]
 
 // The word of an entry's body.
 pub fn word_part(body: &[u8]) -> &[u8]
-    requires { ⌜ isEntry (now body) ≡ true ⌝ }
+    requires { ⌜ isWorded (now body) ≡ true ⌝ }
     ensures { λ r. ⌜ now r ≡ wordOf (now (body .entry)) ⌝ }
 {
     let end = 1 + wide_byte(body[0]);

@@ -2,9 +2,12 @@
 ghost use mathlib.Core.Path.{_≡_};
 ghost use Rattle.book.specs.Check.{bookCheck, checkReply, BookPromised};
 use figures::limits::MAX_ENTRIES;
+use figures::limits::MAX_ENTRY_SIMPLES;
 use figures::limits::MAX_TARGETS;
 use figures::limits::MAX_TYPES;
+use format::names::NAME_PLACES;
 
+pub mod entries;
 pub mod layout;
 pub mod record_reader;
 pub mod records;
@@ -28,6 +31,12 @@ pub struct Progress {
 pub enum Taken {
     Next(Progress),
     Bad(u32),
+}
+
+// The type of an entry: its simple types as they are held, at the first places.
+pub struct EntryType {
+    pub count: usize,
+    pub simples: [u16; MAX_ENTRY_SIMPLES],
 }
 
 // What reading all records gives: how many basic types, entries and targets the book has, or the number of the refusal and the value returned with it.
@@ -63,7 +72,7 @@ pub fn check_book(book: &[u8]) -> BookCheck
     ensures { λ r. ⌜ r ≡ bookCheck (now (book .entry)) ⌝ }
     ensures { λ r. ⌜ BookPromised (now (book .entry)) (checkReply r) ⌝ }
 {
-    let mut names = [0u16; MAX_TYPES];
+    let mut names = [0u16; NAME_PLACES];
     let mut entries = [0u16; MAX_ENTRIES];
     let mut direct = [0u64; MAX_TYPES];
     let mut targets = [0u8; MAX_TARGETS];

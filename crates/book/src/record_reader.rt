@@ -6,7 +6,8 @@ ghost use mathlib.Core.Path.{_≡_};
 ghost use Prim.Native.Nat.{_≤_};
 ghost use lib.ListN.{length};
 ghost use Rattle.book.specs.Format.{recordRules, firstBroken};
-ghost use Rattle.format.specs.Records.{bodiesAt, Whole};
+ghost use Rattle.format.specs.Records.{bodiesAt};
+ghost use Rattle.format.specs.Names.{Named};
 
 // A reader at an offset of the book.
 pub fn reader_at<'a>(book: &'a [u8], at: usize) -> RecordReader<'a>
@@ -15,7 +16,7 @@ pub fn reader_at<'a>(book: &'a [u8], at: usize) -> RecordReader<'a>
     RecordReader { book, at }
 }
 
-// The smallest number that the next record is refused with, or 0.
+// The number that the next record is refused with, or 0.
 pub fn next_fault<'a, 'b>(
     r: RecordReader<'a>,
     names: &'b [u16],
@@ -23,7 +24,7 @@ pub fn next_fault<'a, 'b>(
     entries: usize,
     targets: usize,
 ) -> u32
-    requires { ⌜ (r .at ≤ length (now (r .book))) × Whole (now (r .book)) (now names) types ⌝ }
+    requires { ⌜ (r .at ≤ length (now (r .book))) × Named (now (r .book)) (now names) types ⌝ }
     ensures { λ n. ⌜ n ≡ firstBroken (recordRules (now (r .entry .book)) (r .entry .at)
         (bodiesAt (now (r .entry .book)) (now (names .entry)) types) entries targets) ⌝ }
 {
@@ -39,7 +40,7 @@ pub fn fault_at(
     entries: usize,
     targets: usize,
 ) -> u32
-    requires { ⌜ (at ≤ length (now book)) × Whole (now book) (now names) types ⌝ }
+    requires { ⌜ (at ≤ length (now book)) × Named (now book) (now names) types ⌝ }
     ensures { λ r. ⌜ r ≡ firstBroken (recordRules (now (book .entry)) at (bodiesAt (now (book .entry)) (now (names .entry)) types) entries
         targets) ⌝ }
 {

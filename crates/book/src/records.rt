@@ -2,6 +2,7 @@
 use crate::Progress;
 use crate::Scan;
 use crate::Taken;
+use crate::entries::SLASHED;
 use crate::record_reader::fault_at;
 use bytewise::widths::two_bytes;
 use bytewise::widths::wide_byte;
@@ -10,6 +11,7 @@ use figures::refusals::BOOK_TOO_LONG;
 use figures::refusals::NO_TARGET;
 use format::layout::HEAD;
 use format::layout::body_at;
+use format::names::keep_name;
 ghost use Prim.Native.Nat.{_+_, _<_};
 ghost use Rattle.book.specs.Kept.{store, Roomy, NoPairs, Sound, TakenSays, ScanSays};
 
@@ -39,7 +41,7 @@ fn take_record(
     let kind = two_bytes(book, at + 2);
     match kind {
         1 => {
-            names[types] = at as u16;
+            keep_name(names, types, at, body);
             Taken::Next(Progress {
                 at: next,
                 types: types + 1,
@@ -57,7 +59,7 @@ fn take_record(
                 targets: goals,
             })
         }
-        3 => {
+        3 | SLASHED => {
             entries[count] = at as u16;
             Taken::Next(Progress {
                 at: next,

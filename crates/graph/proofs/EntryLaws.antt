@@ -1,5 +1,5 @@
 -- Entries laid one behind another: steps follow each other, an entry without a slot changes nothing, and one with a slot has the next one.
-use Prim.Native.Nat.{ℕ, zero, suc, _+_, _/_, _%_, _≤_, _<_}
+use Prim.Native.Nat.{ℕ, zero, suc, _+_, _≤_, _<_}
 use native.Mathlib.Omega.{arith}
 use native.Mathlib.Decide.{decLt}
 use mathlib.Core.Path.{_≡_, refl, sym, ap, subst, _∙_}
@@ -10,29 +10,23 @@ use lib.ListN.{length, getD, set, length-set}
 use lib.Seq.{getD-set-same}
 use borrow.Author.Tests.{ne-eqb}
 use Rattle.linking.specs.Reading.{NumberedEntry}
-use Rattle.format.specs.Records.{Bytes, bodyAt}
-use Rattle.book.specs.Format.{simplesOf, typePart}
-use Rattle.book.proofs.Layouts.{entry-shape}
+use Rattle.pregroup.specs.Types.{PregroupType}
+use Rattle.format.specs.Records.{Bytes, bodiesAt}
+use Rattle.book.specs.declared.EntryType.{EntryType}
+use Rattle.book.specs.Kept.{entryFrom, HeldType}
 use Rattle.lookup.specs.Entries.{simplesIn}
 use Rattle.lookup.specs.Threads.{Thread}
-use Rattle.lookup.proofs.EntryLaws.{simples-length}
 use Rattle.lookup.proofs.ThreadLaws.{simples-more, thread-next, thread-end}
 use Rattle.graph.specs.Graph.{Graph, Boundary, Spells}
 use Rattle.graph.specs.Layout.{hasNone, slotted, Slots, slot}
 use Rattle.figures.specs.Limits.{maxNodes}
-use Rattle.graph.specs.Cells.{Cells, cells, nodes, cellsGraph, Continues, Typed, Placed, Lays, SlotFits, Lexicon}
+use Rattle.graph.specs.Cells.{Cells, cells, nodes, cellsGraph, Continues, Typed, Placed, Lays, typeHeld, SlotFits, Vocabulary}
 use Rattle.graph.specs.declared.Place.{Place}
+use Rattle.graph.proofs.HeldTypes.{held-length, held-none, held-type}
 use Rattle.graph.proofs.TypeLaws.{SameNode, entry-later, continues-back, kept-here, same-set}
 
 some-long : (n : ℕ) → eqb (suc n) 0 ≡ false
 some-long n = ne-eqb (suc n) 0 (λ e. omega arith)
-
--- A type is empty where its bytes are none.
-none-empty : (part : Bytes) → length part % 2 ≡ 0 → hasNone (simplesOf part) ≡ eqb (length part) 0
-unfolding simplesOf
-none-empty [] h = refl
-none-empty (number ∷ []) h = absurd (omega arith)
-none-empty (number ∷ exponent ∷ rest) h = sym (some-long (suc (length rest)))
 
 -- Which entries get a slot.
 slotted-passed : (seen : Bool) (e : NumberedEntry) (es : List NumberedEntry) → hasNone (e .type) && seen ≡ true → slotted seen (e ∷ es) ≡ slotted seen es
@@ -95,40 +89,40 @@ lays-then {b} {p} {p′} {p″} {c} {c′} {c″} {es} {es′} {es″} l l′ =
         go (yes before) = rw (l′ .kept .enters y before) (l .entered y h before)
         go (no behind) = let e = l′ .entered y (omega (arith, behind)) i in (omega (arith, e .0, l .node-on), e .1)
 
-module _ (part : Bytes) (number b : ℕ) (p : Place) (c : Cells) (f : SlotFits part number b p c) where
+module _ (x : EntryType) (number b : ℕ) (p : Place) (c : Cells) (f : SlotFits x number b p c) where
   abbrev entry : NumberedEntry
-  entry = record { number = number; type = simplesOf part }
+  entry = record { number = number; type = typeHeld x }
 
-  pub slot-passed : eqb (length part) 0 && p .seen ≡ true → (rest : List NumberedEntry) → Lays b p c p c (entry ∷ rest) rest
+  pub slot-passed : eqb (x .count) 0 && p .seen ≡ true → (rest : List NumberedEntry) → Lays b p c p c (entry ∷ rest) rest
   slot-passed h rest =
       let e = simples-more entry rest in
-      let n : length (simplesOf part) ≡ 0 = simples-length part (f .pairs) ∙ none-long (length part) (p .seen) h in
-      lays-same b p c (entry ∷ rest) rest (f .placed) (slotted-passed (p .seen) entry rest (rw (none-empty part (f .pairs)) h)) (omega arith)
+      let n : x .count ≡ 0 = none-long (x .count) (p .seen) h in
+      lays-same b p c (entry ∷ rest) rest (f .placed) (slotted-passed (p .seen) entry rest (rw (held-none (x .count) 0 (x .simples)) h)) (omega (arith, held-length (x .count) 0 (x .simples)))
     where
-      none-long : (n : ℕ) (seen : Bool) → eqb n 0 && seen ≡ true → n / 2 ≡ 0
+      none-long : (n : ℕ) (seen : Bool) → eqb n 0 && seen ≡ true → n ≡ 0
       none-long zero seen h = omega arith
       none-long (suc n) seen h =
           let e : false && seen ≡ true = rw (some-long n) at h in
           absurd (false≢true e)
 
-  module _ (taken : eqb (length part) 0 && p .seen ≡ false) (simples nexts : List ℕ)
+  module _ (taken : eqb (x .count) 0 && p .seen ≡ false) (simples nexts : List ℕ)
       (simples-kept : length simples ≡ length (c .simples)) (nexts-kept : length nexts ≡ length (c .nexts))
-      (first : ℕ) (t : Typed part (p .node) b (nodes (c .simples) (c .nexts)) (nodes simples nexts) first) where
+      (first : ℕ) (t : Typed x (p .node) b (nodes (c .simples) (c .nexts)) (nodes simples nexts) first) where
     abbrev p′ : Place
-    p′ = record { node = p .node + length part / 2; slot = p .slot + 1; seen = eqb (length part) 0 || p .seen }
+    p′ = record { node = p .node + x .count; slot = p .slot + 1; seen = eqb (x .count) 0 || p .seen }
 
     abbrev c′ : Cells
     c′ = cells simples nexts (set (c .enters) (p .slot) first) (set (c .numbers) (p .slot) number)
 
     -- There is a slot left: an empty type takes the one that the word has to spare.
-    room : (p .slot < p .node + length part / 2) × (p′ .seen ≡ false → p .slot + 1 < p .node + length part / 2)
-    room = go (length part) (p .seen) taken (f .pairs) (f .placed .spare)
+    room : (p .slot < p .node + x .count) × (p′ .seen ≡ false → p .slot + 1 < p .node + x .count)
+    room = go (x .count) (p .seen) taken (f .placed .spare)
       where
-        go : (n : ℕ) (seen : Bool) → eqb n 0 && seen ≡ false → n % 2 ≡ 0 → (seen ≡ false → p .slot < p .node)
-            → (p .slot < p .node + n / 2) × (eqb n 0 || seen ≡ false → p .slot + 1 < p .node + n / 2)
-        go zero true h even spare = absurd (true≢false h)
-        go zero false h even spare = (omega (arith, spare refl), λ e. absurd (true≢false e))
-        go (suc n) seen h even spare = (omega (arith, f .placed .few), λ e. omega (arith, spare (rw (some-long n) at e)))
+        go : (n : ℕ) (seen : Bool) → eqb n 0 && seen ≡ false → (seen ≡ false → p .slot < p .node)
+            → (p .slot < p .node + n) × (eqb n 0 || seen ≡ false → p .slot + 1 < p .node + n)
+        go zero true h spare = absurd (true≢false h)
+        go zero false h spare = (omega (arith, spare refl), λ e. absurd (true≢false e))
+        go (suc n) seen h spare = (omega (arith, f .placed .few), λ e. omega (arith, spare (rw (some-long n) at e)))
 
     place : p .slot < maxNodes
     place = omega (arith, room .0, f .fits, f .placed .small)
@@ -156,17 +150,17 @@ module _ (part : Bytes) (number b : ℕ) (p : Place) (c : Cells) (f : SlotFits p
     slots′ : (rest : List NumberedEntry) (g : Graph) (numbers : List ℕ) → Continues (p′ .node) (p′ .slot) c′ g numbers → Boundary g b → (to : ℕ)
         → Slots g numbers b (p′ .slot) to (slotted (p′ .seen) rest) → Slots g numbers b (p .slot) to (slotted (p .seen) (entry ∷ rest))
     slots′ rest g numbers k boundary to s =
-        let empty = none-empty part (f .pairs) in
+        let empty = held-none (x .count) 0 (x .simples) in
         let order : slotted (p .seen) (entry ∷ rest) ≡ entry ∷ slotted (p′ .seen) rest =
         slotted-taken (p .seen) entry rest (rw empty taken) ∙ ap (λ (z : Bool). entry ∷ slotted (z || p .seen) rest) empty in
         let enters : getD {A = ℕ} (g .enters) (p .slot) 0 ≡ first = k .enters (p .slot) (omega arith) ∙ here in
         let number′ : getD {A = ℕ} numbers (p .slot) 0 ≡ number =
         k .numbers (p .slot) (omega arith) ∙ getD-set-same (c .numbers) (p .slot) number 0 (omega (arith, place, f .placed .numbers-room)) in
-        let spelt : Spells g first (simplesOf part) b = entry-later (t .spelt) (λ x q. node x (t .up x q .0)) boundary in
+        let spelt : Spells g first (typeHeld x) b = entry-later (t .spelt) (λ y q. node y (t .up y q .0)) boundary in
         rw order (slot {e = entry} number′ (rw enters spelt) s)
       where
-        node : (x : ℕ) → x < p′ .node → SameNode (cellsGraph (nodes simples nexts)) g x
-        node x h = record { label = k .simples x h; next = k .nexts x h }
+        node : (y : ℕ) → y < p′ .node → SameNode (cellsGraph (nodes simples nexts)) g y
+        node y h = record { label = k .simples y h; next = k .nexts y h }
 
     pub slot-taken : (rest : List NumberedEntry) → Lays b p c p′ c′ (entry ∷ rest) rest
     slot-taken rest =
@@ -181,7 +175,7 @@ module _ (part : Bytes) (number b : ℕ) (p : Place) (c : Cells) (f : SlotFits p
           placed = placed′;
           count =
               let e = simples-more entry rest in
-              let n = simples-length part (f .pairs) in
+              let n = held-length (x .count) 0 (x .simples) in
               omega (arith, e, n);
           node-on = omega arith;
           slot-on = omega arith;
@@ -189,18 +183,18 @@ module _ (part : Bytes) (number b : ℕ) (p : Place) (c : Cells) (f : SlotFits p
         }
 
 -- The loop along a thread.
-module _ (bytes : Bytes) (offsets : List ℕ) (count : ℕ) (same : List ℕ) (b : ℕ) (p : Place) (c : Cells) where
+module _ (bytes : Bytes) (names : List ℕ) (types : ℕ) (offsets : List ℕ) (count : ℕ) (same : List ℕ) (b : ℕ) (p : Place) (c : Cells) where
   -- How it stands at entry i: of the entries `es` the rest is ahead.
   pub record Entering (es : List NumberedEntry) (place : Place) (c′ : Cells) (i : ℕ) : Type 0 where
     pub rest : List NumberedEntry
-    pub ahead : Thread bytes offsets count same i rest
+    pub ahead : Thread bytes (bodiesAt bytes names types) offsets count same i rest
     pub lays : Lays b p c place c′ es rest
     pub simples-length : length (c′ .simples) ≡ length (c .simples)
     pub nexts-length : length (c′ .nexts) ≡ length (c .nexts)
     pub enters-length : length (c′ .enters) ≡ length (c .enters)
     pub numbers-length : length (c′ .numbers) ≡ length (c .numbers)
 
-  pub entering-start : (first : ℕ) (es : List NumberedEntry) → Thread bytes offsets count same first es → Placed b p c → Entering es p c first
+  pub entering-start : (first : ℕ) (es : List NumberedEntry) → Thread bytes (bodiesAt bytes names types) offsets count same first es → Placed b p c → Entering es p c first
   entering-start first es t placed =
       record {
         rest = es;
@@ -216,29 +210,26 @@ module _ (bytes : Bytes) (offsets : List ℕ) (count : ℕ) (same : List ℕ) (b
     pub entering-end : count ≤ i → Lays b p c place c′ es []
     entering-end h = subst (λ (left : List NumberedEntry). Lays b p c place c′ es left) (thread-end (s .ahead) h) (s .lays)
 
-    -- Entry i, by the bytes of its type.
-    module _ (h : i < count) (part : Bytes) (here : part ≡ typePart (bodyAt bytes (getD {A = ℕ} offsets i 0))) where
+    -- Entry i, by its type as it is held.
+    module _ (h : i < count) (x : EntryType) (here : HeldType x (entryFrom bytes (bodiesAt bytes names types) (getD {A = ℕ} offsets i 0) .type)) where
       abbrev i-th : NumberedEntry
-      i-th = record { number = i; type = simplesOf part }
+      i-th = record { number = i; type = typeHeld x }
 
       abbrev behind : List NumberedEntry
       behind = thread-next (s .ahead) h .rest
 
       -- The entries left are this one and those behind it.
       left-here : s .rest ≡ i-th ∷ behind
-      left-here = thread-next (s .ahead) h .is ∙ ap (λ (q : Bytes). record { number = i; type = simplesOf q } ∷ behind) (sym here)
+      left-here = thread-next (s .ahead) h .is ∙ ap (λ (X : PregroupType). record { number = i; type = X } ∷ behind) (sym (held-type here))
 
-      pub entering-fits : Lexicon bytes offsets count → p .node + simplesIn es ≤ b → SlotFits part i b place c′
-      entering-fits lexicon fits =
-          let pairs : length part % 2 ≡ 0 =
-          rw here (entry-shape (bodyAt bytes (getD {A = ℕ} offsets i 0)) (lexicon .entries .layouts i h) .pairs) in
+      pub entering-fits : Vocabulary bytes names types offsets count → p .node + simplesIn es ≤ b → SlotFits x i b place c′
+      entering-fits kept fits =
           let sum = ap simplesIn left-here ∙ simples-more i-th behind in
-          let long = simples-length part pairs in
+          let long = held-length (x .count) 0 (x .simples) in
           record {
-            pairs = pairs;
-            listed = rw here (lexicon .listed i h);
+            short = omega (arith, here .count, here .short);
             fits = omega (arith, sum, long, s .lays .count, fits);
-            low = omega (arith, h, lexicon .entries .few);
+            low = omega (arith, h, kept .lexicon .entries .few);
             placed = s .lays .placed;
           }
 

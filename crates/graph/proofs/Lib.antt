@@ -1,5 +1,5 @@
 -- Laws that the proofs of several functions cite.
-pub mod RaiseLaws
+pub mod HeldTypes
 pub mod TypeLaws
 pub mod EntryLaws
 pub mod WordLaws

@@ -7,13 +7,13 @@ use mathlib.Core.List.{List, [], _∷_}
 use lib.ListN.{length, getD}
 use Rattle.pregroup.specs.Types.{Basic}
 use Rattle.linking.specs.Reading.{NumberedEntry, Words, targetAt}
-use Rattle.format.specs.Records.{Bytes}
+use Rattle.format.specs.Records.{Bytes, bodiesAt}
 use Rattle.lookup.specs.Entries.{simplesOfWords}
 use Rattle.lookup.specs.Threads.{Thread, Threads, none, word}
 use Rattle.lookup.proofs.ThreadLaws.{simples-cons}
 use Rattle.graph.specs.Graph.{Graph}
 use Rattle.figures.specs.Limits.{maxNodes}
-use Rattle.graph.specs.Cells.{cells, Lexicon}
+use Rattle.graph.specs.Cells.{cells, Vocabulary}
 use Rattle.graph.specs.Lists.{Lists, lists, graphOf, endAt, nodesWith, Follows, Standing, Lined, WordFits, WordsFit, Ended, LineFits, LaidOut}
 use Rattle.graph.specs.declared.Place.{Place}
 use Rattle.graph.proofs.WordLaws.{lined-then, lined-here}
@@ -23,16 +23,16 @@ none-left [] e = refl
 none-left (es ∷ ws) e = absurd (omega arith)
 
 -- The loop over the words.
-module _ (bytes : Bytes) (offsets : List ℕ) (count : ℕ) (same firsts : List ℕ) where
+module _ (bytes : Bytes) (names : List ℕ) (types : ℕ) (offsets : List ℕ) (count : ℕ) (same firsts : List ℕ) where
   -- Words from the k-th on, of which there is one: the thread of its entries, and the words behind it.
   record Parted (k : ℕ) (ws : Words) : Type 0 where
     pub entries : List NumberedEntry
     pub behind : Words
     pub is : ws ≡ entries ∷ behind
-    pub thread : Thread bytes offsets count same (getD {A = ℕ} firsts k 0) entries
-    pub ahead : Threads bytes offsets count same firsts (k + 1) behind
+    pub thread : Thread bytes (bodiesAt bytes names types) offsets count same (getD {A = ℕ} firsts k 0) entries
+    pub ahead : Threads bytes (bodiesAt bytes names types) offsets count same firsts (k + 1) behind
 
-  parted : {k : ℕ} {ws : Words} → Threads bytes offsets count same firsts k ws → 0 < length ws → Parted k ws
+  parted : {k : ℕ} {ws : Words} → Threads bytes (bodiesAt bytes names types) offsets count same firsts k ws → 0 < length ws → Parted k ws
   parted none h = absurd (omega arith)
   parted (word {k} {es} {words} t ts) h = record { entries = es; behind = words; is = refl; thread = t; ahead = ts }
 
@@ -40,7 +40,7 @@ module _ (bytes : Bytes) (offsets : List ℕ) (count : ℕ) (same firsts : List 
     -- How it stands before the k-th word: of the words `ws` those left are ahead.
     pub record Lining (ws : Words) (place : Place) (l′ : Lists) (k : ℕ) : Type 0 where
       pub left : Words
-      pub ahead : Threads bytes offsets count same firsts k left
+      pub ahead : Threads bytes (bodiesAt bytes names types) offsets count same firsts k left
       pub as-many : k + length left ≡ words
       pub lined : Lined p l place l′ ws left
       pub simples-length : length (l′ .cells .simples) ≡ length (l .cells .simples)
@@ -50,7 +50,7 @@ module _ (bytes : Bytes) (offsets : List ℕ) (count : ℕ) (same firsts : List 
       pub enters-length : length (l′ .cells .enters) ≡ length (l .cells .enters)
       pub numbers-length : length (l′ .cells .numbers) ≡ length (l .cells .numbers)
 
-    pub lining-start : (ws : Words) → Threads bytes offsets count same firsts 0 ws → length ws ≡ words → Standing p l → Lining ws p l 0
+    pub lining-start : (ws : Words) → Threads bytes (bodiesAt bytes names types) offsets count same firsts 0 ws → length ws ≡ words → Standing p l → Lining ws p l 0
     lining-start ws t e s =
         record {
           left = ws;
@@ -73,13 +73,13 @@ module _ (bytes : Bytes) (offsets : List ℕ) (count : ℕ) (same firsts : List 
         here : Parted k (s .left)
         here = parted (s .ahead) (omega (arith, s .as-many))
 
-        pub lining-fits : Lexicon bytes offsets count → count ≤ length same → maxNodes ≤ length (l .cells .numbers) → length ws ≡ words
-            → p .node + (simplesOfWords ws + words) < maxNodes → WordFits bytes offsets count same (getD {A = ℕ} firsts k 0) place l′
-        lining-fits lexicon same-room numbers-room all fits =
+        pub lining-fits : Vocabulary bytes names types offsets count → count ≤ length same → maxNodes ≤ length (l .cells .numbers) → length ws ≡ words
+            → p .node + (simplesOfWords ws + words) < maxNodes → WordFits bytes names types offsets count same (getD {A = ℕ} firsts k 0) place l′
+        lining-fits vocabulary same-room numbers-room all fits =
             let simples = ap simplesOfWords (here .is) ∙ simples-cons (here .entries) (here .behind) in
             let long = ap length (here .is) in
             record {
-              lexicon = lexicon;
+              vocabulary = vocabulary;
               same-room = same-room;
               entries = here .entries;
               thread = here .thread;
@@ -90,7 +90,7 @@ module _ (bytes : Bytes) (offsets : List ℕ) (count : ℕ) (same firsts : List 
 
         pub lining-next :
             (place′ : Place) (l″ : Lists)
-            → ((es : List NumberedEntry) → Thread bytes offsets count same (getD {A = ℕ} firsts k 0) es → (rest : Words)
+            → ((es : List NumberedEntry) → Thread bytes (bodiesAt bytes names types) offsets count same (getD {A = ℕ} firsts k 0) es → (rest : Words)
             → Lined place l′ place′ l″ (es ∷ rest) rest)
             → length (l″ .cells .simples) ≡ length (l′ .cells .simples) → length (l″ .cells .nexts) ≡ length (l′ .cells .nexts)
             → length (l″ .froms) ≡ length (l′ .froms) → length (l″ .tos) ≡ length (l′ .tos)
@@ -114,8 +114,8 @@ module _ (bytes : Bytes) (offsets : List ℕ) (count : ℕ) (same firsts : List 
             }
 
 -- The whole line.
-module _ (bytes : Bytes) (offsets : List ℕ) (count : ℕ) (same firsts : List ℕ) (words : ℕ) (targets : List Basic) (l : Lists)
-    (n : LineFits bytes offsets count same firsts words (length targets) l) where
+module _ (bytes : Bytes) (names : List ℕ) (types : ℕ) (offsets : List ℕ) (count : ℕ) (same firsts : List ℕ) (words : ℕ) (targets : List Basic) (l : Lists)
+    (n : LineFits bytes names types offsets count same firsts words (length targets) l) where
   abbrev first : Place
   first = record { node = 0; slot = 0; seen = false }
 
@@ -129,7 +129,7 @@ module _ (bytes : Bytes) (offsets : List ℕ) (count : ℕ) (same firsts : List 
         tos-low = λ x. let e = n .empty .tos x in omega arith;
       }
 
-  pub out-words-fit : WordsFit bytes offsets count same firsts words first l
+  pub out-words-fit : WordsFit bytes names types offsets count same firsts words first l
   out-words-fit =
       record {
         looked-up = n .looked-up;
@@ -139,7 +139,7 @@ module _ (bytes : Bytes) (offsets : List ℕ) (count : ℕ) (same firsts : List 
       }
 
   module _ (last : Place) (l′ : Lists)
-      (lined : (ws : Words) → Threads bytes offsets count same firsts 0 ws → length ws ≡ words → Lined first l last l′ ws []) where
+      (lined : (ws : Words) → Threads bytes (bodiesAt bytes names types) offsets count same firsts 0 ws → length ws ≡ words → Lined first l last l′ ws []) where
     bounded : nodesWith (last .node) (length targets) ≤ maxNodes
     unfolding simplesOfWords
     bounded =
@@ -186,7 +186,7 @@ module _ (bytes : Bytes) (offsets : List ℕ) (count : ℕ) (same firsts : List 
             tos = e .kept .tos;
           }
 
-      pub out-laid : (ws : Words) → Threads bytes offsets count same firsts 0 ws → length ws ≡ words → LaidOut ws targets l″ (last .node)
+      pub out-laid : (ws : Words) → Threads bytes (bodiesAt bytes names types) offsets count same firsts 0 ws → length ws ≡ words → LaidOut ws targets l″ (last .node)
       out-laid ws t many =
           record {
             few = bounded;

@@ -1,21 +1,17 @@
 -- A type laid from its last simple type to its first: what is behind is spelt already, and a store before it does not disturb it.
-use Prim.Native.Nat.{ℕ, zero, suc, _+_, _-_, _*_, _/_, _%_, _≤_, _<_}
+use Prim.Native.Nat.{ℕ, zero, suc, _+_, _-_, _≤_, _<_}
 use native.Mathlib.Omega.{arith}
 use native.Mathlib.Decide.{ℕ-discrete}
 use mathlib.Core.Path.{_≡_, refl, sym, ap, _∙_}
-use mathlib.Core.Bool.{true}
 use mathlib.Core.List.{List, _∷_}
-use lib.ListN.{length, getD, drop, set, length-set, drop-of-length-le}
+use lib.ListN.{length, getD, set, length-set}
 use lib.Seq.{getD-set-same, getD-set-other}
 use Rattle.pregroup.specs.Types.{PregroupType}
 use Rattle.pregroup.specs.Held.{held}
-use Rattle.format.specs.Records.{Bytes}
-use Rattle.book.specs.Format.{simplesOf, exponentOf, exponentListed}
-use Rattle.book.proofs.Simples.{simpleFrom, simples-step}
+use Rattle.book.specs.declared.EntryType.{EntryType}
 use Rattle.graph.specs.Graph.{Graph, Labelled, labelOf, Boundary, Spells, ended, more}
-use Rattle.figures.specs.Limits.{maxNodes}
-use Rattle.graph.specs.Cells.{Cells, cells, cellsGraph, Same, Continues, Retained, Edges, TypeFits, Typed}
-use Rattle.graph.proofs.RaiseLaws.{listed-at}
+use Rattle.figures.specs.Limits.{maxNodes, maxEntrySimples}
+use Rattle.graph.specs.Cells.{Cells, cells, cellsGraph, Same, Continues, Retained, Edges, heldFrom, TypeFits, Typed}
 
 -- Another graph has the same simple type on a node.
 pub record SameNode (g h : Graph) (x : ℕ) : Type 0 where
@@ -64,70 +60,66 @@ no-edge nexts n b up x h = none (getD {A = ℕ} nexts x 0) (λ p. up x p .0)
     none zero f = refl
     none (suc m) f = let g = f (omega arith) in absurd (omega arith)
 
--- How the loop stands: the simple types from byte i of the part on are laid, and begin at `first`.
-pub record Typing (part : Bytes) (node b : ℕ) (c₀ c : Cells) (first i : ℕ) : Type 0 where
-  pub even : i % 2 ≡ 0
-  pub inside : i ≤ length part
-  pub kept : Retained (node + i / 2) 0 c₀ c
-  pub up : Edges (c .nexts) (node + length part / 2) b
-  pub spelt : Spells (cellsGraph c) first (simplesOf (drop i part)) b
-  pub low : node + i / 2 ≤ first
+-- How the loop stands: the simple types from the i-th on are laid, and begin at `first`.
+pub record Typing (t : EntryType) (node b : ℕ) (c₀ c : Cells) (first i : ℕ) : Type 0 where
+  pub inside : i ≤ t .count
+  pub kept : Retained (node + i) 0 c₀ c
+  pub up : Edges (c .nexts) (node + t .count) b
+  pub spelt : Spells (cellsGraph c) first (heldFrom (t .count - i) i (t .simples)) b
+  pub low : node + i ≤ first
   pub high : first ≤ b
   pub simples-length : length (c .simples) ≡ length (c₀ .simples)
   pub nexts-length : length (c .nexts) ≡ length (c₀ .nexts)
 
-module _ (part : Bytes) (node b : ℕ) (c₀ : Cells) (t : TypeFits part node b c₀) where
+module _ (e : EntryType) (node b : ℕ) (c₀ : Cells) (t : TypeFits e node b c₀) where
   no-next : (x : ℕ) → node ≤ x → getD {A = ℕ} (c₀ .nexts) x 0 ≡ 0
   no-next x h = no-edge (c₀ .nexts) node b (t .up) x h
 
-  pub typing-start : Typing part node b c₀ c₀ b (length part)
-  unfolding simplesOf
+  none-left : e .count - e .count ≡ 0
+  none-left = omega arith
+
+  pub typing-start : Typing e node b c₀ c₀ b (e .count)
+  unfolding heldFrom
   typing-start =
       record {
-        even = t .pairs;
         inside = omega arith;
         kept = kept-here _ _ c₀;
-        up = λ x p. let e = t .up x p in (omega (arith, e .0), e .1, e .2);
-        spelt = rw (drop-of-length-le part {i = length part} (omega arith)) (ended (no-next b (omega (arith, t .fits))));
+        up = λ x p. let f = t .up x p in (omega (arith, f .0), f .1, f .2);
+        spelt = rw none-left (ended (no-next b (omega (arith, t .fits))));
         low = t .fits;
         high = omega arith;
         simples-length = refl;
         nexts-length = refl;
       }
 
-  pub typing-end : (c : Cells) (first i : ℕ) → Typing part node b c₀ c first i → i ≤ 0 → Typed part node b c₀ c first
+  pub typing-end : (c : Cells) (first i : ℕ) → Typing e node b c₀ c first i → i ≤ 0 → Typed e node b c₀ c first
   typing-end c first i laying h =
-      let e : i ≡ 0 = omega arith in
-      let s : Typing part node b c₀ c first 0 = rw e at laying in
+      let z : i ≡ 0 = omega arith in
+      let s : Typing e node b c₀ c first 0 = rw z at laying in
       record {
         kept = continues-less (s .kept) (omega arith) (omega arith);
         up = s .up;
-        spelt = s .spelt;
+        spelt = rw whole-left at (s .spelt);
         low = omega (arith, s .low);
         high = s .high;
       }
+    where
+      whole-left : e .count - 0 ≡ e .count
+      whole-left = omega arith
 
-  module _ (c : Cells) (first i : ℕ) (s : Typing part node b c₀ c first i) (some-left : 0 < i) where
+  module _ (c : Cells) (first i : ℕ) (s : Typing e node b c₀ c first i) (some-left : 0 < i) where
     abbrev at : ℕ
-    at = node + (i - 2) / 2
+    at = node + (i - 1)
 
-    two : 2 ≤ i
-    two = omega (arith, s .even)
+    pub type-inside : (i - 1 < maxEntrySimples) × (at < maxNodes) × (at < first) × (first < maxNodes)
+    type-inside = (omega (arith, s .inside, t .short), omega (arith, s .inside, t .fits, t .small), omega (arith, s .low), omega (arith, s .high, t .small))
 
-    pub type-inside : (i - 2 + 1 < length part) × (at < maxNodes) × (at < first) × (first < maxNodes)
-    type-inside = (omega (arith, two, s .inside), omega (arith, two, s .inside, t .fits, t .small), omega (arith, two, s .low), omega (arith, s .high, t .small))
-
-    pub type-listed : exponentListed (exponentOf (getD {A = ℕ} part (i - 2 + 1) 0)) ≡ true
-    type-listed =
-        let e : 2 * ((i - 2) / 2) + 1 ≡ i - 2 + 1 = omega (arith, two, s .even) in
-        rw e at (listed-at part (t .pairs) (t .listed) ((i - 2) / 2) (omega (arith, e, type-inside .0)))
-
-    module _ (simple : ℕ) (right : held simple ≡ simpleFrom part (i - 2)) where
+    module _ (simple : ℕ) (right : simple ≡ getD {A = ℕ} (e .simples) (i - 1) 0) where
       abbrev c′ : Cells
       c′ = cells (set (c .simples) at simple) (set (c .nexts) at first) (c .enters) (c .numbers)
 
       free : getD {A = ℕ} (c .nexts) at 0 ≡ 0
-      free = s .kept .nexts at (omega (arith, two)) ∙ no-next at (omega arith)
+      free = s .kept .nexts at (omega arith) ∙ no-next at (omega arith)
 
       nexts-here : getD {A = ℕ} (set (c .nexts) at first) at 0 ≡ first
       nexts-here = getD-set-same (c .nexts) at first 0 (omega (arith, type-inside .1, s .nexts-length, t .nexts-room))
@@ -136,47 +128,48 @@ module _ (part : Bytes) (node b : ℕ) (c₀ : Cells) (t : TypeFits part node b 
       others x p = go (ℕ-discrete x at)
         where
           go : Dec (x ≡ at) → SameNode (cellsGraph c) (cellsGraph c′) x
-          go (yes e) = let z : getD {A = ℕ} (c .nexts) x 0 ≡ 0 = ap (λ (k : ℕ). getD {A = ℕ} (c .nexts) k 0) e ∙ free in absurd (omega arith)
+          go (yes q) = let z : getD {A = ℕ} (c .nexts) x 0 ≡ 0 = ap (λ (k : ℕ). getD {A = ℕ} (c .nexts) k 0) q ∙ free in absurd (omega arith)
           go (no d) =
               record {
                 label = getD-set-other (c .simples) at x simple 0 d;
                 next = getD-set-other (c .nexts) at x first 0 d;
               }
 
-      up′ : Edges (set (c .nexts) at first) (node + length part / 2) b
+      up′ : Edges (set (c .nexts) at first) (node + e .count) b
       up′ x p = go (ℕ-discrete x at)
         where
-          go : Dec (x ≡ at) → (x < node + length part / 2) × (x < getD {A = ℕ} (set (c .nexts) at first) x 0) × (getD {A = ℕ} (set (c .nexts) at first) x 0 ≤ b)
-          go (yes e) = rw (e, nexts-here) (omega (arith, two, s .inside), type-inside .2, s .high)
+          go : Dec (x ≡ at) → (x < node + e .count) × (x < getD {A = ℕ} (set (c .nexts) at first) x 0) × (getD {A = ℕ} (set (c .nexts) at first) x 0 ≤ b)
+          go (yes q) = rw (q, nexts-here) (omega (arith, s .inside), type-inside .2, s .high)
           go (no d) =
               let same = getD-set-other (c .nexts) at x first 0 d in
               rw same (s .up x (rw same at p))
 
       boundary : Boundary (cellsGraph c′) b
-      boundary = no-edge (set (c .nexts) at first) (node + length part / 2) b up′ b (t .fits)
+      boundary = no-edge (set (c .nexts) at first) (node + e .count) b up′ b (t .fits)
 
-      labelled : Labelled (cellsGraph c′) at (simpleFrom part (i - 2)) first
+      labelled : Labelled (cellsGraph c′) at (held (getD {A = ℕ} (e .simples) (i - 1) 0)) first
       labelled =
           record {
             simple = omega (arith, nexts-here, type-inside .2);
             label =
-                sym right ∙ ap held (sym (getD-set-same (c .simples) at simple 0 (omega (arith, type-inside .1, s .simples-length, t .simples-room))));
+                ap held (sym right) ∙ ap held (sym (getD-set-same (c .simples) at simple 0 (omega (arith, type-inside .1, s .simples-length, t .simples-room))));
             next = sym nexts-here;
           }
 
-      step : simplesOf (drop (i - 2) part) ≡ simpleFrom part (i - 2) ∷ simplesOf (drop i part)
+      step : heldFrom (e .count - (i - 1)) (i - 1) (e .simples) ≡ held (getD {A = ℕ} (e .simples) (i - 1) 0) ∷ heldFrom (e .count - i) i (e .simples)
+      unfolding heldFrom
       step =
-          let e : i - 2 + 2 ≡ i = omega (arith, two) in
-          simples-step part (i - 2) (type-inside .0) ∙ ap (λ (k : ℕ). simpleFrom part (i - 2) ∷ simplesOf (drop k part)) e
+          let more-left : e .count - (i - 1) ≡ suc (e .count - i) = omega (arith, s .inside) in
+          let next : suc (i - 1) ≡ i = omega arith in
+          ap (λ (n : ℕ). heldFrom n (i - 1) (e .simples)) more-left ∙ ap (λ (k : ℕ). held (getD {A = ℕ} (e .simples) (i - 1) 0) ∷ heldFrom (e .count - i) k (e .simples)) next
 
-      pub typing-next : Typing part node b c₀ c′ at (i - 2)
+      pub typing-next : Typing e node b c₀ c′ at (i - 1)
       typing-next =
           record {
-            even = omega (arith, two, s .even);
             inside = omega (arith, s .inside);
             kept = record {
-              simples = same-set at (c₀ .simples) (c .simples) at simple (omega arith) (λ x h. s .kept .simples x (omega (arith, two)));
-              nexts = same-set at (c₀ .nexts) (c .nexts) at first (omega arith) (λ x h. s .kept .nexts x (omega (arith, two)));
+              simples = same-set at (c₀ .simples) (c .simples) at simple (omega arith) (λ x h. s .kept .simples x (omega arith));
+              nexts = same-set at (c₀ .nexts) (c .nexts) at first (omega arith) (λ x h. s .kept .nexts x (omega arith));
               enters = s .kept .enters;
               numbers = s .kept .numbers;
             };

@@ -1,15 +1,18 @@
 -- What the code writes while it lays out the entries of one word, from left to right: simple types on nodes, and entries in slots. All that
 -- is laid is said of every graph that agrees with the lists as far as they are filled, so later stores cannot disturb it.
-use Prim.Native.Nat.{ℕ, _+_, _/_, _%_, _≤_, _<_}
+use Prim.Native.Nat.{ℕ, zero, suc, _+_, _≤_, _<_}
 use mathlib.Core.Path.{_≡_}
-use mathlib.Core.Bool.{true, false}
-use mathlib.Core.List.{List, []}
+use mathlib.Core.Bool.{false}
+use mathlib.Core.List.{List, [], _∷_}
 use lib.ListN.{length, getD}
-use Rattle.figures.specs.Limits.{maxNodes, maxEntries}
+use Rattle.figures.specs.Limits.{maxNodes, maxEntries, maxEntrySimples}
 use Rattle.linking.specs.Reading.{NumberedEntry}
-use Rattle.format.specs.Records.{Bytes, bodyAt, every}
-use Rattle.book.specs.Format.{typePart, simplesOf, exponents, exponentListed}
-use Rattle.lookup.specs.Entries.{Entries, simplesIn}
+use Rattle.format.specs.Records.{Bytes, bodiesAt}
+use Rattle.format.specs.Names.{Named}
+use Rattle.pregroup.specs.Types.{PregroupType}
+use Rattle.pregroup.specs.Held.{held}
+use Rattle.book.specs.declared.EntryType.{EntryType}
+use Rattle.lookup.specs.Entries.{Lexicon, simplesIn}
 use Rattle.lookup.specs.Threads.{Thread}
 use Rattle.graph.specs.Graph.{Graph, graph, Boundary, Spells}
 use Rattle.graph.specs.Layout.{Slots, slotted}
@@ -51,25 +54,28 @@ abbrev pub Edges : List ℕ → ℕ → ℕ → Type 0
 Edges nexts n b =
     (x : ℕ) → 0 < getD {A = ℕ} nexts x 0 → (x < n) × (x < getD {A = ℕ} nexts x 0) × (getD {A = ℕ} nexts x 0 ≤ b)
 
--- All exponents of a type are from −8 to 8.
-abbrev pub ExponentsListed : Bytes → Type 0
-ExponentsListed part = every exponentListed (exponents (simplesOf part)) ≡ true
+-- The simple types that n places of a list hold, from a place on, and those of an entry.
+unfoldable pub heldFrom : ℕ → ℕ → List ℕ → PregroupType
+heldFrom zero i l = []
+heldFrom (suc n) i l = held (getD {A = ℕ} l i 0) ∷ heldFrom n (suc i) l
+
+abbrev pub typeHeld : EntryType → PregroupType
+typeHeld t = heldFrom (t .count) 0 (t .simples)
 
 -- A type can be laid from a node on, before the boundary b.
-pub record TypeFits (part : Bytes) (node b : ℕ) (c : Cells) : Type 0 where
-  pub pairs : length part % 2 ≡ 0
-  pub listed : ExponentsListed part
-  pub fits : node + length part / 2 ≤ b
+pub record TypeFits (t : EntryType) (node b : ℕ) (c : Cells) : Type 0 where
+  pub short : t .count ≤ maxEntrySimples
+  pub fits : node + t .count ≤ b
   pub small : b < maxNodes
   pub simples-room : maxNodes ≤ length (c .simples)
   pub nexts-room : maxNodes ≤ length (c .nexts)
   pub up : Edges (c .nexts) node b
 
 -- It is laid: from `first` on it is spelt up to b.
-pub record Typed (part : Bytes) (node b : ℕ) (c c′ : Cells) (first : ℕ) : Type 0 where
+pub record Typed (t : EntryType) (node b : ℕ) (c c′ : Cells) (first : ℕ) : Type 0 where
   pub kept : Retained node 0 c c′
-  pub up : Edges (c′ .nexts) (node + length part / 2) b
-  pub spelt : Spells (cellsGraph c′) first (simplesOf part) b
+  pub up : Edges (c′ .nexts) (node + t .count) b
+  pub spelt : Spells (cellsGraph c′) first (typeHeld t) b
   pub low : node ≤ first
   pub high : first ≤ b
 
@@ -97,23 +103,22 @@ pub record Lays (b : ℕ) (p : Place) (c : Cells) (p′ : Place) (c′ : Cells) 
   pub entered : (y : ℕ) → p .slot ≤ y → y < p′ .slot → (p .node ≤ getD {A = ℕ} (c′ .enters) y 0) × (getD {A = ℕ} (c′ .enters) y 0 ≤ b)
 
 -- An entry's type can be laid from the place p on.
-pub record SlotFits (part : Bytes) (number b : ℕ) (p : Place) (c : Cells) : Type 0 where
-  pub pairs : length part % 2 ≡ 0
-  pub listed : ExponentsListed part
-  pub fits : p .node + length part / 2 ≤ b
+pub record SlotFits (t : EntryType) (number b : ℕ) (p : Place) (c : Cells) : Type 0 where
+  pub short : t .count ≤ maxEntrySimples
+  pub fits : p .node + t .count ≤ b
   pub low : number ≤ maxEntries
   pub placed : Placed b p c
 
--- The entries that are kept of a book, with exponents from −8 to 8.
-pub record Lexicon (bytes : Bytes) (offsets : List ℕ) (count : ℕ) : Type 0 where
-  pub entries : Entries bytes offsets count
-  pub listed : (i : ℕ) → i < count → ExponentsListed (typePart (bodyAt bytes (getD {A = ℕ} offsets i 0)))
+-- What is kept of a book's basic types and entries.
+pub record Vocabulary (bytes : Bytes) (names : List ℕ) (types : ℕ) (offsets : List ℕ) (count : ℕ) : Type 0 where
+  pub named : Named bytes names types
+  pub lexicon : Lexicon bytes (bodiesAt bytes names types) offsets count
 
 -- The entries of a thread can be laid from the place p on, before the boundary b.
-pub record EntriesFit (bytes : Bytes) (offsets : List ℕ) (count : ℕ) (same : List ℕ) (first b : ℕ) (p : Place) (c : Cells) : Type 0 where
-  pub lexicon : Lexicon bytes offsets count
+pub record EntriesFit (bytes : Bytes) (names : List ℕ) (types : ℕ) (offsets : List ℕ) (count : ℕ) (same : List ℕ) (first b : ℕ) (p : Place) (c : Cells) : Type 0 where
+  pub vocabulary : Vocabulary bytes names types offsets count
   pub same-room : count ≤ length same
   pub entries : List NumberedEntry
-  pub thread : Thread bytes offsets count same first entries
+  pub thread : Thread bytes (bodiesAt bytes names types) offsets count same first entries
   pub placed : Placed b p c
   pub fits : p .node + simplesIn entries ≤ b

@@ -8,12 +8,12 @@ use Rattle.figures.specs.Limits.{maxWords, maxLineSimples, maxTargets, maxNodes
 use Rattle.pregroup.specs.Types.{Basic, _⁽_⁾}
 use Rattle.pregroup.specs.Held.{held}
 use Rattle.linking.specs.Reading.{NumberedEntry, Words, targetAt}
-use Rattle.format.specs.Records.{Bytes}
+use Rattle.format.specs.Records.{Bytes, bodiesAt}
 use Rattle.lookup.specs.Entries.{simplesIn, simplesOfWords}
 use Rattle.lookup.specs.Threads.{Thread, Threads}
 use Rattle.graph.specs.Graph.{Graph, graph, Upward}
 use Rattle.graph.specs.Layout.{End, Laid}
-use Rattle.graph.specs.Cells.{Cells, cells, Same, Continues, Edges, Lexicon}
+use Rattle.graph.specs.Cells.{Cells, cells, Same, Continues, Edges, Vocabulary}
 use Rattle.graph.specs.declared.Place.{Place}
 
 -- All lists: those of nodes and slots, and for each boundary the range of its slots.
@@ -63,27 +63,27 @@ pub record Lined (p : Place) (l : Lists) (p′ : Place) (l′ : Lists) (words le
   pub slot-on : p .slot ≤ p′ .slot
 
 -- A word, by the thread of its entries, can be laid at the boundary of the place p.
-pub record WordFits (bytes : Bytes) (offsets : List ℕ) (count : ℕ) (same : List ℕ) (first : ℕ) (p : Place) (l : Lists) : Type 0 where
-  pub lexicon : Lexicon bytes offsets count
+pub record WordFits (bytes : Bytes) (names : List ℕ) (types : ℕ) (offsets : List ℕ) (count : ℕ) (same : List ℕ) (first : ℕ) (p : Place) (l : Lists) : Type 0 where
+  pub vocabulary : Vocabulary bytes names types offsets count
   pub same-room : count ≤ length same
   pub entries : List NumberedEntry
-  pub thread : Thread bytes offsets count same first entries
+  pub thread : Thread bytes (bodiesAt bytes names types) offsets count same first entries
   pub standing : Standing p l
   pub numbers-room : maxNodes ≤ length (l .cells .numbers)
   pub fits : p .node + 1 + simplesIn entries < maxNodes
 
 -- The words of a line as they are looked up: so many, each by the thread of its entries.
-pub record ThreadedWords (bytes : Bytes) (offsets : List ℕ) (count : ℕ) (same firsts : List ℕ) (words : ℕ) : Type 0 where
-  pub lexicon : Lexicon bytes offsets count
+pub record ThreadedWords (bytes : Bytes) (names : List ℕ) (types : ℕ) (offsets : List ℕ) (count : ℕ) (same firsts : List ℕ) (words : ℕ) : Type 0 where
+  pub vocabulary : Vocabulary bytes names types offsets count
   pub same-room : count ≤ length same
   pub firsts-room : words ≤ length firsts
   pub all : Words
-  pub threads : Threads bytes offsets count same firsts 0 all
+  pub threads : Threads bytes (bodiesAt bytes names types) offsets count same firsts 0 all
   pub as-many : length all ≡ words
 
 -- All words of a line can be laid from the place p on, with a boundary behind them.
-pub record WordsFit (bytes : Bytes) (offsets : List ℕ) (count : ℕ) (same firsts : List ℕ) (words : ℕ) (p : Place) (l : Lists) : Type 0 where
-  pub looked-up : ThreadedWords bytes offsets count same firsts words
+pub record WordsFit (bytes : Bytes) (names : List ℕ) (types : ℕ) (offsets : List ℕ) (count : ℕ) (same firsts : List ℕ) (words : ℕ) (p : Place) (l : Lists) : Type 0 where
+  pub looked-up : ThreadedWords bytes names types offsets count same firsts words
   pub standing : Standing p l
   pub numbers-room : maxNodes ≤ length (l .cells .numbers)
   pub fits : p .node + (simplesOfWords (looked-up .all) + words) < maxNodes
@@ -129,8 +129,8 @@ pub record Empty (l : Lists) : Type 0 where
   pub tos : (x : ℕ) → getD {A = ℕ} (l .tos) x 0 ≡ 0
 
 -- A line whose words are looked up, within its limits, can be laid out in empty lists, with so many targets.
-pub record LineFits (bytes : Bytes) (offsets : List ℕ) (count : ℕ) (same firsts : List ℕ) (words goals : ℕ) (l : Lists) : Type 0 where
-  pub looked-up : ThreadedWords bytes offsets count same firsts words
+pub record LineFits (bytes : Bytes) (names : List ℕ) (types : ℕ) (offsets : List ℕ) (count : ℕ) (same firsts : List ℕ) (words goals : ℕ) (l : Lists) : Type 0 where
+  pub looked-up : ThreadedWords bytes names types offsets count same firsts words
   pub few : words ≤ maxWords
   pub small : simplesOfWords (looked-up .all) ≤ maxLineSimples
   pub few-targets : goals ≤ maxTargets

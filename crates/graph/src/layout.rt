@@ -1,67 +1,42 @@
 // Lays a line out whose words are looked up: each word a boundary, then the simple types of its entries, and behind the last word the targets.
 use crate::Place;
-use book::layout::LEAST_EXPONENT;
-use book::layout::type_part;
+use book::EntryType;
+use book::entries::entry_type;
 use bytewise::widths::wide_number;
-use format::layout::body_at;
 use lookup::find::tally;
 use pregroup::EXPONENT_BIAS;
 use pregroup::hold;
 ghost use mathlib.Core.Path.{_≡_};
-ghost use mathlib.Core.Bool.{true};
 ghost use mathlib.Core.List.{List, [], _∷_};
 ghost use lib.ListN.{length};
 ghost use Prim.Native.Nat.{_+_, _≤_};
-ghost use lib.IntN.{pos, _-ℤ_};
 ghost use Rattle.figures.specs.Limits.{maxNodes};
-ghost use Rattle.pregroup.specs.Types.{_⁽_⁾};
-ghost use Rattle.pregroup.specs.Held.{bias, held};
-ghost use Rattle.book.specs.Format.{exponentOf, exponentListed, simplesOf};
+ghost use Rattle.format.specs.Records.{bodiesAt};
 ghost use Rattle.linking.specs.Reading.{NumberedEntry, Words};
 ghost use Rattle.lookup.specs.Threads.{Thread, Threads};
-ghost use Rattle.graph.specs.Cells.{cells, nodes, TypeFits, Typed, SlotFits, Lays, EntriesFit};
+ghost use Rattle.graph.specs.Cells.{cells, nodes, typeHeld, TypeFits, Typed, SlotFits, Lays, EntriesFit};
 ghost use Rattle.graph.specs.Lists.{lists, WordFits, WordsFit, Lined, nodesWith, GoalFits, GoalLaid, Ended, Standing, LineFits, LaidOut};
-
-// An exponent of the book, a byte in two's complement, as it is held: raised, so that it is never negative.
-fn raise(exponent: u8) -> u8
-    requires { ⌜ exponentListed (exponentOf exponent) ≡ true ⌝ }
-    ensures { λ r. ⌜ pos r -ℤ pos bias ≡ exponentOf exponent ⌝ }
-{
-    if exponent < LEAST_EXPONENT {
-        exponent + EXPONENT_BIAS
-    } else {
-        exponent - LEAST_EXPONENT
-    }
-}
-
-// A simple type of the book as it is held: a type number and an exponent, a byte each.
-fn hold_simple(base: u8, exponent: u8) -> u16
-    requires { ⌜ exponentListed (exponentOf exponent) ≡ true ⌝ }
-    ensures { λ r. ⌜ held r ≡ base ⁽ exponentOf exponent ⁾ ⌝ }
-{
-    hold(base, raise(exponent))
-}
 
 // Lays the simple types of an entry from `node` on, from the last to the first, each leading to the one behind it and the last to the
 // boundary. The node where the type begins is returned: for an empty one the boundary.
 fn lay_type(
-    part: &[u8],
+    t: EntryType,
     node: usize,
     boundary: usize,
     simples: &mut [u16],
     nexts: &mut [u16],
 ) -> usize
-    requires { ⌜ TypeFits (now part) node boundary (nodes (now simples) (now nexts)) ⌝ }
-    ensures { λ r. ⌜ Typed (now (part .entry)) node boundary (nodes (now (simples .entry)) (now (nexts .entry)))
+    requires { ⌜ TypeFits t node boundary (nodes (now simples) (now nexts)) ⌝ }
+    ensures { λ r. ⌜ Typed t node boundary (nodes (now (simples .entry)) (now (nexts .entry)))
         (nodes (now (simples .exit)) (now (nexts .exit))) r ⌝ }
 {
+    let held = t.simples;
     let mut first = boundary;
-    let mut i = part.len();
+    let mut i = t.count;
     while 0 < i {
-        i -= 2;
-        let at = node + i / 2;
-        let simple = hold_simple(part[i], part[i + 1]);
-        simples[at] = simple;
+        i -= 1;
+        let at = node + i;
+        simples[at] = held[i];
         nexts[at] = first as u16;
         first = at;
     }
@@ -70,7 +45,7 @@ fn lay_type(
 
 // Gives an entry a slot and lays its type, but for a second empty type of a word.
 fn lay_slot(
-    part: &[u8],
+    t: EntryType,
     number: usize,
     boundary: usize,
     p: Place,
@@ -79,21 +54,22 @@ fn lay_slot(
     enters: &mut [u16],
     numbers: &mut [u16],
 ) -> Place
-    requires { ⌜ SlotFits (now part) number boundary p (cells (now simples) (now nexts) (now enters) (now numbers)) ⌝ }
+    requires { ⌜ SlotFits t number boundary p (cells (now simples) (now nexts) (now enters) (now numbers)) ⌝ }
     ensures { λ r. ⌜ ((rest : List NumberedEntry) → Lays boundary p
         (cells (now (simples .entry)) (now (nexts .entry)) (now (enters .entry)) (now (numbers .entry))) r
         (cells (now (simples .exit)) (now (nexts .exit)) (now (enters .exit)) (now (numbers .exit)))
-        (record { number = number; type = simplesOf (now (part .entry)) } ∷ rest) rest) ⌝ }
+        (record { number = number; type = typeHeld t } ∷ rest) rest) ⌝ }
 {
     let node = p.node;
     let slot = p.slot;
     let seen = p.seen;
-    let empty = part.len() == 0;
+    let count = t.count;
+    let empty = count == 0;
     if empty & seen {
         return p;
     }
-    let behind = node + part.len() / 2;
-    let first = lay_type(part, node, boundary, simples, nexts);
+    let behind = node + count;
+    let first = lay_type(t, node, boundary, simples, nexts);
     enters[slot] = first as u16;
     numbers[slot] = number as u16;
     Place {
@@ -106,6 +82,8 @@ fn lay_slot(
 // Lays the entries of a thread, in their order, before the boundary behind the word.
 fn lay_entries(
     book: &[u8],
+    names: &[u16],
+    types: usize,
     offsets: &[u16],
     count: usize,
     same: &[u16],
@@ -117,17 +95,17 @@ fn lay_entries(
     enters: &mut [u16],
     numbers: &mut [u16],
 ) -> Place
-    requires { ⌜ EntriesFit (now book) (now offsets) count (now same) first boundary p
+    requires { ⌜ EntriesFit (now book) (now names) types (now offsets) count (now same) first boundary p
         (cells (now simples) (now nexts) (now enters) (now numbers)) ⌝ }
-    ensures { λ r. ⌜ ((es : List NumberedEntry) → Thread (now (book .entry)) (now (offsets .entry)) count (now (same .entry)) first es
+    ensures { λ r. ⌜ ((es : List NumberedEntry) → Thread (now (book .entry)) (bodiesAt (now (book .entry)) (now (names .entry)) types) (now (offsets .entry)) count (now (same .entry)) first es
         → Lays boundary p (cells (now (simples .entry)) (now (nexts .entry)) (now (enters .entry)) (now (numbers .entry))) r
         (cells (now (simples .exit)) (now (nexts .exit)) (now (enters .exit)) (now (numbers .exit))) es []) ⌝ }
 {
     let mut place = p;
     let mut i = first;
     while i < count {
-        let part = type_part(body_at(book, wide_number(offsets[i])));
-        place = lay_slot(part, i, boundary, place, simples, nexts, enters, numbers);
+        let t = entry_type(book, names, types, wide_number(offsets[i]));
+        place = lay_slot(t, i, boundary, place, simples, nexts, enters, numbers);
         i = wide_number(same[i]);
     }
     place
@@ -137,6 +115,8 @@ fn lay_entries(
 // boundary, which is known beforehand from the number of simple types.
 fn lay_word(
     book: &[u8],
+    names: &[u16],
+    types: usize,
     offsets: &[u16],
     count: usize,
     same: &[u16],
@@ -149,9 +129,9 @@ fn lay_word(
     enters: &mut [u16],
     numbers: &mut [u16],
 ) -> Place
-    requires { ⌜ WordFits (now book) (now offsets) count (now same) first p
+    requires { ⌜ WordFits (now book) (now names) types (now offsets) count (now same) first p
         (lists (now simples) (now nexts) (now froms) (now tos) (now enters) (now numbers)) ⌝ }
-    ensures { λ r. ⌜ ((es : List NumberedEntry) → Thread (now (book .entry)) (now (offsets .entry)) count (now (same .entry)) first es
+    ensures { λ r. ⌜ ((es : List NumberedEntry) → Thread (now (book .entry)) (bodiesAt (now (book .entry)) (now (names .entry)) types) (now (offsets .entry)) count (now (same .entry)) first es
         → (rest : Words) → Lined p (lists (now (simples .entry)) (now (nexts .entry)) (now (froms .entry)) (now (tos .entry))
         (now (enters .entry)) (now (numbers .entry))) r (lists (now (simples .exit)) (now (nexts .exit)) (now (froms .exit))
         (now (tos .exit)) (now (enters .exit)) (now (numbers .exit))) (es ∷ rest) rest) ⌝ }
@@ -166,6 +146,8 @@ fn lay_word(
     };
     let last = lay_entries(
         book,
+        names,
+        types,
         offsets,
         count,
         same,
@@ -190,6 +172,8 @@ fn lay_word(
 // Lays all words of a line, given by the first entry of each, from its boundary to the next.
 fn lay_words(
     book: &[u8],
+    names: &[u16],
+    types: usize,
     offsets: &[u16],
     count: usize,
     same: &[u16],
@@ -203,9 +187,9 @@ fn lay_words(
     enters: &mut [u16],
     numbers: &mut [u16],
 ) -> Place
-    requires { ⌜ WordsFit (now book) (now offsets) count (now same) (now firsts) words p
+    requires { ⌜ WordsFit (now book) (now names) types (now offsets) count (now same) (now firsts) words p
         (lists (now simples) (now nexts) (now froms) (now tos) (now enters) (now numbers)) ⌝ }
-    ensures { λ r. ⌜ ((ws : Words) → Threads (now (book .entry)) (now (offsets .entry)) count (now (same .entry)) (now (firsts .entry)) 0 ws
+    ensures { λ r. ⌜ ((ws : Words) → Threads (now (book .entry)) (bodiesAt (now (book .entry)) (now (names .entry)) types) (now (offsets .entry)) count (now (same .entry)) (now (firsts .entry)) 0 ws
         → length ws ≡ words → Lined p (lists (now (simples .entry)) (now (nexts .entry)) (now (froms .entry)) (now (tos .entry))
         (now (enters .entry)) (now (numbers .entry))) r (lists (now (simples .exit)) (now (nexts .exit)) (now (froms .exit))
         (now (tos .exit)) (now (enters .exit)) (now (numbers .exit))) ws []) ⌝ }
@@ -215,6 +199,8 @@ fn lay_words(
     while k < words {
         place = lay_word(
             book,
+            names,
+            types,
             offsets,
             count,
             same,
@@ -246,7 +232,7 @@ fn lay_goal(
         (cells (now (simples .exit)) (now (nexts .exit)) (now (enters .exit)) []) ⌝ }
 {
     let end = node + 1;
-    let simple = hold_simple(target, 1);
+    let simple = hold(target, EXPONENT_BIAS + 1);
     enters[slot] = node as u16;
     simples[node] = simple;
     nexts[node] = end as u16;
@@ -290,6 +276,8 @@ fn lay_goals(
 // The words are looked up before: `firsts` has the first entry of each, and `same` leads to the others.
 pub fn lay_out(
     book: &[u8],
+    names: &[u16],
+    types: usize,
     offsets: &[u16],
     count: usize,
     same: &[u16],
@@ -303,9 +291,9 @@ pub fn lay_out(
     enters: &mut [u16],
     numbers: &mut [u16],
 ) -> usize
-    requires { ⌜ LineFits (now book) (now offsets) count (now same) (now firsts) words (length (now targets))
+    requires { ⌜ LineFits (now book) (now names) types (now offsets) count (now same) (now firsts) words (length (now targets))
         (lists (now simples) (now nexts) (now froms) (now tos) (now enters) (now numbers)) ⌝ }
-    ensures { λ r. ⌜ ((ws : Words) → Threads (now (book .entry)) (now (offsets .entry)) count (now (same .entry)) (now (firsts .entry)) 0 ws
+    ensures { λ r. ⌜ ((ws : Words) → Threads (now (book .entry)) (bodiesAt (now (book .entry)) (now (names .entry)) types) (now (offsets .entry)) count (now (same .entry)) (now (firsts .entry)) 0 ws
         → length ws ≡ words → LaidOut ws (now (targets .entry)) (lists (now (simples .exit)) (now (nexts .exit)) (now (froms .exit))
         (now (tos .exit)) (now (enters .exit)) (now (numbers .exit))) r) ⌝ }
 {
@@ -316,6 +304,8 @@ pub fn lay_out(
     };
     let last = lay_words(
         book,
+        names,
+        types,
         offsets,
         count,
         same,

@@ -17,7 +17,7 @@ use Rattle.figures.specs.Refusals.{unknownWord, tooManySimples}
 use Rattle.linking.specs.Reading.{Words}
 use Rattle.format.specs.Records.{Bytes}
 use Rattle.book.specs.Format.{Book}
-use Rattle.lookup.specs.Entries.{Entries, entriesKept, simplesIn, simplesOfWords}
+use Rattle.lookup.specs.Entries.{KeptOf, simplesIn, simplesOfWords}
 use Rattle.lookup.specs.Threads.{Found as FoundWord, Finds, Thread, Threads, none as none-threaded, word as next-thread, Tallied}
 use Rattle.lookup.proofs.ThreadLaws.{simples-cons, thread-next, thread-end}
 use Rattle.lookup.proofs.FindLaws.{found-thread}
@@ -109,7 +109,7 @@ module _ (line : Bytes) (starts ends : List ℕ) (words : ℕ) (s : SplitInto li
     looking-start = record { inside = omega arith; found = refl; simples = omega arith; small = omega arith }
 
     module _ {bytes : Bytes} {offsets : List ℕ} {count : ℕ} {same : List ℕ} {sum k first : ℕ} (l : Looking sum k) (h : k < words)
-        (t : Thread bytes offsets count same first (entriesOf B (word k))) where
+        (t : Thread bytes (B .names) offsets count same first (entriesOf B (word k))) where
       unfolded : entryFault B (drop k (wordsOf line)) ≡ cond (eqb (length (entriesOf B (word k))) 0) (some (word k .at)) (entryFault B (drop (k + 1) (wordsOf line)))
       unfolding entryFault
       unfolded = rw (words-at k h)
@@ -146,12 +146,12 @@ module _ (line : Bytes) (starts ends : List ℕ) (words : ℕ) (s : SplitInto li
     pub looking-full : (sum k : ℕ) → Looking sum k → words ≤ k → maxLineSimples < sum → Missing B line tooManySimples 0
     looking-full sum k l h m = too-many (all-found sum k l h) (omega (arith, all-counted sum k l h))
 
-    module _ {bytes : Bytes} {offsets : List ℕ} {count : ℕ} {same : List ℕ} (kept : Entries bytes offsets count) (entries : B .entries ≡ entriesKept bytes offsets count) where
+    module _ {bytes : Bytes} {offsets : List ℕ} {count : ℕ} {same : List ℕ} (kept : KeptOf bytes offsets count B) where
       -- The thread of a word that is found has the entries of the definition.
-      pub word-thread : (k : ℕ) {first : ℕ} → FoundWord bytes offsets count (word k .bytes) same first → Thread bytes offsets count same first (entriesOf B (word k))
-      word-thread k f = rw entries (found-thread bytes offsets count (word k .bytes) kept f)
+      pub word-thread : (k : ℕ) {first : ℕ} → FoundWord bytes offsets count (word k .bytes) same first → Thread bytes (B .names) offsets count same first (entriesOf B (word k))
+      word-thread k f = rw (kept .all) (found-thread bytes offsets count (word k .bytes) (B .names) (kept .lexicon .entries) f)
 
-      threads-from : (firsts : List ℕ) (n k : ℕ) → k + n ≡ words → AllFound bytes offsets count same firsts words → Threads bytes offsets count same firsts k (leftWords k)
+      threads-from : (firsts : List ℕ) (n k : ℕ) → k + n ≡ words → AllFound bytes offsets count same firsts words → Threads bytes (B .names) offsets count same firsts k (leftWords k)
       threads-from firsts zero k e f = rw (none-left k (omega arith)) none-threaded
       threads-from firsts (suc n) k e f =
           rw (words-at k (omega arith)) (next-thread (word-thread k (f k (omega arith))) (threads-from firsts n (k + 1) (omega arith) f))

@@ -9,9 +9,10 @@ use lib.ListN.{length, getD, drop, length-append, length-map}
 use Rattle.figures.specs.Limits.{maxBook}
 use Rattle.figures.specs.Refusals.{bookTooLong, cutShort, noTarget}
 use Rattle.format.specs.Records.{Bytes, every, between, headLength, twoBytes, kindAt, bodyAt, nextAt, recordOf}
-use Rattle.book.specs.Format.{Book, Entry, Parsed, accepted, refused, byKind, entryBody, isEntry, entryOf, bodyRules, recordRules, firstBroken, add, nextRules, withNext, ended, recordsFrom, parse}
+use Rattle.book.specs.Format.{Book, Entry, Parsed, accepted, refused, byKind, entryBody, isWorded, isEntry, EntryKind, of-simples, of-text, entryOf, bodyRules, recordRules, firstBroken, add, nextRules, withNext, ended, recordsFrom, parse}
 use Rattle.format.proofs.RecordLaws.{size-first, kind-first, body-first, rest-first, size-at, kind-at, body-at, rest-at}
 use Rattle.book.proofs.EntryLaws.{word-part, type-part}
+use Rattle.book.proofs.GoodEntries.{add-entry}
 use Rattle.lookup.specs.Capitals.{smallBytes, DifferInCase, same-rest, same-record, respelt}
 use Rattle.lookup.proofs.CapitalLaws.{small-every, same-exactly, same-length}
 use Rattle.line.proofs.SmallLines.{smallEntry, smallBook}
@@ -24,7 +25,7 @@ smallParsed (refused number value) = refused number value
 -- Bodies of one kind that differ only in the case of an entry's word.
 data SameBody : ℕ → Bytes → Bytes → Type 0 where
   equal : {kind : ℕ} {body : Bytes} → SameBody kind body body
-  recased : (v w type : Bytes) → smallBytes v ≡ smallBytes w → SameBody 3 (entryBody v type) (entryBody w type)
+  recased : {kind : ℕ} → EntryKind kind → (v w type : Bytes) → smallBytes v ≡ smallBytes w → SameBody kind (entryBody v type) (entryBody w type)
 
 -- What two such books have at an offset.
 record Step (a b : Bytes) (at : ℕ) : Type 0 where
@@ -50,9 +51,9 @@ body-length v w type e = ap suc (length-append v type ∙ ap (λ (n : ℕ). n + 
 step-first : {x y : Bytes} → DifferInCase x y → Step x y 0
 step-first same-rest = record { size = refl; kind = refl; body = equal; rest = same-rest }
 step-first (same-record kind body r) = first-step {kind = kind} {p = body} equal refl r
-step-first (respelt v w type same r) =
+step-first (respelt k v w type same r) =
     let e = same-exactly v w .0 same in
-    first-step {p = entryBody v type} {q = entryBody w type} (recased v w type e) (body-length v w type e) r
+    first-step {p = entryBody v type} {q = entryBody w type} (recased k v w type e) (body-length v w type e) r
 
 step : (a b : Bytes) (at : ℕ) → DifferInCase (drop at a) (drop at b) → Step a b at
 step a b at r =
@@ -69,19 +70,23 @@ module _ (v w type : Bytes) (e : smallBytes v ≡ smallBytes w) where
   every-same =
       sym (small-every 33 126 v (omega arith) (omega arith)) ∙ ap (every (between 33 126)) e ∙ small-every 33 126 w (omega arith) (omega arith)
 
+  worded-same : isWorded (entryBody v type) ≡ isWorded (entryBody w type)
+  unfolding isWorded
+  worded-same = rw (word-part v type, word-part w type, body-length v w type e, same-length v w e, every-same)
+
   layout-same : isEntry (entryBody v type) ≡ isEntry (entryBody w type)
   unfolding isEntry
-  layout-same =
-      rw (word-part v type, word-part w type, type-part v type, type-part w type, body-length v w type e, same-length v w e, every-same)
+  layout-same = rw (worded-same, type-part v type, type-part w type)
 
-  entry-same : smallEntry (entryOf (entryBody v type)) ≡ smallEntry (entryOf (entryBody w type))
-  entry-same = rw (word-part v type, word-part w type, type-part v type, type-part w type, e)
+  entry-same : (kind : ℕ) (names : List Bytes) → smallEntry (entryOf kind names (entryBody v type)) ≡ smallEntry (entryOf kind names (entryBody w type))
+  entry-same kind names = rw (word-part v type, word-part w type, type-part v type, type-part w type, e)
 
 -- The rules see no difference ..
 rules-same : {kind : ℕ} {p q : Bytes} → SameBody kind p q → (names : List Bytes) (entries targets : ℕ) → bodyRules kind p names entries targets ≡ bodyRules kind q names entries targets
 unfolding bodyRules
 rules-same equal names entries targets = refl
-rules-same (recased v w type e) names entries targets = rw (layout-same v w type e, type-part v type, type-part w type)
+rules-same (recased of-simples v w type e) names entries targets = rw (layout-same v w type e, type-part v type, type-part w type)
+rules-same (recased of-text v w type e) names entries targets = rw (worded-same v w type e, type-part v type, type-part w type)
 
 -- .. and the books stay the same but for case with a record more.
 abbrev withEntry : Book → Entry → Book
@@ -98,25 +103,36 @@ record SameBook (B C : Book) : Type 0 where
 with-entry-same : {B C : Book} → SameBook B C → (x y : Entry) → smallEntry x ≡ smallEntry y → SameBook (withEntry B x) (withEntry C y)
 with-entry-same {B} {C} s x y e = record { small = with-entry-small B x ∙ ap₂ withEntry (s .small) e ∙ sym (with-entry-small C y) }
 
-by-kind : (kind : ℕ) {p q r s p′ q′ r′ s′ : Book} → SameBook p p′ → SameBook q q′ → SameBook r r′ → SameBook s s′
-    → SameBook (byKind {A = Book} kind p q r s) (byKind {A = Book} kind p′ q′ r′ s′)
-by-kind kind {p} {q} {r} {s} {p′} {q′} {r′} {s′} a b c d = go (eqb kind 1) (eqb kind 2) (eqb kind 3)
+by-kind : (kind : ℕ) {p q r s t p′ q′ r′ s′ t′ : Book} → SameBook p p′ → SameBook q q′ → SameBook r r′ → SameBook s s′ → SameBook t t′
+    → SameBook (byKind {A = Book} kind p q r s t) (byKind {A = Book} kind p′ q′ r′ s′ t′)
+by-kind kind {p} {q} {r} {s} {t} {p′} {q′} {r′} {s′} {t′} a b c d e = go (eqb kind 1) (eqb kind 2) (eqb kind 3) (eqb kind 4)
   where
-    go : (t u v : Bool) → SameBook (cond {A = Book} t p (cond {A = Book} u q (cond {A = Book} v r s))) (cond {A = Book} t p′ (cond {A = Book} u q′ (cond {A = Book} v r′ s′)))
-    go true u v = a
-    go false true v = b
-    go false false true = c
-    go false false false = d
+    go : (u v w x : Bool)
+        → SameBook (cond {A = Book} u p (cond {A = Book} v q (cond {A = Book} w r (cond {A = Book} x s t)))) (cond {A = Book} u p′ (cond {A = Book} v q′ (cond {A = Book} w r′ (cond {A = Book} x s′ t′))))
+    go true v w x = a
+    go false true w x = b
+    go false false true x = c
+    go false false false true = d
+    go false false false false = e
+
+-- An entry's bytes mean the same in both books, since their names are the same.
+entry-alike : {B C : Book} → SameBook B C → (kind : ℕ) (body : Bytes) → smallEntry (entryOf kind (B .names) body) ≡ smallEntry (entryOf kind (C .names) body)
+entry-alike t kind body = ap (λ (S : Book). smallEntry (entryOf kind (S .names) body)) (t .small)
 
 add-same : {kind : ℕ} {p q : Bytes} → SameBody kind p q → {B C : Book} → SameBook B C → SameBook (add kind p B) (add kind q C)
 unfolding add
-add-same {kind} {p} equal t =
+add-same {kind} {p} equal {B} {C} t =
+    let more = with-entry-same t (entryOf kind (B .names) p) (entryOf kind (C .names) p) (entry-alike t kind p) in
     by-kind kind
     (record { small = ap (λ (S : Book). record { names = S .names ++ (p ∷ []); pairs = S .pairs; entries = S .entries; targets = S .targets }) (t .small) })
     (record { small = ap (λ (S : Book). record { names = S .names; pairs = S .pairs ++ (record { lower = getD {A = ℕ} p 0 0; upper = getD {A = ℕ} p 1 0 } ∷ []); entries = S .entries; targets = S .targets }) (t .small) })
-    (with-entry-same t (entryOf p) (entryOf p) refl)
+    more
     (record { small = ap (λ (S : Book). record { names = S .names; pairs = S .pairs; entries = S .entries; targets = S .targets ++ (getD {A = ℕ} p 0 0 ∷ []) }) (t .small) })
-add-same (recased v w type e) t = with-entry-same t (entryOf (entryBody v type)) (entryOf (entryBody w type)) (entry-same v w type e)
+    more
+add-same {kind} (recased k v w type e) {B} {C} t =
+    rw (add-entry k (entryBody v type) B, add-entry k (entryBody w type) C)
+    (with-entry-same t (entryOf kind (B .names) (entryBody v type)) (entryOf kind (C .names) (entryBody w type))
+    (entry-alike t kind (entryBody v type) ∙ entry-same v w type e kind (C .names)))
 
 targets-same : {B C : Book} → SameBook B C → B .targets ≡ C .targets
 targets-same t = ap (λ (S : Book). S .targets) (t .small)
@@ -171,8 +187,8 @@ records-same (suc more) a b at {B} {C} lengths r t =
 same-size : {a b : Bytes} → DifferInCase a b → length a ≡ length b
 same-size same-rest = refl
 same-size (same-record kind body {a} {b} r) = length-append (recordOf kind body) a ∙ ap (λ (n : ℕ). length (recordOf kind body) + n) (same-size r) ∙ sym (length-append (recordOf kind body) b)
-same-size (respelt v w type {a} {b} h r) =
-    length-append (recordOf 3 (entryBody v type)) a ∙ ap₂ (λ (n m : ℕ). suc (suc (suc (suc n))) + m) (body-length v w type (same-exactly v w .0 h)) (same-size r) ∙ sym (length-append (recordOf 3 (entryBody w type)) b)
+same-size (respelt {kind} k v w type {a} {b} h r) =
+    length-append (recordOf kind (entryBody v type)) a ∙ ap₂ (λ (n m : ℕ). suc (suc (suc (suc n))) + m) (body-length v w type (same-exactly v w .0 h)) (same-size r) ∙ sym (length-append (recordOf kind (entryBody w type)) b)
 
 pub parse-same : (a b : Bytes) → DifferInCase a b → SameParsed (parse a) (parse b)
 unfolding parse

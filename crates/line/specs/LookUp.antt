@@ -25,7 +25,7 @@ pub record Known (bytes : Bytes) (offsets : List ℕ) (entries : ℕ) (B : Book)
   pub found : entryFault B (wordsOf line) ≡ none
   pub small : simplesOfWords (entriesOfLine B line) ≤ maxLineSimples
   pub words : length (entriesOfLine B line) ≡ count
-  pub threads : Threads bytes offsets entries same firsts 0 (entriesOfLine B line)
+  pub threads : Threads bytes (B .names) offsets entries same firsts 0 (entriesOfLine B line)
 
 -- The look-up of words that are split off.
 abbrev pub LookedUp : Bytes → List ℕ → ℕ → Book → Bytes → List ℕ → List ℕ → CheckedLine → Type 0

@@ -7,12 +7,11 @@ use figures::refusals::TOO_MANY_SIMPLES;
 use figures::refusals::UNKNOWN_WORD;
 use lookup::find::find_word;
 use lookup::find::tally;
-ghost use mathlib.Core.Path.{_≡_};
 ghost use Prim.Native.Nat.{_≤_};
 ghost use lib.ListN.{length};
 ghost use Rattle.figures.specs.Limits.{maxWords};
 ghost use Rattle.book.specs.Format.{Book};
-ghost use Rattle.lookup.specs.Entries.{entriesKept, Entries};
+ghost use Rattle.lookup.specs.Entries.{KeptOf};
 ghost use Rattle.lookup.specs.Threads.{Alike, Same};
 ghost use Rattle.line.specs.Split.{SplitInto};
 ghost use Rattle.line.specs.LookUp.{LookedUp, LineSays};
@@ -31,10 +30,10 @@ fn look_up(
     firsts: &mut [u16],
     same: &mut [u16],
 ) -> CheckedLine
-    requires { ⌜ Entries (now book) (now offsets) count × Alike (now book) (now offsets) count (now alike) ×
+    requires { ⌜ ((B : Book) × KeptOf (now book) (now offsets) count B) × Alike (now book) (now offsets) count (now alike) ×
         Same (now book) (now offsets) count (now same) × SplitInto (now line) (now starts) (now ends) words ⌝ }
     requires { ⌜ (maxWords ≤ length (now starts)) × (maxWords ≤ length (now ends)) × (maxWords ≤ length (now firsts)) ⌝ }
-    ensures { λ r. ⌜ ((B : Book) → B .entries ≡ entriesKept (now (book .entry)) (now (offsets .entry)) count
+    ensures { λ r. ⌜ ((B : Book) → KeptOf (now (book .entry)) (now (offsets .entry)) count B
         → LookedUp (now (book .entry)) (now (offsets .entry)) count B (now (line .entry)) (now (firsts .exit)) (now (same .exit)) r) ⌝ }
 {
     let mut sum = 0;
@@ -72,9 +71,9 @@ pub fn check_line(
     firsts: &mut [u16],
     same: &mut [u16],
 ) -> CheckedLine
-    requires { ⌜ Entries (now book) (now offsets) count × Alike (now book) (now offsets) count (now alike) ×
+    requires { ⌜ ((B : Book) × KeptOf (now book) (now offsets) count B) × Alike (now book) (now offsets) count (now alike) ×
         Same (now book) (now offsets) count (now same) × (maxWords ≤ length (now firsts)) ⌝ }
-    ensures { λ r. ⌜ ((B : Book) → B .entries ≡ entriesKept (now (book .entry)) (now (offsets .entry)) count
+    ensures { λ r. ⌜ ((B : Book) → KeptOf (now (book .entry)) (now (offsets .entry)) count B
         → LineSays (now (book .entry)) (now (offsets .entry)) count B (now (line .entry)) (now (firsts .exit)) (now (same .exit)) r) ⌝ }
 {
     let mut starts = [0usize; MAX_WORDS];

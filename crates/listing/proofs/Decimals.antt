@@ -7,11 +7,12 @@ use mathlib.Core.Logic.{_⊎_, inl, inr}
 use mathlib.Core.Bool.{cond}
 use mathlib.Core.List.{[], _∷_, _++_}
 use lib.Dec.{ltb}
+use lib.IntN.{pos, _-ℤ_}
 use lib.ListN.{length, getD, length-append, List·getD-append}
 use borrow.Author.Tests.{lt-ltb, le-ltb}
 use Rattle.bits.proofs.Cases.{less-or-not}
 use Rattle.format.specs.Records.{Bytes}
-use Rattle.book.specs.Format.{exponentOf}
+use Rattle.pregroup.specs.Held.{bias}
 use Rattle.listing.specs.Text.{lastDigits, decimal, signed}
 use Rattle.listing.specs.Placed.{Placed}
 use Rattle.listing.proofs.Placing.{placed-append}
@@ -59,14 +60,12 @@ pub decimal-placed : {text middle after : Bytes} {at last behind : ℕ} (n digit
     → Placed text at (decimal (n / 10)) middle last → Placed middle last (digit ∷ []) after behind → Placed text at (decimal n) after behind
 decimal-placed n digit h e front end = rw (decimal-more n h, ← e) (placed-append (decimal (n / 10)) (digit ∷ []) front end)
 
--- The exponent that a byte holds, by its two halves.
-pub exponent-plain : (byte : ℕ) → byte < 128 → signed (exponentOf byte) ≡ decimal byte
-unfolding exponentOf
-exponent-plain byte h = rw (lt-ltb byte 128 h)
+-- An exponent that is raised, by its sign.
+pub exponent-plain : (raised : ℕ) → bias ≤ raised → signed (pos raised -ℤ pos bias) ≡ decimal (raised - bias)
+exponent-plain raised h = rw (le-ltb raised bias h)
 
-pub exponent-minus : (byte : ℕ) → 128 ≤ byte → byte < 256 → signed (exponentOf byte) ≡ 45 ∷ decimal (256 - byte)
-unfolding exponentOf
-exponent-minus byte h small = let e : suc (255 - byte) ≡ 256 - byte = omega arith in rw (le-ltb byte 128 h, e)
+pub exponent-minus : (raised : ℕ) → raised < bias → signed (pos raised -ℤ pos bias) ≡ 45 ∷ decimal (bias - raised)
+exponent-minus raised h = let e : suc (bias - suc raised) ≡ bias - raised = omega arith in rw (lt-ltb raised bias h, e)
 
 -- A decimal read digit by digit, as a number that goes on from n.
 unfoldable pub spelt : ℕ → Bytes → ℕ

@@ -4,8 +4,8 @@ use mathlib.Core.Path.{_≡_, refl}
 use mathlib.Core.List.{List, [], _∷_, _++_}
 use lib.IntN.{negsuc}
 use Rattle.format.specs.Records.{every, twoBytes, sameBytes}
-use Rattle.format.specs.Names.{nameByte, isName}
-use Rattle.book.specs.Format.{exponentOf, simplesOf, isEntry, exponentListed, bodyRules, recordRules, firstBroken, add, ended, recordsFrom, parse}
+use Rattle.format.specs.Names.{nameByte, isName, numberOf}
+use Rattle.book.specs.Format.{exponentOf, simplesOf, isWorded, isEntry, exponentListed, bodyRules, recordRules, firstBroken, add, ended, recordsFrom, parse}
 use Rattle.book.proofs.PaperBooks.{firstBook}
 use Rattle.line.specs.LineWords.{wordsFrom}
 use Rattle.line.specs.LineFaults.{byteFault, wordFault}
@@ -43,7 +43,7 @@ first-case : listing firstBook fetch-bed4-ward7 (Read 11) (0 ∷ 3 ∷ 1 ∷ 2 �
     ++ (51 ∷ 32 ∷ 112 ∷ 32 ∷ 45 ∷ 49 ∷ 32 ∷ 52 ∷ 10 ∷ [])
     ++ (52 ∷ 32 ∷ 112 ∷ 32 ∷ 48 ∷ 32 ∷ 51 ∷ 10 ∷ [])
     ++ (53 ∷ 32 ∷ 117 ∷ 32 ∷ 48 ∷ 32 ∷ 50 ∷ 10 ∷ [])
-unfolding lastDigits wordRows typeRows joined every twoBytes nameByte isName exponentOf simplesOf isEntry exponentListed sameBytes bodyRules recordRules firstBroken add ended recordsFrom parse wordsFrom byteFault wordFault
+unfolding lastDigits wordRows typeRows joined every twoBytes nameByte isName exponentOf simplesOf isWorded isEntry exponentListed sameBytes numberOf bodyRules recordRules firstBroken add ended recordsFrom parse wordsFrom byteFault wordFault
 first-case = refl
 
 -- "no 16 7".

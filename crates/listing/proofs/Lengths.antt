@@ -6,13 +6,17 @@ use native.Mathlib.Numerals.{add-one}
 use native.Mathlib.Omega.{arith}
 use mathlib.Core.Path.{_≡_, refl}
 use mathlib.Core.Logic.{⊎-elim}
-use mathlib.Core.List.{List, [], _∷_, _++_, List·Memᴰ, List·Memᴰ·not-nil, List·Memᴰ·head, List·Memᴰ·tail, List·Memᴰ·append-cases}
+use mathlib.Core.Bool.{true}
+use mathlib.Core.List.{List, [], _∷_, _++_, List·Memᴰ, List·Memᴰ·not-nil, List·Memᴰ·head, List·Memᴰ·tail, List·Memᴰ·cases-cons, List·Memᴰ·append-cases}
 use mathlib.Core.Option.{none}
+use lib.IntN.{ℤ, pos, negsuc}
 use lib.ListN.{length, getD, length-append}
+use borrow.Author.Tests.{leb-true, ltb-true}
 use Rattle.figures.specs.Limits.{maxEntrySimples}
 use Rattle.pregroup.specs.Types.{Simple, PregroupType}
-use Rattle.format.specs.Records.{Bytes}
-use Rattle.book.specs.Format.{Entry}
+use Rattle.format.specs.Records.{Bytes, every}
+use Rattle.format.proofs.Bools.{both}
+use Rattle.book.specs.Format.{Entry, exponents, exponentListed}
 use Rattle.line.specs.LineWords.{Word}
 use Rattle.line.specs.LineFaults.{wordFault}
 use Rattle.line.proofs.Passed.{word-fine}
@@ -66,6 +70,25 @@ module _ (most : ℕ) where
 pub record TypeShort (most : ℕ) (X : PregroupType) : Type 0 where
   pub simples : length X ≤ maxEntrySimples
   pub signs : (x : Simple) → List·Memᴰ x X → length (signed (x .exponent)) ≤ most
+
+pub empty-short : (most : ℕ) → TypeShort most []
+empty-short most = record { simples = omega arith; signs = λ x m. absurd (List·Memᴰ·not-nil m) }
+
+-- An exponent from −8 to 8 takes at most 2 bytes.
+listed-short : (z : ℤ) → exponentListed z ≡ true → length (signed z) ≤ 2
+unfolding exponentListed
+listed-short (pos n) h = omega (arith, decimal-length 0 n (omega (arith, leb-true n _ h)))
+listed-short (negsuc n) h = omega (arith, decimal-length 0 (suc n) (omega (arith, ltb-true n _ h)))
+
+signs-short : (X : PregroupType) → every exponentListed (exponents X) ≡ true → (x : Simple) → List·Memᴰ x X → length (signed (x .exponent)) ≤ 2
+unfolding every
+signs-short [] h x m = absurd (List·Memᴰ·not-nil m)
+signs-short (y ∷ X) h x m =
+    let parts = both (exponentListed (y .exponent)) (every exponentListed (exponents X)) h in
+    ⊎-elim (λ e. rw e (listed-short (y .exponent) (parts .0))) (λ k. signs-short X (parts .1) x k) (List·Memᴰ·cases-cons m)
+
+pub listed-type-short : (X : PregroupType) → length X ≤ maxEntrySimples → every exponentListed (exponents X) ≡ true → TypeShort 2 X
+listed-type-short X short listed = record { simples = short; signs = signs-short X listed }
 
 pub joined-within : (most : ℕ) (entries : List Entry) → ((number : ℕ) → TypeShort most (typeOf entries number)) → (chosen : List ℕ)
     → (length (joined entries chosen) ≤ length chosen * maxEntrySimples)

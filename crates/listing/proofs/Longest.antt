@@ -3,20 +3,16 @@
 use Prim.Native.Nat.{ℕ, zero, suc, _-_, _*_, _≤_, _<_}
 use native.Mathlib.Omega.{arith}
 use mathlib.Core.Path.{_≡_, refl, ap}
-use mathlib.Core.Bool.{true}
-use mathlib.Core.Logic.{_⊎_, inl, inr, ⊎-elim}
-use mathlib.Core.List.{List, [], _∷_, List·Memᴰ, List·Memᴰ·not-nil, List·Memᴰ·head, List·Memᴰ·tail, List·Memᴰ·cases-cons}
-use lib.IntN.{ℤ, pos, negsuc}
+use mathlib.Core.Logic.{_⊎_, inl, inr}
+use mathlib.Core.List.{List, [], _∷_, List·Memᴰ, List·Memᴰ·head, List·Memᴰ·tail}
 use lib.ListN.{length, getD, List·getD-eq-default}
-use borrow.Author.Tests.{leb-true, ltb-true}
 use Rattle.figures.specs.Limits.{maxEntries, maxName, maxWords, maxString}
 use Rattle.bits.proofs.Cases.{less-or-not}
 use Rattle.pregroup.specs.Types.{Basic, Simple, PregroupType}
 use Rattle.pregroup.specs.Order.{Relation}
 use Rattle.linking.specs.Linking.{IsLinking}
-use Rattle.format.specs.Records.{Bytes, every}
-use Rattle.book.specs.Format.{Entry, exponents, exponentListed}
-use Rattle.format.proofs.Bools.{both}
+use Rattle.format.specs.Records.{Bytes}
+use Rattle.book.specs.Format.{Entry}
 use Rattle.book.proofs.Accepted.{BookDeclares, accepted-declares}
 use Rattle.line.specs.LineWords.{wordsOf}
 use Rattle.line.proofs.Passed.{Passing, line-passing, words-few}
@@ -27,7 +23,7 @@ use Rattle.listing.specs.Listing.{yes, firstRow, refusalRow, typeRow, wo
 use Rattle.listing.specs.Placed.{placeBound}
 use Rattle.listing.proofs.Decimals.{decimal-length}
 use Rattle.listing.proofs.Bounds.{refusal-row-short}
-use Rattle.listing.proofs.Lengths.{row-of-four, word-rows-within, type-rows-within, TypeShort, joined-within, reading-length}
+use Rattle.listing.proofs.Lengths.{row-of-four, word-rows-within, type-rows-within, TypeShort, empty-short, listed-type-short, joined-within, reading-length}
 use Rattle.listing.proofs.Answers.{choice-joined, ListsReading, answer-listed}
 
 -- What holds of all of a list, and of what counts where nothing is there, holds at every place.
@@ -35,19 +31,6 @@ at-each : {A : Type 0} (P : A → Type 0) (l : List A) (d : A) → P d → ((x :
 at-each P [] d none all i = none
 at-each P (x ∷ l) d none all zero = all x (List·Memᴰ·head refl)
 at-each P (x ∷ l) d none all (suc i) = at-each P l d none (λ y m. all y (List·Memᴰ·tail m)) i
-
--- An exponent from −8 to 8 takes at most 2 bytes.
-listed-short : (z : ℤ) → exponentListed z ≡ true → length (signed z) ≤ 2
-unfolding exponentListed
-listed-short (pos n) h = omega (arith, decimal-length 0 n (omega (arith, leb-true n _ h)))
-listed-short (negsuc n) h = omega (arith, decimal-length 0 (suc n) (omega (arith, ltb-true n _ h)))
-
-signs-short : (X : PregroupType) → every exponentListed (exponents X) ≡ true → (x : Simple) → List·Memᴰ x X → length (signed (x .exponent)) ≤ 2
-unfolding every
-signs-short [] h x m = absurd (List·Memᴰ·not-nil m)
-signs-short (y ∷ X) h x m =
-    let parts = both (exponentListed (y .exponent)) (every exponentListed (exponents X)) h in
-    ⊎-elim (λ e. rw e (listed-short (y .exponent) (parts .0))) (λ k. signs-short X (parts .1) x k) (List·Memᴰ·cases-cons m)
 
 -- A partner is a position.
 partner-within : {Le : Relation} {s : Basic} {X : PregroupType} {P : List ℕ} → IsLinking Le s X P → (i : ℕ) → getD {A = ℕ} P i 0 ≤ length P
@@ -77,8 +60,8 @@ module _ (book line text : Bytes) (r : ListsReading book line text) where
   type-short : (number : ℕ) → TypeShort 2 (typeOf (r .contents .entries) number)
   type-short =
       at-each (λ (e : Entry). TypeShort 2 (e .type)) (r .contents .entries) (record { word = []; type = [] })
-      (record { simples = omega arith; signs = λ x m. absurd (List·Memᴰ·not-nil m) })
-      (λ e m. record { simples = within .short e m; signs = signs-short (e .type) (within .exponents-listed e m) })
+      (empty-short 2)
+      (λ e m. listed-type-short (e .type) (within .short e m) (within .exponents-listed e m))
 
   passes : Passing (r .contents) line (r .words)
   passes = line-passing (r .contents) line (r .words) (r .readable .line-passed)

@@ -6,15 +6,14 @@ use mathlib.Core.Path.{_≡_, refl, sym, ap, _∙_}
 use mathlib.Core.List.{List, [], _∷_}
 use lib.ListN.{length, getD, take, drop, length-drop, List·getD-eq-default, drop-of-length-le}
 use lib.Seq.{take-all, take-nil}
-use Rattle.format.specs.Records.{Bytes, bodyAt}
-use Rattle.book.specs.Format.{Entry, typePart, entryOf, simplesOf}
-use Rattle.format.specs.Records.{Whole, bodiesAt}
+use Rattle.format.specs.Records.{Bytes, bodyAt, Whole, bodiesAt}
 use Rattle.format.proofs.NameLaws.{bodies-length, bodies-at}
-use Rattle.book.proofs.Layouts.{entry-shape}
-use Rattle.lookup.specs.Entries.{Entries, entriesKept}
+use Rattle.book.specs.Format.{Entry}
+use Rattle.book.specs.declared.EntryType.{EntryType}
+use Rattle.book.specs.Kept.{entryFrom, entriesAt, HeldType}
+use Rattle.lookup.specs.Entries.{Entries}
 use Rattle.lookup.proofs.EntryLaws.{all-length, all-at}
-use Rattle.listing.specs.Listing.{counted}
-use Rattle.listing.specs.Parts.{HasType}
+use Rattle.listing.specs.Listing.{typeOf, counted}
 
 -- What is there does not depend on what counts where nothing is there.
 getD-any {ℓ} : {A : Type ℓ} (l : List A) (i : ℕ) (d e : A) → i < length l → getD l i d ≡ getD l i e
@@ -31,29 +30,24 @@ module _ (bytes : Bytes) (offsets : List ℕ) (count : ℕ) (w : Whole bytes off
   pub no-name : (i : ℕ) → count ≤ i → [] ≡ getD {A = Bytes} (bodiesAt bytes offsets count) i []
   no-name i h = sym (List·getD-eq-default (bodiesAt bytes offsets count) [] {n = i} (omega (arith, bodies-length bytes offsets count (w .room))))
 
-module _ (bytes : Bytes) (offsets : List ℕ) (count : ℕ) (kept : Entries bytes offsets count) where
+module _ (bytes : Bytes) (names : List Bytes) (offsets : List ℕ) (count : ℕ) (kept : Entries bytes offsets count) where
   abbrev none : Entry
   none = record { word = []; type = [] }
 
-  entry-at : (i : ℕ) → i < count → getD {A = Entry} (entriesKept bytes offsets count) i none ≡ entryOf (bodyAt bytes (getD {A = ℕ} offsets i 0))
-  entry-at i h =
-      getD-any (entriesKept bytes offsets count) i none (entryOf (bodyAt bytes 0)) (omega (arith, all-length bytes offsets count kept))
-      ∙ all-at bytes offsets count kept i h
+  abbrev all : List Entry
+  all = entriesAt bytes names offsets count
 
-  pub type-at : (i : ℕ) (part : Bytes) → i < count → part ≡ typePart (bodyAt bytes (getD {A = ℕ} offsets i 0)) → HasType (entriesKept bytes offsets count) i part
-  type-at i part h e =
-      record {
-        type = ap simplesOf e ∙ ap (λ (x : Entry). x .type) (sym (entry-at i h));
-        pairs = rw e (entry-shape _ (kept .layouts i h) .pairs);
-      }
+  pub type-at : (i : ℕ) → i < count → typeOf (entriesAt bytes names offsets count) i ≡ entryFrom bytes names (getD {A = ℕ} offsets i 0) .type
+  type-at i h =
+      ap (λ (x : Entry). x .type)
+      (getD-any all i none (entryFrom bytes names 0) (omega (arith, all-length bytes names offsets count kept)) ∙ all-at bytes names offsets count kept i h)
 
-  pub no-type : (i : ℕ) → count ≤ i → HasType (entriesKept bytes offsets count) i []
-  unfolding simplesOf
-  no-type i h =
-      record {
-        type = ap (λ (x : Entry). x .type) (sym (List·getD-eq-default (entriesKept bytes offsets count) none {n = i} (omega (arith, all-length bytes offsets count kept))));
-        pairs = refl;
-      }
+  pub no-type : (i : ℕ) → count ≤ i → typeOf (entriesAt bytes names offsets count) i ≡ []
+  no-type i h = ap (λ (x : Entry). x .type) (List·getD-eq-default all none {n = i} (omega (arith, all-length bytes names offsets count kept)))
+
+-- What holds nothing holds the empty type.
+pub nothing-held : (t : EntryType) → t .count ≡ 0 → HeldType t []
+nothing-held t e = record { count = e; short = omega arith; simples = record { each = λ k h. absurd (omega arith) } }
 
 module _ (values : List ℕ) (at : ℕ) where
   pub counted-none : length values ≤ at → [] ≡ counted values at

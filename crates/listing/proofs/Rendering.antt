@@ -5,15 +5,13 @@ use mathlib.Core.Path.{_≡_, refl, ap, _∙_}
 use mathlib.Core.List.{List, _++_}
 use lib.ListN.{length, getD, drop}
 use lib.Seq.{sets-eq}
-use Rattle.format.specs.Records.{Bytes}
+use Rattle.format.specs.Records.{Bytes, bodiesAt}
 use Rattle.book.specs.Format.{Entry, Book, refused, parse}
-use Rattle.format.specs.Records.{bodiesAt}
-use Rattle.book.specs.Kept.{Store, Opened}
+use Rattle.book.specs.Kept.{entriesAt, Store, Opened}
 use Rattle.book.proofs.Parsing.{accepted-short}
 use Rattle.line.specs.LineWords.{Word, wordsOf}
-use Rattle.lookup.specs.Entries.{entriesKept}
 use Rattle.line.specs.Split.{SplitInto, Stopped, at-byte, at-word}
-use Rattle.lookup.proofs.EntryLaws.{opened-entries}
+use Rattle.lookup.proofs.EntryLaws.{opened-kept as opened-lexicon}
 use Rattle.listing.specs.Listing.{refusalRow, readingRows, counted, answerRows, lineRows, listed, Renders}
 use Rattle.listing.specs.declared.Rendered.the-variants.{Written, TooShort}
 use Rattle.listing.specs.Placed.{Placed}
@@ -55,9 +53,9 @@ module _ (book : Bytes) (s : Store) (types count goals : ℕ) (B : Book) (o : Op
   opened-kept =
       record {
         short = accepted-short book B (o .parsed);
-        names-whole = o .names-whole;
-        entries-kept = opened-entries o;
+        named = o .named;
+        lexicon = rw (← o .names) (opened-lexicon o .lexicon);
       }
 
-  pub book-opened : (line : Bytes) (values : List ℕ) → lineRows (bodiesAt book (s .names) types) (entriesKept book (s .entries) count) line values ≡ listed book line values
-  book-opened line values = rw (o .parsed, o .names, o .entries)
+  pub book-opened : (line : Bytes) (values : List ℕ) → lineRows (bodiesAt book (s .names) types) (entriesAt book (bodiesAt book (s .names) types) (s .entries) count) line values ≡ listed book line values
+  book-opened line values = rw (o .parsed, o .entries, o .names)

@@ -1,24 +1,26 @@
 -- The rows of words, of an entry's simple types and of the entries, from one on and then the rest, as the loops put them.
-use Prim.Native.Nat.{ℕ, suc, _+_, _/_, _≤_, _<_}
+use Prim.Native.Nat.{ℕ, suc, _+_, _/_, _%_, _≤_, _<_}
 use native.Mathlib.Numerals.{add-one}
 use native.Mathlib.Omega.{arith}
 use mathlib.Core.Path.{_≡_, sym, ap, _∙_}
 use mathlib.Core.List.{List, [], _∷_, _++_, append-assoc}
-use lib.IntN.{ℤ}
+use lib.IntN.{ℤ, pos, _-ℤ_}
 use lib.ListN.{length, getD, drop, length-append, drop-of-length-le}
-use lib.Seq.{drop-cons}
-use Rattle.pregroup.specs.Types.{PregroupType}
+use lib.Seq.{drop-cons, ext-getD}
+use Rattle.pregroup.specs.Types.{PregroupType, plain}
+use Rattle.pregroup.specs.Held.{bias, held}
 use Rattle.format.specs.Records.{Bytes}
-use Rattle.book.specs.Format.{Entry, exponentOf, simplesOf}
-use Rattle.book.proofs.Simples.{simples-step}
+use Rattle.book.specs.Format.{Entry}
+use Rattle.book.specs.declared.EntryType.{EntryType}
+use Rattle.book.specs.Kept.{HeldType}
+use Rattle.book.proofs.HeldTypes.{holds-at}
 use Rattle.line.specs.LineWords.{wordsOf}
 use Rattle.line.specs.Split.{wordAt, SplitInto}
 use Rattle.line.proofs.LineLaws.{words-at, none-left}
-use Rattle.lookup.proofs.EntryLaws.{simples-length}
 use Rattle.listing.specs.Text.{decimal, signed, row}
 use Rattle.listing.specs.Listing.{wordRow, typeRow, wordRows, typeRows, typeOf, joined}
 use Rattle.listing.specs.Placed.{placeBound, Countable, Placed}
-use Rattle.listing.specs.Parts.{HasType}
+use Rattle.listing.specs.Parts.{RowsCountable}
 use Rattle.listing.proofs.Placing.{Going, going-next, going-on, going-done}
 
 -- The words from the k-th on: the next row can be put, and once it is, the rest is left.
@@ -49,36 +51,52 @@ module _ (entries : List ℕ) (line : Bytes) (starts ends : List ℕ) (words : �
 pub type-row-long : (position : ℕ) (name : Bytes) (exponent : ℤ) (partner : ℕ) → 1 ≤ length (typeRow position name exponent partner)
 type-row-long position name exponent partner = omega (arith, length-append (decimal position) (32 ∷ row (name ∷ signed exponent ∷ decimal partner ∷ [])))
 
--- The simple types from byte j on, two bytes each, the first of them behind k others.
-module _ (names : List Bytes) (partners : List ℕ) (part : Bytes) where
+-- What is held is one type.
+held-one : {t : EntryType} {X Y : PregroupType} → HeldType t X → HeldType t Y → X ≡ Y
+held-one {t} {X} {Y} h i =
+    ext-getD (plain 0) X Y (sym (h .count) ∙ i .count)
+    (λ k l. sym (holds-at (h .simples) k l) ∙ holds-at (i .simples) k (omega (arith, h .count, i .count)))
+
+pub rows-countable : {names : List Bytes} {partners : List ℕ} {k : ℕ} {t : EntryType} {at : ℕ} → RowsCountable names partners k t at
+    → (X : PregroupType) → HeldType t X → Countable at (typeRows names partners k X)
+rows-countable {names} {partners} {k} {t} {at} r X h = rw (held-one h (r .holds)) (r .countable)
+
+-- The simple types from the j-th on, the first of them behind k others.
+module _ (names : List Bytes) (partners : List ℕ) (t : EntryType) (X : PregroupType) (holds : HeldType t X) where
   abbrev simple : ℕ → ℕ → Bytes
-  simple k j = typeRow (k + 1) (getD {A = Bytes} names (getD {A = ℕ} part j 0) []) (exponentOf (getD {A = ℕ} part (j + 1) 0)) (getD {A = ℕ} partners k 0)
+  simple k j =
+      let x = getD {A = ℕ} (t .simples) j 0 in
+      typeRow (k + 1) (getD {A = Bytes} names (x % 256) []) (pos (x / 256) -ℤ pos bias) (getD {A = ℕ} partners k 0)
 
   abbrev simples-from : ℕ → ℕ → Bytes
-  simples-from k j = typeRows names partners k (simplesOf (drop j part))
+  simples-from k j = typeRows names partners k (drop j X)
 
-  simples-at : (k j : ℕ) → j + 1 < length part → simples-from k j ≡ simple k j ++ simples-from (k + 1) (j + 2)
-  unfolding typeRows
-  simples-at k j h = rw (simples-step part j h, add-one k)
+  simples-at : (k j : ℕ) → j < t .count → simples-from k j ≡ simple k j ++ simples-from (k + 1) (j + 1)
+  unfolding typeRows held
+  simples-at k j h =
+      let inside : j < length X = omega (arith, holds .count) in
+      rw (drop-cons X j (plain 0) inside, ← holds-at (holds .simples) j inside, add-one k, add-one j)
 
   simple-long : (k j : ℕ) → 1 ≤ length (simple k j)
-  simple-long k j = type-row-long (k + 1) (getD {A = Bytes} names (getD {A = ℕ} part j 0) []) (exponentOf (getD {A = ℕ} part (j + 1) 0)) (getD {A = ℕ} partners k 0)
+  simple-long k j =
+      let x = getD {A = ℕ} (t .simples) j 0 in
+      type-row-long (k + 1) (getD {A = Bytes} names (x % 256) []) (pos (x / 256) -ℤ pos bias) (getD {A = ℕ} partners k 0)
 
-  module _ {text : Bytes} {at : ℕ} {whole now : Bytes} {place : ℕ} (k j : ℕ) (g : Going text at whole now place (typeRows names partners k (simplesOf (drop j part)))) where
-    pub simple-countable : j + 1 < length part → Countable place (simple k j)
-    simple-countable h = going-next (simple k j) (simples-from (k + 1) (j + 2)) (rw (simples-at k j h) at g)
+  module _ {text : Bytes} {at : ℕ} {whole now : Bytes} {place : ℕ} (k j : ℕ) (g : Going text at whole now place (typeRows names partners k (drop j X))) where
+    pub simple-countable : j < t .count → Countable place (simple k j)
+    simple-countable h = going-next (simple k j) (simples-from (k + 1) (j + 1)) (rw (simples-at k j h) at g)
 
     -- A row takes a place, so the next place can be counted.
-    pub place-countable : j + 1 < length part → place + 1 < placeBound
+    pub place-countable : j < t .count → place + 1 < placeBound
     place-countable h = omega (arith, simple-countable h .small, simple-long k j)
 
-    pub simple-put : {after : Bytes} {behind : ℕ} → j + 1 < length part → Placed now place (simple k j) after behind
-        → (place + 1 ≤ behind) × Going text at whole after behind (simples-from (k + 1) (j + 2))
-    simple-put h p = (omega (arith, p .next, simple-long k j), going-on (simple k j) (simples-from (k + 1) (j + 2)) (rw (simples-at k j h) at g) p)
+    pub simple-put : {after : Bytes} {behind : ℕ} → j < t .count → Placed now place (simple k j) after behind
+        → (place + 1 ≤ behind) × Going text at whole after behind (simples-from (k + 1) (j + 1))
+    simple-put h p = (omega (arith, p .next, simple-long k j), going-on (simple k j) (simples-from (k + 1) (j + 1)) (rw (simples-at k j h) at g) p)
 
-    pub simples-put : length part ≤ j → Placed text at whole now place
-    unfolding typeRows simplesOf
-    simples-put h = going-done (rw (drop-of-length-le part {i = j} h) at g)
+    pub simples-put : t .count ≤ j → Placed text at whole now place
+    unfolding typeRows
+    simples-put h = going-done (rw (drop-of-length-le X {i = j} (omega (arith, holds .count))) at g)
 
 module _ (names : List Bytes) (partners : List ℕ) where
   type-rows-append : (k : ℕ) (X Y : PregroupType) (n : ℕ) → n ≡ k + length X → typeRows names partners k (X ++ Y) ≡ typeRows names partners k X ++ typeRows names partners n Y
@@ -111,28 +129,30 @@ module _ (names : List Bytes) (partners : List ℕ) (entries : List Entry) (chos
   unfolding joined
   joined-at i h = rw (drop-cons chosen i 0 h, add-one i)
 
-  module _ (k i : ℕ) (h : i < length chosen) (part : Bytes) (t : HasType entries (getD {A = ℕ} chosen i 0) part) where
+  module _ (k i : ℕ) (h : i < length chosen) (t : EntryType) (holds : HeldType t (typeOf entries (getD {A = ℕ} chosen i 0))) where
+    abbrev type : PregroupType
+    type = typeOf entries (getD {A = ℕ} chosen i 0)
+
     abbrev entry : Bytes
-    entry = typeRows names partners k (simplesOf part)
+    entry = typeRows names partners k type
 
     abbrev behind-entry : Bytes
-    behind-entry = entries-from (k + length part / 2) (i + 1)
+    behind-entry = entries-from (k + t .count) (i + 1)
 
     entries-at : entries-from k i ≡ entry ++ behind-entry
     entries-at =
-        ap (typeRows names partners k) (joined-at i h ∙ ap (λ (X : PregroupType). X ++ joined entries (drop (i + 1) chosen)) (sym (t .type)))
-        ∙ type-rows-append names partners k (simplesOf part) (joined entries (drop (i + 1) chosen)) (k + length part / 2)
-        (ap (λ (n : ℕ). k + n) (sym (simples-length part (t .pairs))))
+        ap (typeRows names partners k) (joined-at i h)
+        ∙ type-rows-append names partners k type (joined entries (drop (i + 1) chosen)) (k + t .count) (ap (λ (n : ℕ). k + n) (holds .count))
 
     module _ {text : Bytes} {at : ℕ} {whole now : Bytes} {place : ℕ} (g : Going text at whole now place (typeRows names partners k (joined entries (drop i chosen)))) where
-      pub entry-countable : Countable place (typeRows names partners k (simplesOf part))
-      entry-countable = going-next entry behind-entry (rw entries-at at g)
+      pub entry-countable : RowsCountable names partners k t place
+      entry-countable = record { type = type; holds = holds; countable = going-next entry behind-entry (rw entries-at at g) }
 
-      pub entry-put : {after : Bytes} {behind : ℕ} → Placed now place (typeRows names partners k (simplesOf part)) after behind
-          → (place + length part / 2 ≤ behind) × Going text at whole after behind (entries-from (k + length part / 2) (i + 1))
-      entry-put p =
-          let long = type-rows-long names partners k (simplesOf part) in
-          (omega (arith, p .next, long, simples-length part (t .pairs)), going-on entry behind-entry (rw entries-at at g) p)
+      pub entry-put : {after : Bytes} {behind : ℕ} → ((X : PregroupType) → HeldType t X → Placed now place (typeRows names partners k X) after behind)
+          → (place + t .count ≤ behind) × Going text at whole after behind (entries-from (k + t .count) (i + 1))
+      entry-put put =
+          let p = put type holds in
+          (omega (arith, p .next, type-rows-long names partners k type, holds .count), going-on entry behind-entry (rw entries-at at g) p)
 
   pub entries-put : {text : Bytes} {at : ℕ} {whole now : Bytes} {place : ℕ} (k i : ℕ) → length chosen ≤ i
       → Going text at whole now place (typeRows names partners k (joined entries (drop i chosen))) → Placed text at whole now place

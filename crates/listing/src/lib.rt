@@ -10,6 +10,7 @@ use figures::limits::MAX_STRING;
 use figures::limits::MAX_TARGETS;
 use figures::limits::MAX_TYPES;
 use figures::limits::MAX_WORDS;
+use format::names::NAME_PLACES;
 use line::CheckedLine;
 use line::split::split;
 use parts::counted;
@@ -17,10 +18,9 @@ use parts::value_at;
 use reader::LineAnswer;
 use rows::put_reading;
 use rows::put_refusal_row;
-ghost use Prim.Native.Nat.{_≤_};
 ghost use Rattle.format.specs.Records.{bodiesAt};
+ghost use Rattle.book.specs.Kept.{entriesAt};
 ghost use Rattle.line.specs.LineWords.{wordsOf};
-ghost use Rattle.lookup.specs.Entries.{entriesKept};
 ghost use Rattle.listing.specs.Listing.{refusalRow, answerRows, lineRows, listed, listing, Renders};
 ghost use Rattle.listing.specs.Parts.{BookKept, LineKept};
 
@@ -64,7 +64,7 @@ fn render_values(
     text: &mut [u8],
 ) -> Rendered
     requires { ⌜ BookKept (now book) (now names) types (now offsets) count × LineKept (now line) (now starts) (now ends) words ⌝ }
-    ensures { λ r. ⌜ Renders (answerRows (bodiesAt (now (book .entry)) (now (names .entry)) types) (entriesKept (now (book .entry)) (now (offsets .entry)) count)
+    ensures { λ r. ⌜ Renders (answerRows (bodiesAt (now (book .entry)) (now (names .entry)) types) (entriesAt (now (book .entry)) (bodiesAt (now (book .entry)) (now (names .entry)) types) (now (offsets .entry)) count)
         (wordsOf (now (line .entry))) (now (values .entry))) (now (text .entry)) r (now (text .exit)) ⌝ }
 {
     let target = value_at(values, 0);
@@ -119,7 +119,7 @@ fn render_line(
     text: &mut [u8],
 ) -> Rendered
     requires { ⌜ BookKept (now book) (now names) types (now offsets) count ⌝ }
-    ensures { λ r. ⌜ Renders (lineRows (bodiesAt (now (book .entry)) (now (names .entry)) types) (entriesKept (now (book .entry)) (now (offsets .entry)) count)
+    ensures { λ r. ⌜ Renders (lineRows (bodiesAt (now (book .entry)) (now (names .entry)) types) (entriesAt (now (book .entry)) (bodiesAt (now (book .entry)) (now (names .entry)) types) (now (offsets .entry)) count)
         (now (line .entry)) (now (values .entry))) (now (text .entry)) r (now (text .exit)) ⌝ }
 {
     let mut starts = [0usize; MAX_WORDS];
@@ -147,7 +147,7 @@ fn render_line(
 fn render_answer(book: &[u8], line: &[u8], values: &[u16], text: &mut [u8]) -> Rendered
     ensures { λ r. ⌜ Renders (listed (now (book .entry)) (now (line .entry)) (now (values .entry))) (now (text .entry)) r (now (text .exit)) ⌝ }
 {
-    let mut names = [0u16; MAX_TYPES];
+    let mut names = [0u16; NAME_PLACES];
     let mut entries = [0u16; MAX_ENTRIES];
     let mut direct = [0u64; MAX_TYPES];
     let mut targets = [0u8; MAX_TARGETS];

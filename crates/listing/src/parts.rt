@@ -1,15 +1,18 @@
 // What the rows of a listing show, found where it stands: names and types in the book, counted values in the answer. Nothing is taken on
 // trust: what is not there counts as empty, or as 0.
-use book::layout::type_part;
+use book::EntryType;
+use book::entries::entry_type;
 use bytewise::widths::wide_number;
+use figures::limits::MAX_ENTRY_SIMPLES;
 use format::layout::body_at;
 ghost use mathlib.Core.Path.{_≡_};
 ghost use mathlib.Core.List.{[]};
 ghost use lib.ListN.{getD};
 ghost use Rattle.format.specs.Records.{Whole, bodiesAt};
-ghost use Rattle.lookup.specs.Entries.{Entries, entriesKept};
-ghost use Rattle.listing.specs.Listing.{counted as Listing·counted};
-ghost use Rattle.listing.specs.Parts.{HasType};
+ghost use Rattle.format.specs.Names.{Named};
+ghost use Rattle.book.specs.Kept.{entriesAt, HeldType};
+ghost use Rattle.lookup.specs.Entries.{Lexicon};
+ghost use Rattle.listing.specs.Listing.{typeOf, counted as Listing·counted};
 
 // The name of a basic type.
 pub(crate) fn name_of<'a>(book: &'a [u8], names: &[u16], types: usize, base: usize) -> &'a [u8]
@@ -22,15 +25,25 @@ pub(crate) fn name_of<'a>(book: &'a [u8], names: &[u16], types: usize, base: usi
     body_at(book, wide_number(names[base]))
 }
 
-// The type of an entry as it stands in the book: a type number and an exponent for each simple type.
-pub(crate) fn type_of<'a>(book: &'a [u8], offsets: &[u16], count: usize, entry: usize) -> &'a [u8]
-    requires { ⌜ Entries (now book) (now offsets) count ⌝ }
-    ensures { λ r. ⌜ HasType (entriesKept (now (book .entry)) (now (offsets .entry)) count) entry (now r) ⌝ }
+// The type of an entry. A number that the book does not have stands for the empty type.
+pub(crate) fn type_of(
+    book: &[u8],
+    names: &[u16],
+    types: usize,
+    offsets: &[u16],
+    count: usize,
+    entry: usize,
+) -> EntryType
+    requires { ⌜ Named (now book) (now names) types × Lexicon (now book) (bodiesAt (now book) (now names) types) (now offsets) count ⌝ }
+    ensures { λ r. ⌜ HeldType r (typeOf (entriesAt (now (book .entry)) (bodiesAt (now (book .entry)) (now (names .entry)) types) (now (offsets .entry)) count) entry) ⌝ }
 {
     if count <= entry {
-        return &book[..0];
+        return EntryType {
+            count: 0,
+            simples: [0u16; MAX_ENTRY_SIMPLES],
+        };
     }
-    type_part(body_at(book, wide_number(offsets[entry])))
+    entry_type(book, names, types, wide_number(offsets[entry]))
 }
 
 // A value of an answer.

@@ -5,17 +5,17 @@ use crate::parts::value_at;
 use crate::text::put_exponent;
 use crate::text::put_number;
 use crate::text::put_text;
-use bytewise::widths::wide_byte;
+use book::EntryType;
 use bytewise::widths::wide_number;
-ghost use mathlib.Core.Path.{_≡_};
-ghost use Prim.Native.Nat.{_%_, _≤_};
-ghost use lib.ListN.{length};
-ghost use Rattle.book.specs.Format.{exponentOf, simplesOf};
+ghost use Prim.Native.Nat.{_≤_};
+ghost use lib.IntN.{pos, _-ℤ_};
+ghost use Rattle.pregroup.specs.Types.{PregroupType};
+ghost use Rattle.pregroup.specs.Held.{bias};
 ghost use Rattle.format.specs.Records.{Whole, bodiesAt};
+ghost use Rattle.book.specs.Kept.{entriesAt, HeldType};
 ghost use Rattle.line.specs.LineWords.{wordsOf};
-ghost use Rattle.lookup.specs.Entries.{entriesKept};
 ghost use Rattle.listing.specs.Listing.{firstRow, wordRow, typeRow, refusalRow, wordRows, typeRows, joined, readingRows};
-ghost use Rattle.listing.specs.Parts.{BookKept, LineKept};
+ghost use Rattle.listing.specs.Parts.{BookKept, LineKept, RowsCountable};
 ghost use Rattle.listing.specs.Placed.{Countable, Placed};
 
 const SPACE: u8 = 32;
@@ -57,17 +57,17 @@ fn put_word_row(number: usize, word: &[u8], entry: usize, text: &mut [u8], at: u
 fn put_type_row(
     position: usize,
     name: &[u8],
-    exponent: u8,
+    raised: usize,
     partner: usize,
     text: &mut [u8],
     at: usize,
 ) -> usize
-    requires { ⌜ Countable at (typeRow position (now name) (exponentOf exponent) partner) ⌝ }
-    ensures { λ r. ⌜ Placed (now (text .entry)) at (typeRow position (now (name .entry)) (exponentOf exponent) partner) (now (text .exit)) r ⌝ }
+    requires { ⌜ Countable at (typeRow position (now name) (pos raised -ℤ pos bias) partner) ⌝ }
+    ensures { λ r. ⌜ Placed (now (text .entry)) at (typeRow position (now (name .entry)) (pos raised -ℤ pos bias) partner) (now (text .exit)) r ⌝ }
 {
     let at = put_number(position, SPACE, text, at);
     let at = put_text(name, SPACE, text, at);
-    let at = put_exponent(exponent, SPACE, text, at);
+    let at = put_exponent(raised, SPACE, text, at);
     put_number(partner, ROW_END, text, at)
 }
 
@@ -102,27 +102,28 @@ fn put_simple_rows(
     book: &[u8],
     names: &[u16],
     types: usize,
-    simples: &[u8],
+    t: EntryType,
     partners: &[u16],
     k: usize,
     text: &mut [u8],
     at: usize,
 ) -> usize
-    requires { ⌜ Whole (now book) (now names) types × (length (now simples) % 2 ≡ 0) × (k ≤ at) ⌝ }
-    requires { ⌜ Countable at (typeRows (bodiesAt (now book) (now names) types) (now partners) k (simplesOf (now simples))) ⌝ }
-    ensures { λ r. ⌜ Placed (now (text .entry)) at
-        (typeRows (bodiesAt (now (book .entry)) (now (names .entry)) types) (now (partners .entry)) k (simplesOf (now (simples .entry))))
-        (now (text .exit)) r ⌝ }
+    requires { ⌜ Whole (now book) (now names) types × (k ≤ at) × RowsCountable (bodiesAt (now book) (now names) types) (now partners) k t at ⌝ }
+    ensures { λ r. ⌜ ((X : PregroupType) → HeldType t X → Placed (now (text .entry)) at
+        (typeRows (bodiesAt (now (book .entry)) (now (names .entry)) types) (now (partners .entry)) k X) (now (text .exit)) r) ⌝ }
 {
+    let held = t.simples;
+    let count = t.count;
     let mut next = at;
     let mut position = k;
     let mut j = 0;
-    while j < simples.len() {
-        let name = name_of(book, names, types, wide_byte(simples[j]));
+    while j < count {
+        let simple = wide_number(held[j]);
+        let name = name_of(book, names, types, simple % 256);
         let partner = value_at(partners, position);
         position += 1;
-        next = put_type_row(position, name, simples[j + 1], partner, text, next);
-        j += 2;
+        next = put_type_row(position, name, simple / 256, partner, text, next);
+        j += 1;
     }
     next
 }
@@ -140,19 +141,19 @@ fn put_type_rows(
     at: usize,
 ) -> usize
     requires { ⌜ BookKept (now book) (now names) types (now offsets) count ⌝ }
-    requires { ⌜ Countable at (typeRows (bodiesAt (now book) (now names) types) (now partners) 0 (joined (entriesKept (now book) (now offsets) count) (now chosen))) ⌝ }
+    requires { ⌜ Countable at (typeRows (bodiesAt (now book) (now names) types) (now partners) 0 (joined (entriesAt (now book) (bodiesAt (now book) (now names) types) (now offsets) count) (now chosen))) ⌝ }
     ensures { λ r. ⌜ Placed (now (text .entry)) at
         (typeRows (bodiesAt (now (book .entry)) (now (names .entry)) types) (now (partners .entry)) 0
-        (joined (entriesKept (now (book .entry)) (now (offsets .entry)) count) (now (chosen .entry)))) (now (text .exit)) r ⌝ }
+        (joined (entriesAt (now (book .entry)) (bodiesAt (now (book .entry)) (now (names .entry)) types) (now (offsets .entry)) count) (now (chosen .entry)))) (now (text .exit)) r ⌝ }
 {
     let mut next = at;
     let mut k = 0;
     let mut i = 0;
     while i < chosen.len() {
-        let simples = type_of(book, offsets, count, wide_number(chosen[i]));
-        next = put_simple_rows(book, names, types, simples, partners, k, text, next);
-        k += simples.len() / 2;
+        let t = type_of(book, names, types, offsets, count, wide_number(chosen[i]));
         i += 1;
+        next = put_simple_rows(book, names, types, t, partners, k, text, next);
+        k += t.count;
     }
     next
 }
@@ -174,9 +175,9 @@ pub(crate) fn put_reading(
     text: &mut [u8],
 ) -> usize
     requires { ⌜ BookKept (now book) (now names) types (now offsets) count × LineKept (now line) (now starts) (now ends) words ⌝ }
-    requires { ⌜ Countable 0 (readingRows (bodiesAt (now book) (now names) types) (entriesKept (now book) (now offsets) count) (wordsOf (now line)) target (now chosen) (now partners)) ⌝ }
+    requires { ⌜ Countable 0 (readingRows (bodiesAt (now book) (now names) types) (entriesAt (now book) (bodiesAt (now book) (now names) types) (now offsets) count) (wordsOf (now line)) target (now chosen) (now partners)) ⌝ }
     ensures { λ r. ⌜ Placed (now (text .entry)) 0
-        (readingRows (bodiesAt (now (book .entry)) (now (names .entry)) types) (entriesKept (now (book .entry)) (now (offsets .entry)) count)
+        (readingRows (bodiesAt (now (book .entry)) (now (names .entry)) types) (entriesAt (now (book .entry)) (bodiesAt (now (book .entry)) (now (names .entry)) types) (now (offsets .entry)) count)
         (wordsOf (now (line .entry))) target (now (chosen .entry)) (now (partners .entry))) (now (text .exit)) r ⌝ }
 {
     let at = put_first_row(chosen.len(), partners.len(), target, text, 0);

@@ -1,12 +1,16 @@
 // Pieces of text put into a lent buffer. Each function takes the place where its piece is to stand and gives the place behind it; bytes for
 // which there is no room are left out, so that an empty buffer only counts.
-use bytewise::widths::wide_byte;
+use pregroup::EXPONENT_BIAS;
 ghost use mathlib.Core.Path.{_≡_};
 ghost use mathlib.Core.List.{[], _∷_, _++_};
 ghost use Prim.Native.Nat.{_+_, _%_};
-ghost use Rattle.book.specs.Format.{exponentOf};
+ghost use lib.IntN.{pos, _-ℤ_};
+ghost use Rattle.pregroup.specs.Held.{bias};
 ghost use Rattle.listing.specs.Text.{decimal, signed};
 ghost use Rattle.listing.specs.Placed.{Countable, Placed};
+
+// What an exponent is raised by where it is held.
+const BIAS: usize = EXPONENT_BIAS as usize;
 
 fn put_byte(byte: u8, text: &mut [u8], at: usize) -> usize
     requires { ⌜ Countable at (byte ∷ []) ⌝ }
@@ -70,14 +74,14 @@ pub(crate) fn put_number(number: usize, close: u8, text: &mut [u8], at: usize) -
     put_byte(close, text, end)
 }
 
-// Puts the exponent that a byte holds in two's complement, and the byte that closes the field.
-pub(crate) fn put_exponent(byte: u8, close: u8, text: &mut [u8], at: usize) -> usize
-    requires { ⌜ Countable at (signed (exponentOf byte) ++ (close ∷ [])) ⌝ }
-    ensures { λ r. ⌜ Placed (now (text .entry)) at (signed (exponentOf byte) ++ (close ∷ [])) (now (text .exit)) r ⌝ }
+// Puts an exponent, given raised as it is held, and the byte that closes the field.
+pub(crate) fn put_exponent(raised: usize, close: u8, text: &mut [u8], at: usize) -> usize
+    requires { ⌜ Countable at (signed (pos raised -ℤ pos bias) ++ (close ∷ [])) ⌝ }
+    ensures { λ r. ⌜ Placed (now (text .entry)) at (signed (pos raised -ℤ pos bias) ++ (close ∷ [])) (now (text .exit)) r ⌝ }
 {
-    if byte < 128 {
-        return put_number(wide_byte(byte), close, text, at);
+    if BIAS <= raised {
+        return put_number(raised - BIAS, close, text, at);
     }
     let start = put_byte(b'-', text, at);
-    put_number(256 - wide_byte(byte), close, text, start)
+    put_number(BIAS - raised, close, text, start)
 }

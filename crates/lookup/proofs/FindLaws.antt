@@ -10,7 +10,8 @@ use lib.Seq.{getD-set-same, getD-set-other}
 use Rattle.figures.specs.Limits.{maxEntries}
 use Rattle.format.specs.Records.{Bytes}
 use Rattle.lookup.specs.Capitals.{sameWord}
-use Rattle.lookup.specs.Entries.{Entries, entriesFrom, entriesKept}
+use Rattle.lookup.specs.Entries.{Entries, entriesFrom}
+use Rattle.book.specs.Kept.{entriesAt}
 use Rattle.bytewise.specs.First.{First}
 use Rattle.lookup.specs.Threads.{key, wordKept, OfWord, OfKey, Alike, Knows, Same, Joined, Found, Finds, Thread, ends, goes}
 use Rattle.lookup.proofs.CapitalLaws.{same-symmetric, same-transitive}
@@ -121,7 +122,7 @@ module _ (bytes : Bytes) (offsets : List ℕ) (count : ℕ) (word : Bytes) where
             j .kept k (s .known i k h (omega (arith, before)) l o)
 
   -- The thread of a word that is found has all of its entries.
-  module _ (kept : Entries bytes offsets count) where
+  module _ (names : List Bytes) (kept : Entries bytes offsets count) where
     other : (k : ℕ) → (OfWord bytes offsets word k → ⊥) → sameWord (wordKept bytes offsets k) word ≡ false
     other k h = go (sameWord (wordKept bytes offsets k) word) refl
       where
@@ -131,35 +132,35 @@ module _ (bytes : Bytes) (offsets : List ℕ) (count : ℕ) (word : Bytes) where
 
     -- Entries of other words are passed over.
     left-passed : (n a : ℕ) → ((k : ℕ) → a ≤ k → k < a + n → k < count → OfWord bytes offsets word k → ⊥)
-        → left bytes offsets count word a ≡ left bytes offsets count word (a + n)
-    left-passed zero a h = ap (left bytes offsets count word) (omega arith)
-    left-passed (suc n) a h = one (decLt a count) ∙ left-passed n (a + 1) (λ k l m b o. h k (omega arith) (omega arith) b o) ∙ ap (left bytes offsets count word) (omega arith)
+        → left bytes names offsets count word a ≡ left bytes names offsets count word (a + n)
+    left-passed zero a h = ap (left bytes names offsets count word) (omega arith)
+    left-passed (suc n) a h = one (decLt a count) ∙ left-passed n (a + 1) (λ k l m b o. h k (omega arith) (omega arith) b o) ∙ ap (left bytes names offsets count word) (omega arith)
       where
-        one : Dec (a < count) → left bytes offsets count word a ≡ left bytes offsets count word (a + 1)
-        one (yes b) = left-other bytes offsets count kept word a b (other a (h a (omega arith) (omega arith) b))
-        one (no b) = left-end bytes offsets count kept word a (omega (arith, b)) ∙ sym (left-end bytes offsets count kept word (a + 1) (omega (arith, b)))
+        one : Dec (a < count) → left bytes names offsets count word a ≡ left bytes names offsets count word (a + 1)
+        one (yes b) = left-other bytes names offsets count kept word a b (other a (h a (omega arith) (omega arith) b))
+        one (no b) = left-end bytes names offsets count kept word a (omega (arith, b)) ∙ sym (left-end bytes names offsets count kept word (a + 1) (omega (arith, b)))
 
-    left-first : {a i : ℕ} → First (OfWord bytes offsets word) a count i → left bytes offsets count word a ≡ left bytes offsets count word i
+    left-first : {a i : ℕ} → First (OfWord bytes offsets word) a count i → left bytes names offsets count word a ≡ left bytes names offsets count word i
     left-first {a} {i} f =
         let e : a + (i - a) ≡ i = omega (arith, f .forth) in
-        left-passed (i - a) a (λ k h l b o. f .passed k h (omega (arith, e)) b o) ∙ ap (left bytes offsets count word) e
+        left-passed (i - a) a (λ k h l b o. f .passed k h (omega (arith, e)) b o) ∙ ap (left bytes names offsets count word) e
 
     module _ {same : List ℕ} (known : (j : ℕ) → j < count → OfWord bytes offsets word j → Knows bytes offsets count same j) where
-      thread-from : (n i : ℕ) → count ≤ i + n → (i < count → OfWord bytes offsets word i) → Thread bytes offsets count same i (left bytes offsets count word i)
-      thread-from zero i h own = rw (left-end bytes offsets count kept word i (omega arith)) (ends {i = i} (omega arith))
+      thread-from : (n i : ℕ) → count ≤ i + n → (i < count → OfWord bytes offsets word i) → Thread bytes names offsets count same i (left bytes names offsets count word i)
+      thread-from zero i h own = rw (left-end bytes names offsets count kept word i (omega arith)) (ends {i = i} (omega arith))
       thread-from (suc n) i h own = go (thread-from n (getD {A = ℕ} same i 0)) (decLt i count)
         where
           behind : ℕ
           behind = getD {A = ℕ} same i 0
 
-          go : (count ≤ behind + n → (behind < count → OfWord bytes offsets word behind) → Thread bytes offsets count same behind (left bytes offsets count word behind))
-              → Dec (i < count) → Thread bytes offsets count same i (left bytes offsets count word i)
-          go rest (no b) = rw (left-end bytes offsets count kept word i (omega (arith, b))) (ends {i = i} (omega (arith, b)))
+          go : (count ≤ behind + n → (behind < count → OfWord bytes offsets word behind) → Thread bytes names offsets count same behind (left bytes names offsets count word behind))
+              → Dec (i < count) → Thread bytes names offsets count same i (left bytes names offsets count word i)
+          go rest (no b) = rw (left-end bytes names offsets count kept word i (omega (arith, b))) (ends {i = i} (omega (arith, b)))
           go rest (yes b) =
               let t = known i b (own b) in
               let next : First (OfWord bytes offsets word) (i + 1) count behind = record { forth = t .forth; passed = λ k l m c o. t .passed k l m c (of-entry i k (own b) o); stops = λ l. of-word i _ (own b) (t .stops l) } in
-              rw (left-same bytes offsets count kept word i b (own b), left-first next)
+              rw (left-same bytes names offsets count kept word i b (own b), left-first next)
               (goes b (omega (arith, t .forth)) (rest (omega (arith, t .forth)) (next .stops)))
 
-    pub found-thread : {same : List ℕ} {first : ℕ} → Found bytes offsets count word same first → Thread bytes offsets count same first (entriesFrom 0 (entriesKept bytes offsets count) word)
+    pub found-thread : {same : List ℕ} {first : ℕ} → Found bytes offsets count word same first → Thread bytes names offsets count same first (entriesFrom 0 (entriesAt bytes names offsets count) word)
     found-thread {same} {first} f = rw (left-first (f .begins)) (thread-from (f .known) count first (omega arith) (f .begins .stops))

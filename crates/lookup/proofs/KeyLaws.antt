@@ -11,7 +11,7 @@ use lib.Seq.{getD-set-same, getD-set-other, length-take-le}
 use Rattle.figures.specs.Limits.{maxEntries, maxWord}
 use Rattle.format.specs.Records.{Bytes, bodyAt}
 use Rattle.book.specs.Format.{wordLength}
-use Rattle.book.proofs.Layouts.{entry-shape}
+use Rattle.book.proofs.Layouts.{word-shape}
 use Rattle.lookup.specs.Capitals.{sameWord}
 use Rattle.lookup.specs.Entries.{Entries}
 use Rattle.bytewise.specs.First.{First}
@@ -35,7 +35,7 @@ pub kept-range : {bytes : Bytes} {offsets : List ℕ} {count : ℕ} → Entries 
     → (1 ≤ length (wordKept bytes offsets i)) × (length (wordKept bytes offsets i) ≤ maxWord)
 kept-range {bytes} {offsets} kept i h =
     let body = bodyAt bytes (getD {A = ℕ} offsets i 0) in
-    let shape = entry-shape body (kept .layouts i h) in
+    let shape = word-shape body (kept .worded i h) in
     let long = length-take-le (wordLength body) (drop 1 body) (omega (arith, length-drop 1 body, shape .fits)) in
     (omega (arith, long, shape .range .0), omega (arith, long, shape .range .1))
 

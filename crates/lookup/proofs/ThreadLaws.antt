@@ -1,17 +1,14 @@
 -- Going along a thread of entries: the entry at hand and the rest, and the simple types that are tallied on the way.
-use Prim.Native.Nat.{ℕ, _+_, _*_, _/_, _≤_, _<_}
+use Prim.Native.Nat.{ℕ, _+_, _*_, _≤_, _<_}
 use native.Mathlib.Omega.{arith}
 use mathlib.Core.Path.{_≡_, refl, ap, _∙_}
 use mathlib.Core.List.{List, [], _∷_}
 use lib.ListN.{length, getD}
 use Rattle.figures.specs.Limits.{maxEntries, maxEntrySimples}
 use Rattle.linking.specs.Reading.{NumberedEntry, Words}
-use Rattle.format.specs.Records.{Bytes, bodyAt}
-use Rattle.book.specs.Format.{typePart}
-use Rattle.book.proofs.Layouts.{entry-shape}
-use Rattle.lookup.specs.Entries.{Entries, entryAt, simplesIn, simplesOfWords}
+use Rattle.format.specs.Records.{Bytes}
+use Rattle.lookup.specs.Entries.{Lexicon, entryAt, simplesIn, simplesOfWords}
 use Rattle.lookup.specs.Threads.{Thread, ends, goes, Tallied}
-use Rattle.lookup.proofs.EntryLaws.{simples-length}
 
 pub simples-more : (e : NumberedEntry) (es : List NumberedEntry) → simplesIn (e ∷ es) ≡ length (e .type) + simplesIn es
 unfolding simplesIn
@@ -25,50 +22,47 @@ pub simples-cons : (es : List NumberedEntry) (words : Words) → simplesOfWords 
 unfolding simplesOfWords
 simples-cons es words = refl
 
-module _ (bytes : Bytes) (offsets : List ℕ) (count : ℕ) (same : List ℕ) where
+module _ (bytes : Bytes) (names : List Bytes) (offsets : List ℕ) (count : ℕ) (same : List ℕ) where
   -- A thread at an entry: it leads on to the rest.
   pub record Leads (i : ℕ) (es : List NumberedEntry) : Type 0 where
     pub rest : List NumberedEntry
     pub forth : i < getD {A = ℕ} same i 0
-    pub is : es ≡ entryAt bytes offsets i ∷ rest
-    pub ahead : Thread bytes offsets count same (getD {A = ℕ} same i 0) rest
+    pub is : es ≡ entryAt bytes names offsets i ∷ rest
+    pub ahead : Thread bytes names offsets count same (getD {A = ℕ} same i 0) rest
 
   -- How the tally of a thread stands at entry i.
   pub record Tallying (es : List NumberedEntry) (sum i : ℕ) : Type 0 where
     pub rest : List NumberedEntry
-    pub ahead : Thread bytes offsets count same i rest
+    pub ahead : Thread bytes names offsets count same i rest
     pub total : simplesIn es ≡ sum + simplesIn rest
     pub low : sum ≤ maxEntrySimples * i
     pub small : sum ≤ maxEntries * maxEntrySimples
 
-module _ {bytes : Bytes} {offsets : List ℕ} {count : ℕ} {same : List ℕ} where
-  pub thread-next : {i : ℕ} {es : List NumberedEntry} → Thread bytes offsets count same i es → i < count → Leads bytes offsets count same i es
+module _ {bytes : Bytes} {names : List Bytes} {offsets : List ℕ} {count : ℕ} {same : List ℕ} where
+  pub thread-next : {i : ℕ} {es : List NumberedEntry} → Thread bytes names offsets count same i es → i < count → Leads bytes names offsets count same i es
   thread-next (ends h) l = absurd (omega arith)
   thread-next (goes {i} {es} h f t) l = record { rest = es; forth = f; is = refl; ahead = t }
 
-  pub thread-end : {i : ℕ} {es : List NumberedEntry} → Thread bytes offsets count same i es → count ≤ i → es ≡ []
+  pub thread-end : {i : ℕ} {es : List NumberedEntry} → Thread bytes names offsets count same i es → count ≤ i → es ≡ []
   thread-end (ends h) l = refl
   thread-end (goes h f t) l = absurd (omega arith)
 
-  pub tally-start : {first : ℕ} {es : List NumberedEntry} → Thread bytes offsets count same first es → Tallying bytes offsets count same es 0 first
+  pub tally-start : {first : ℕ} {es : List NumberedEntry} → Thread bytes names offsets count same first es → Tallying bytes names offsets count same es 0 first
   tally-start {first} {es} t = record { rest = es; ahead = t; total = omega arith; low = omega arith; small = omega arith }
 
-  pub tally-next : {es : List NumberedEntry} {sum i : ℕ} {part : Bytes} → Entries bytes offsets count → Tallying bytes offsets count same es sum i → i < count
-      → part ≡ typePart (bodyAt bytes (getD {A = ℕ} offsets i 0)) → Tallying bytes offsets count same es (sum + length part / 2) (getD {A = ℕ} same i 0)
-  tally-next {es} {sum} {i} {part} kept t h e =
-      let body = bodyAt bytes (getD {A = ℕ} offsets i 0) in
-      let shape = entry-shape body (kept .layouts i h) in
-      let long : length part ≡ length (typePart body) = ap length e in
-      let pairs = simples-length (typePart body) (shape .pairs) in
+  pub tally-next : {es : List NumberedEntry} {sum i n : ℕ} → Lexicon bytes names offsets count → Tallying bytes names offsets count same es sum i → i < count
+      → n ≡ length (entryAt bytes names offsets i .type) → Tallying bytes names offsets count same es (sum + n) (getD {A = ℕ} same i 0)
+  tally-next {es} {sum} {i} {n} kept t h e =
+      let short = kept .formed i h .short in
       let l = thread-next (t .ahead) h in
-      let more = ap simplesIn (l .is) ∙ simples-more (entryAt bytes offsets i) (l .rest) in
+      let more = ap simplesIn (l .is) ∙ simples-more (entryAt bytes names offsets i) (l .rest) in
       record {
         rest = l .rest;
         ahead = l .ahead;
-        total = omega (arith, t .total, more, pairs, long);
-        low = omega (arith, t .low, l .forth, shape .short);
-        small = omega (arith, t .low, h, kept .few, shape .short);
+        total = omega (arith, t .total, more);
+        low = omega (arith, t .low, l .forth);
+        small = omega (arith, t .low, h, kept .entries .few);
       }
 
-  pub tally-end : {es : List NumberedEntry} {sum i : ℕ} → Tallying bytes offsets count same es sum i → count ≤ i → Tallied es sum
+  pub tally-end : {es : List NumberedEntry} {sum i : ℕ} → Tallying bytes names offsets count same es sum i → count ≤ i → Tallied es sum
   tally-end t h = record { total = omega (arith, t .total, ap simplesIn (thread-end (t .ahead) h), simples-none); small = t .small }

@@ -4,7 +4,7 @@ use mathlib.Core.Path.{_≡_}
 use mathlib.Core.Bool.{Bool, true, cond}
 use mathlib.Core.List.{_++_, map}
 use Rattle.format.specs.Records.{Bytes, between, sameBytes, recordOf}
-use Rattle.book.specs.Format.{entryBody}
+use Rattle.book.specs.Format.{EntryKind, entryBody}
 
 -- A–Z are 65 to 90, and a–z stand 32 behind them.
 abbrev pub isCapital : ℕ → Bool
@@ -21,10 +21,10 @@ smallBytes bytes = map small bytes
 unfoldable pub sameWord : Bytes → Bytes → Bool
 sameWord a b = sameBytes (smallBytes a) (smallBytes b)
 
--- Two books that differ only in the case of their entries' words: record by record they have the same bytes, or are entries of the same word
--- with the same type. What stands behind these records, a faulty rest perhaps, has the same bytes.
+-- Two books that differ only in the case of their entries' words: record by record they have the same bytes, or are entries of one kind and of the
+-- same word, with the same bytes as their type. What stands behind these records, a faulty rest perhaps, has the same bytes.
 pub data DifferInCase : Bytes → Bytes → Type 0 where
   same-rest : {rest : Bytes} → DifferInCase rest rest
   same-record : (kind : ℕ) (body : Bytes) {a b : Bytes} → DifferInCase a b → DifferInCase (recordOf kind body ++ a) (recordOf kind body ++ b)
-  respelt : (v w type : Bytes) {a b : Bytes} → sameWord v w ≡ true → DifferInCase a b
-      → DifferInCase (recordOf 3 (entryBody v type) ++ a) (recordOf 3 (entryBody w type) ++ b)
+  respelt : {kind : ℕ} → EntryKind kind → (v w type : Bytes) {a b : Bytes} → sameWord v w ≡ true → DifferInCase a b
+      → DifferInCase (recordOf kind (entryBody v type) ++ a) (recordOf kind (entryBody w type) ++ b)

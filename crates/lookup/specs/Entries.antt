@@ -2,13 +2,13 @@
 use Prim.Native.Nat.{ℕ, _+_, _≤_, _<_}
 use mathlib.Core.Path.{_≡_}
 use mathlib.Core.Bool.{true, cond}
-use mathlib.Core.List.{List, [], _∷_, foldr, map}
+use mathlib.Core.List.{List, [], _∷_, foldr}
 use lib.ListN.{length, getD}
 use Rattle.figures.specs.Limits.{maxEntries}
 use Rattle.linking.specs.Reading.{NumberedEntry, Words}
-use Rattle.format.specs.Records.{Bytes, bodyAt}
-use Rattle.book.specs.Format.{Entry, entryOf, isEntry}
-use Rattle.format.specs.Records.{bodiesAt, Whole}
+use Rattle.format.specs.Records.{Bytes, bodyAt, Whole}
+use Rattle.book.specs.Format.{Entry, Book, isWorded}
+use Rattle.book.specs.Kept.{entryFrom, entriesAt, AllFormed}
 use Rattle.lookup.specs.Capitals.{sameWord}
 
 -- The entries of a word, numbered as they stand in the book: the rest of its entries, and the number of the first of them.
@@ -26,15 +26,22 @@ simplesIn entries = foldr (λ (e : NumberedEntry) (n : ℕ). length (e .type) + 
 unfoldable pub simplesOfWords : Words → ℕ
 simplesOfWords words = foldr (λ (entries : List NumberedEntry) (n : ℕ). simplesIn entries + n) 0 words
 
--- The entries whose records start at the kept offsets, and that each of these is an entry's.
-abbrev pub entriesKept : Bytes → List ℕ → ℕ → List Entry
-entriesKept bytes offsets count = map entryOf (bodiesAt bytes offsets count)
-
+-- The kept offsets are those of whole records with a word in front.
 pub record Entries (bytes : Bytes) (offsets : List ℕ) (count : ℕ) : Type 0 where
   pub few : count ≤ maxEntries
   pub whole : Whole bytes offsets count
-  pub layouts : (i : ℕ) → i < count → isEntry (bodyAt bytes (getD {A = ℕ} offsets i 0)) ≡ true
+  pub worded : (i : ℕ) → i < count → isWorded (bodyAt bytes (getD {A = ℕ} offsets i 0)) ≡ true
+
+-- They are those of entries, where basic types have these names.
+pub record Lexicon (bytes : Bytes) (names : List Bytes) (offsets : List ℕ) (count : ℕ) : Type 0 where
+  pub entries : Entries bytes offsets count
+  pub formed : AllFormed bytes names offsets count
+
+-- They are those of the entries of B, in their order.
+pub record KeptOf (bytes : Bytes) (offsets : List ℕ) (count : ℕ) (B : Book) : Type 0 where
+  pub lexicon : Lexicon bytes (B .names) offsets count
+  pub all : B .entries ≡ entriesAt bytes (B .names) offsets count
 
 -- The kept entry of a number.
-abbrev pub entryAt : Bytes → List ℕ → ℕ → NumberedEntry
-entryAt bytes offsets i = record { number = i; type = entryOf (bodyAt bytes (getD {A = ℕ} offsets i 0)) .type }
+abbrev pub entryAt : Bytes → List Bytes → List ℕ → ℕ → NumberedEntry
+entryAt bytes names offsets i = record { number = i; type = entryFrom bytes names (getD {A = ℕ} offsets i 0) .type }

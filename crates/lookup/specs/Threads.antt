@@ -76,16 +76,16 @@ pub record Finds (bytes : Bytes) (offsets : List ℕ) (count : ℕ) (word : Byte
   pub kept : (j : ℕ) → Knows bytes offsets count same j → Knows bytes offsets count same′ j
 
 -- A thread of entries: from each of them `same` leads to the next.
-pub data Thread (bytes : Bytes) (offsets : List ℕ) (count : ℕ) (same : List ℕ) : ℕ → List NumberedEntry → Type 0 where
-  ends : {i : ℕ} → count ≤ i → Thread bytes offsets count same i []
+pub data Thread (bytes : Bytes) (names : List Bytes) (offsets : List ℕ) (count : ℕ) (same : List ℕ) : ℕ → List NumberedEntry → Type 0 where
+  ends : {i : ℕ} → count ≤ i → Thread bytes names offsets count same i []
   goes : {i : ℕ} {es : List NumberedEntry} → i < count → i < getD {A = ℕ} same i 0
-      → Thread bytes offsets count same (getD {A = ℕ} same i 0) es → Thread bytes offsets count same i (entryAt bytes offsets i ∷ es)
+      → Thread bytes names offsets count same (getD {A = ℕ} same i 0) es → Thread bytes names offsets count same i (entryAt bytes names offsets i ∷ es)
 
 -- Words by the first entry of each, from the k-th on.
-pub data Threads (bytes : Bytes) (offsets : List ℕ) (count : ℕ) (same firsts : List ℕ) : ℕ → Words → Type 0 where
-  none : {k : ℕ} → Threads bytes offsets count same firsts k []
-  word : {k : ℕ} {es : List NumberedEntry} {words : Words} → Thread bytes offsets count same (getD {A = ℕ} firsts k 0) es
-      → Threads bytes offsets count same firsts (k + 1) words → Threads bytes offsets count same firsts k (es ∷ words)
+pub data Threads (bytes : Bytes) (names : List Bytes) (offsets : List ℕ) (count : ℕ) (same firsts : List ℕ) : ℕ → Words → Type 0 where
+  none : {k : ℕ} → Threads bytes names offsets count same firsts k []
+  word : {k : ℕ} {es : List NumberedEntry} {words : Words} → Thread bytes names offsets count same (getD {A = ℕ} firsts k 0) es
+      → Threads bytes names offsets count same firsts (k + 1) words → Threads bytes names offsets count same firsts k (es ∷ words)
 
 -- The number of simple types of a thread's entries: no more than an entry may have, for each of a full book.
 pub record Tallied (es : List NumberedEntry) (sum : ℕ) : Type 0 where

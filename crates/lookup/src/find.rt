@@ -1,18 +1,18 @@
 // A word found in a book: the thread of its entries, and how many simple types these have.
-use crate::keys::entry_word;
 use crate::keys::key_of;
 use crate::letters::same_word;
-use book::layout::type_part;
+use book::entries::entry_length;
+use book::entries::entry_word;
 use bytewise::widths::wide_number;
 use figures::limits::MAX_ENTRIES;
-use format::layout::body_at;
 ghost use mathlib.Core.List.{List};
 ghost use Prim.Native.Nat.{ℕ, _≤_};
 ghost use lib.ListN.{length};
 ghost use Rattle.figures.specs.Limits.{maxEntries, maxWord};
 ghost use Rattle.linking.specs.Reading.{NumberedEntry};
 ghost use Rattle.bytewise.specs.First.{First};
-ghost use Rattle.lookup.specs.Entries.{Entries};
+ghost use Rattle.format.specs.Records.{Bytes};
+ghost use Rattle.lookup.specs.Entries.{Entries, Lexicon};
 ghost use Rattle.lookup.specs.Threads.{key, OfWord, OfKey, Alike, Same, Joined, Finds, Thread, Tallied};
 
 // The first of a word's entries on the thread of its key, from an entry on.
@@ -86,15 +86,15 @@ pub fn find_word(
 
 // How many simple types the entries of a thread have together.
 pub fn tally(book: &[u8], offsets: &[u16], count: usize, same: &[u16], first: usize) -> usize
-    requires { ⌜ Entries (now book) (now offsets) count × (count ≤ length (now same)) ×
-        ((es : List NumberedEntry) × Thread (now book) (now offsets) count (now same) first es) ⌝ }
-    ensures { λ r. ⌜ ((es : List NumberedEntry) → Thread (now (book .entry)) (now (offsets .entry)) count (now (same .entry)) first es
-        → Tallied es r) ⌝ }
+    requires { ⌜ (count ≤ length (now same)) × ((names : List Bytes) × Lexicon (now book) names (now offsets) count
+        × ((es : List NumberedEntry) × Thread (now book) names (now offsets) count (now same) first es)) ⌝ }
+    ensures { λ r. ⌜ ((names : List Bytes) (es : List NumberedEntry) → Lexicon (now (book .entry)) names (now (offsets .entry)) count
+        → Thread (now (book .entry)) names (now (offsets .entry)) count (now (same .entry)) first es → Tallied es r) ⌝ }
 {
     let mut sum = 0;
     let mut i = first;
     while i < count {
-        sum += type_part(body_at(book, wide_number(offsets[i]))).len() / 2;
+        sum += entry_length(book, wide_number(offsets[i]));
         i = wide_number(same[i]);
     }
     sum

@@ -1,17 +1,13 @@
 // Keys of words, and the entries of a book threaded by them.
 use crate::letters::small_letter;
-use book::layout::word_part;
+use book::entries::entry_word;
 use bytewise::widths::wide_byte;
 use bytewise::widths::wide_number;
 use figures::limits::MAX_ENTRIES;
-use format::layout::body_at;
 ghost use mathlib.Core.Path.{_≡_};
-ghost use mathlib.Core.Bool.{true};
 ghost use Prim.Native.Nat.{_≤_};
 ghost use lib.ListN.{length};
 ghost use Rattle.figures.specs.Limits.{maxWord};
-ghost use Rattle.format.specs.Records.{bodyAt, nextAt};
-ghost use Rattle.book.specs.Format.{isEntry, wordOf};
 ghost use Rattle.lookup.specs.Entries.{Entries};
 ghost use Rattle.lookup.specs.Threads.{key, NoneAlike, Alike};
 
@@ -32,14 +28,6 @@ pub fn key_of(word: &[u8]) -> usize
     let first = small_letter(word[0]);
     let last = small_letter(word[word.len() - 1]);
     (word.len() + 7 * wide_byte(first) + 37 * wide_byte(last)) % KEYS
-}
-
-// The word of the entry whose record stands at an offset.
-pub fn entry_word(book: &[u8], at: usize) -> &[u8]
-    requires { ⌜ (nextAt (now book) at ≤ length (now book)) × (isEntry (bodyAt (now book) at) ≡ true) ⌝ }
-    ensures { λ r. ⌜ now r ≡ wordOf (bodyAt (now (book .entry)) at) ⌝ }
-{
-    word_part(body_at(book, at))
 }
 
 // Threads the entries of a book by their keys, from the last to the first, so that each thread has them in the book's order.

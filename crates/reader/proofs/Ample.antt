@@ -1,6 +1,6 @@
 -- `maxValues` values hold any answer: where so many are lent 16 never comes back, and more change nothing but what stands behind the answer. So what a
 -- line gets there is a reply of its own (`ampleReply`), in which no buffer occurs.
-use Prim.Native.Nat.{ℕ, _+_, _≤_, _<_}
+use Prim.Native.Nat.{ℕ, _+_, _≤_}
 use native.Mathlib.Omega.{arith}
 use mathlib.Core.Path.{_≡_, refl, ap, _∙_}
 use mathlib.Core.List.{List}
@@ -22,7 +22,7 @@ use Rattle.line.proofs.Offsets.{stopped-within}
 use Rattle.reader.specs.declared.LineAnswer.{LineAnswer}
 use Rattle.reader.specs.Outcome.{outcomeReply, lineReply, valuesOf, readAgainst, readParsed, outcome}
 use Rattle.reader.specs.Demands.{OrderOf, Readable}
-use Rattle.reader.proofs.Refusals.{NamedParse, parse-named, NamedLine, line-named}
+use Rattle.reader.proofs.Refusals.{book-not-short, NamedParse, parse-named, NamedLine, line-named}
 use Rattle.reader.proofs.Promises.{Given, no-answer, too-short, enough, given-is, values-count, is-first, firstOf}
 
 -- A reading of a line that breaks nothing takes at most so many values.
@@ -51,14 +51,14 @@ ampleReply (accepted B) line = checkedReply B (lineCheck B line)
 
 -- A reply where any answer fits: the book's refusal, the line's with a value within the line, or an answer that is not too long. None is 16.
 pub data Ample (book line : Bytes) : Reply → Type 0 where
-  of-book : {number value : ℕ} → parse book ≡ refused number value → number < bufferTooShort → Ample book line (refusal number value)
-  of-line : {number value : ℕ} → value ≤ length line → number < bufferTooShort → Ample book line (refusal number value)
+  of-book : {number value : ℕ} → parse book ≡ refused number value → (number ≡ bufferTooShort → ⊥) → Ample book line (refusal number value)
+  of-line : {number value : ℕ} → value ≤ length line → (number ≡ bufferTooShort → ⊥) → Ample book line (refusal number value)
   of-reading : {values : List ℕ} → length values ≤ maxValues → Ample book line (record { number = 0; values = values })
 
-pub below-short : {book line : Bytes} {reply : Reply} → Ample book line reply → reply .number < bufferTooShort
-below-short (of-book e h) = h
-below-short (of-line h k) = k
-below-short (of-reading h) = omega arith
+pub not-short : {book line : Bytes} {reply : Reply} → Ample book line reply → reply .number ≡ bufferTooShort → ⊥
+not-short (of-book e h) = h
+not-short (of-line h k) = k
+not-short (of-reading h) = omega arith
 
 module _ (book line : Bytes) where
   -- The first reading is not too long.
@@ -76,7 +76,7 @@ module _ (book line : Bytes) where
       read-ample (firstOf book line B words r) (first-within B words r)
 
   book-ample : (p : Parsed) → parse book ≡ p → NamedParse p → Ample book line (ampleReply p line)
-  book-ample (refused number value) e named = of-book {number = number} e (omega arith)
+  book-ample (refused number value) e named = of-book {number = number} e (book-not-short named)
   book-ample (accepted B) e named = line-ample B e (lineCheck B line) refl (line-named B line)
 
   pub ample : Ample book line (ampleReply (parse book) line)
@@ -106,5 +106,5 @@ module _ (book line : Bytes) where
     ample-reply = book-reply (parse book) refl
 
     -- 16 never comes back.
-    pub never-short : outcomeReply (outcome book line lent) .number < bufferTooShort
-    never-short = rw ample-reply (below-short ample)
+    pub never-short : outcomeReply (outcome book line lent) .number ≡ bufferTooShort → ⊥
+    never-short = rw ample-reply (not-short ample)

@@ -7,6 +7,7 @@ pub mod TargetCases
 pub mod Ample
 pub mod Capitals
 pub mod Spellings
+pub mod Notations
 pub mod Selection
 pub mod Brief
 pub mod FirstFound

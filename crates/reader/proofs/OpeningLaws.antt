@@ -11,14 +11,15 @@ use Rattle.pregroup.specs.Held.{InRows}
 use Rattle.order.specs.Closed.{Closed, Listed, below}
 use Rattle.order.specs.Rows.{Hold}
 use Rattle.order.proofs.Decision.{below-decides}
-use Rattle.format.specs.Records.{Bytes}
+use Rattle.format.specs.Records.{Bytes, bodiesAt}
 use Rattle.book.specs.Format.{Book, accepted, refused, parse}
 use Rattle.book.specs.Kept.{Store, Opened}
 use Rattle.book.proofs.Checking.{opened-types, opened-order, zeros}
 use Rattle.book.proofs.Accepted.{accepted-declares}
 use Rattle.linking.specs.Reading.{Words, firstReading}
+use Rattle.lookup.specs.Entries.{Lexicon}
 use Rattle.lookup.specs.Threads.{keys, Alike, NoneAlike, Same, Threads}
-use Rattle.lookup.proofs.EntryLaws.{opened-entries}
+use Rattle.lookup.proofs.EntryLaws.{opened-kept}
 use Rattle.line.specs.LineFaults.{passed, stopped, lineCheck, entriesOfLine}
 use Rattle.line.specs.LookUp.{LineSays}
 use Rattle.line.specs.declared.CheckedLine.the-variants.{Found}
@@ -62,18 +63,16 @@ module _ (book line : Bytes) (before : List ℕ) {B : Book} (parsed : parse book
 
 -- What is kept of an accepted book, with its closed order.
 pub is-open : (bytes : Bytes) (s : Store) (types count goals : ℕ) (B : Book) (alike rows : List ℕ) → Opened bytes s types count goals B → Alike bytes (s .entries) count alike
-    → Hold rows (Closed types (InRows (s .direct))) → Open bytes (s .entries) count alike rows (take goals (s .targets)) B
+    → Hold rows (Closed types (InRows (s .direct))) → Open bytes (s .names) types (s .entries) count alike rows (take goals (s .targets)) B
 is-open bytes s types count goals B alike rows o threaded hold =
     let number = opened-types bytes s types count goals B o in
     let order : Hold rows (Closed (length (B .names)) (Listed (B .pairs))) = rw number (opened-order bytes s types count goals B o rows hold) in
     let declared = accepted-declares bytes B (o .parsed) .pairs in
     record {
       parsed = o .parsed;
-      entries = o .entries;
-      lexicon = record {
-        entries = opened-entries o;
-        listed = λ i h. o .formed i h .listed;
-      };
+      named = o .named;
+      type-names = o .names;
+      kept = opened-kept o;
       threaded = threaded;
       decides = λ a b. Iff·trans (below-decides (length (B .names)) (B .pairs) declared a b) (Iff·symm (order a b));
       chosen = o .targets;
@@ -87,19 +86,22 @@ none-alike = record { room = length-replicate {A = ℕ} (maxEntries + keys) maxE
 pub none-same : (bytes : Bytes) (offsets : List ℕ) (count : ℕ) → Same bytes offsets count (replicate maxEntries 0)
 none-same bytes offsets count = record { room = omega (arith, length-replicate {A = ℕ} maxEntries 0); known = λ i j h any l o. let e = zeros maxEntries i in absurd (omega arith) }
 
-module _ {bytes : Bytes} {offsets : List ℕ} {count : ℕ} {alike rows targets : List ℕ} {line : Bytes} {firsts same : List ℕ} {n : ℕ} {B : Book}
-    (o : Open bytes offsets count alike rows targets B) (says : LineSays bytes offsets count B line firsts same (Found n)) where
+module _ {bytes : Bytes} {names : List ℕ} {types : ℕ} {offsets : List ℕ} {count : ℕ} {alike rows targets : List ℕ} {line : Bytes} {firsts same : List ℕ}
+    {n : ℕ} {B : Book} (o : Open bytes names types offsets count alike rows targets B) (says : LineSays bytes offsets count B line firsts same (Found n)) where
+  threaded : Threads bytes (bodiesAt bytes names types) offsets count same firsts 0 (entriesOfLine B line)
+  threaded = subst (λ (ns : List Bytes). Threads bytes ns offsets count same firsts 0 (entriesOfLine B line)) (o .type-names) (says .2 .threads)
+
   -- A line that passed its check can be laid out ..
   pub line-fits : {l : Lists} → maxEntries ≤ length same → maxWords ≤ length firsts → Room l → maxNodes ≤ length (l .cells .numbers) → Empty l
-      → LineFits bytes offsets count same firsts n (length targets) l
+      → LineFits bytes names types offsets count same firsts n (length targets) l
   line-fits same-room firsts-room room numbers-room empty =
       record {
         looked-up = record {
-          lexicon = o .lexicon;
-          same-room = omega (arith, o .lexicon .entries .few);
+          vocabulary = record { named = o .named; lexicon = subst (λ (ns : List Bytes). Lexicon bytes ns offsets count) (o .type-names) (o .kept .lexicon) };
+          same-room = omega (arith, o .kept .lexicon .entries .few);
           firsts-room = omega (arith, says .1);
           all = entriesOfLine B line;
-          threads = says .2 .threads;
+          threads = threaded;
           as-many = says .2 .words;
         };
         few = says .1;
@@ -112,12 +114,12 @@ module _ {bytes : Bytes} {offsets : List ℕ} {count : ℕ} {alike rows targets 
 
   -- .. and the graph is that of its words.
   pub line-drawn : {l : Lists} {last : ℕ}
-      → ((words : Words) → Threads bytes offsets count same firsts 0 words → length words ≡ n → LaidOut words targets l last)
+      → ((words : Words) → Threads bytes (bodiesAt bytes names types) offsets count same firsts 0 words → length words ≡ n → LaidOut words targets l last)
       → length (l .cells .enters) ≤ length (l .cells .numbers)
       → Drawn (below (length (B .names)) (B .pairs)) (InRows rows) (graphOf (nodesWith last (length targets)) l) (l .cells .numbers) targets last n
       (entriesOfLine B line)
   line-drawn laid-out room =
-      let out = laid-out (entriesOfLine B line) (says .2 .threads) (says .2 .words) in
+      let out = laid-out (entriesOfLine B line) threaded (says .2 .words) in
       let p = line-passing B line (entriesOfLine B line) (says .0) in
       record {
         upward = out .upward;

@@ -1,4 +1,4 @@
--- The outcome keeps every promise of specs/Demands.antt, and every refusal has a number from 1 to 16.
+-- The outcome keeps every promise of specs/Demands.antt, and every refusal has a number of a line or of its book.
 use Prim.Native.Nat.{ℕ, _+_, _≤_, _<_}
 use native.Mathlib.Omega.{arith}
 use mathlib.Core.Path.{_≡_, refl, sym, ap, subst, _∙_}
@@ -28,8 +28,8 @@ use Rattle.line.proofs.Passed.{line-passing}
 use Rattle.reader.specs.declared.LineAnswer.{LineAnswer}
 use Rattle.reader.specs.declared.LineAnswer.the-variants.{Read, Refused}
 use Rattle.reader.specs.Outcome.{Outcome, lineReply, valuesOf, given, readAgainst, readParsed, outcome}
-use Rattle.reader.specs.Demands.{OrderOf, Readable, Written, TooShort, NoChain, Promised}
-use Rattle.reader.proofs.Refusals.{NamedParse, parse-named, NamedLine, line-named}
+use Rattle.reader.specs.Demands.{OrderOf, Readable, Written, TooShort, NoChain, Promised, LineNumber}
+use Rattle.reader.proofs.Refusals.{line-some, NamedParse, parse-named, NamedLine, line-named}
 
 pub values-count : (a : Answer) → length (valuesOf a) ≡ 3 + length (a .entries) + length (a .partners)
 values-count a = let n = length-append (a .entries) (length (a .partners) ∷ a .partners) in omega arith
@@ -65,9 +65,9 @@ pub same-value : {n v w : ℕ} → refusal n v ≡ refusal n w → v ≡ w
 same-value e = ap (λ (x : Reply). getD (x .values) 0 0) e
 
 given-named : {buffer : List ℕ} {o : Option Answer} {answer : LineAnswer} {after : List ℕ} → Given buffer o answer after → (number value : ℕ) → answer ≡ Refused number value
-    → (0 < number) × (number ≤ bufferTooShort)
-given-named no-answer number value h = let same : noReading ≡ number = cc in omega arith
-given-named (too-short l) number value h = let same : bufferTooShort ≡ number = cc in omega arith
+    → LineNumber number
+given-named no-answer number value h = let same : noReading ≡ number = cc in inr (omega arith)
+given-named (too-short l) number value h = let same : bufferTooShort ≡ number = cc in inr (omega arith)
 given-named (enough l) number value h = read-refused h
 
 -- A book and a line that can be read.
@@ -154,18 +154,18 @@ module _ (book line : Bytes) (B : Book) (words : Words) (r : Readable book line 
 module _ (book line : Bytes) (buffer : List ℕ) where
   -- Either the book or the line was refused, or there is something to read.
   data Came : LineAnswer → List ℕ → Type 0 where
-    refused-before : {number value : ℕ} → (0 < number) × (number ≤ bufferTooShort) → Came (Refused number value) buffer
+    refused-before : {number value : ℕ} → LineNumber number → Came (Refused number value) buffer
     came-to-read : {B : Book} {words : Words} {answer : LineAnswer} {after : List ℕ} (r : Readable book line B words)
         → Given buffer (firstOf book line B words r) answer after → Came answer after
 
   came-by-line : (B : Book) → parse book ≡ accepted B → (c : LineCheck) → lineCheck B line ≡ c → NamedLine c → Came (readAgainst B c buffer .answer) (readAgainst B c buffer .buffer)
   unfolding readAgainst
-  came-by-line B e (stopped number value) l named = refused-before {number = number} (omega arith)
+  came-by-line B e (stopped number value) l named = refused-before {number = number} (inr (omega arith))
   came-by-line B e (passed words) l named = let r : Readable book line B words = record { book-accepted = e; line-passed = l } in came-to-read r (given-is buffer (firstOf book line B words r))
 
   came-by-book : (p : Parsed) → parse book ≡ p → NamedParse p → Came (readParsed p line buffer .answer) (readParsed p line buffer .buffer)
   unfolding readParsed
-  came-by-book (refused number value) e named = refused-before {number = number} (omega arith)
+  came-by-book (refused number value) e named = refused-before {number = number} (inl named)
   came-by-book (accepted B) e named = came-by-line B e (lineCheck B line) refl (line-named B line)
 
   came : Came (outcome book line buffer .answer) (outcome book line buffer .buffer)
@@ -177,7 +177,7 @@ module _ (book line : Bytes) (buffer : List ℕ) where
 
   written-came : {answer : LineAnswer} {after : List ℕ} → Came answer after → lineReply answer after .number ≡ 0
       → (B : Book) × (words : Words) × Readable book line B words × Written B words buffer (lineReply answer after .values) after
-  written-came (refused-before named) h = absurd (omega arith)
+  written-came (refused-before named) h = absurd (omega (arith, line-some named))
   written-came (came-to-read {B} {words} r g) h = (B, words, r, written-of book line B words r g refl h)
 
   counted-came : {answer : LineAnswer} {after : List ℕ} → Came answer after → (n : ℕ) → answer ≡ Read n → n ≡ length (lineReply answer after .values)
@@ -185,8 +185,8 @@ module _ (book line : Bytes) (buffer : List ℕ) where
   counted-came (came-to-read {B} {words} r g) n h = counted-of book line B words r g n h
 
   named-came : {answer : LineAnswer} {after : List ℕ} → Came answer after → (number value : ℕ) → answer ≡ Refused number value
-      → (0 < number) × (number ≤ bufferTooShort)
-  named-came (refused-before {number = m} named) number value h = let same : m ≡ number = cc in omega arith
+      → LineNumber number
+  named-came (refused-before {number = m} named) number value h = let same : m ≡ number = cc in subst LineNumber same named
   named-came (came-to-read r g) number value h = given-named g number value h
 
   given-read : (B : Book) (words : Words) (r : Readable book line B words) → Given buffer (firstOf book line B words r) (outcome book line buffer .answer) (outcome book line buffer .buffer)
@@ -194,7 +194,7 @@ module _ (book line : Bytes) (buffer : List ℕ) where
       subst (λ (x : Outcome LineAnswer). Given buffer (firstOf book line B words r) (x .answer) (x .buffer)) (sym (outcome-read book line B words r buffer))
       (given-is buffer (firstOf book line B words r))
 
-  pub refusals-within : (number value : ℕ) → outcome book line buffer .answer ≡ Refused number value → (0 < number) × (number ≤ bufferTooShort)
+  pub refusals-within : (number value : ℕ) → outcome book line buffer .answer ≡ Refused number value → LineNumber number
   refusals-within = named-came came
 
   pub outcome-promised : Promised book line buffer (outcome book line buffer .answer) (outcome book line buffer .buffer)

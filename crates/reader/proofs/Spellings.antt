@@ -13,8 +13,8 @@ use Rattle.order.specs.Closed.{below}
 use Rattle.linking.specs.Linking.{firstSome, linkedTo, firstWithin, unlinkedAt, firstFrom, firstLinking}
 use Rattle.linking.specs.Reading.{NumberedEntry, answer, firstEntry, firstBehind, firstTarget, firstReading}
 use Rattle.format.specs.Records.{Bytes, every, twoBytes, sameBytes}
-use Rattle.format.specs.Names.{nameByte, isName}
-use Rattle.book.specs.Format.{Entry, exponentOf, simplesOf, isEntry, exponentListed, bodyRules, recordRules, firstBroken, add, ended, recordsFrom, parse}
+use Rattle.format.specs.Names.{nameByte, isName, numberOf}
+use Rattle.book.specs.Format.{of-simples, Entry, exponentOf, simplesOf, isWorded, isEntry, exponentListed, bodyRules, recordRules, firstBroken, add, ended, recordsFrom, parse}
 use Rattle.book.proofs.PaperBooks.{typeRecord, entryRecord, targetRecord, join, types, entries, fetch, bed4, ward7, firstBook}
 use Rattle.line.specs.LineWords.{wordsFrom}
 use Rattle.lookup.specs.Capitals.{small, sameWord, DifferInCase, same-rest, same-record, respelt}
@@ -67,7 +67,7 @@ spelt-apart =
     (same-record 1 (117 ∷ [])
     (same-record 2 (3 ∷ 2 ∷ [])
     (same-record 4 (0 ∷ [])
-    (respelt Fetch fetch (0 ∷ 0 ∷ 1 ∷ 255 ∷ []) refl same-rest))))))
+    (respelt of-simples Fetch fetch (0 ∷ 0 ∷ 1 ∷ 255 ∷ []) refl same-rest))))))
 
 pub as-the-first-book : (line : Bytes) (buffer : List ℕ) → outcome twoSpellings line buffer ≡ outcome firstBook line buffer
 as-the-first-book = same-books-outcome twoSpellings firstBook spelt-apart
@@ -88,7 +88,7 @@ pub spelt-lines :
     ++ outcomes signs (((91 ∷ []) ∷ []) ∷ ((96 ∷ []) ∷ []) ∷ ((123 ∷ []) ∷ []) ∷ ((64 ∷ []) ∷ []) ∷ [])
     ≡ expected (some (answer 0 (1 ∷ 2 ∷ 3 ∷ []) (1 ∷ 5 ∷ 4 ∷ 3 ∷ 2 ∷ []))) ∷ expected (some (answer 0 (0 ∷ 2 ∷ []) (1 ∷ 3 ∷ 2 ∷ []))) ∷ expected (some (answer 0 (0 ∷ 2 ∷ []) (1 ∷ 3 ∷ 2 ∷ [])))
     ∷ expected (some (answer 0 (0 ∷ []) (1 ∷ []))) ∷ expected (some (answer 0 (1 ∷ []) (1 ∷ []))) ∷ unknown ∷ unknown ∷ []
-unfolding every twoBytes nameByte isName exponentOf simplesOf isEntry exponentListed sameBytes bodyRules recordRules firstBroken add ended recordsFrom parse even sameExponent contracts firstSome linkedTo firstWithin unlinkedAt firstFrom firstLinking firstEntry firstBehind firstTarget firstReading below small sameWord wordsFrom entriesFrom byteFault wordFault entryFault simplesIn simplesOfWords lineCheck given readAgainst readParsed
+unfolding every twoBytes nameByte isName exponentOf simplesOf isWorded isEntry exponentListed sameBytes numberOf bodyRules recordRules firstBroken add ended recordsFrom parse even sameExponent contracts firstSome linkedTo firstWithin unlinkedAt firstFrom firstLinking firstEntry firstBehind firstTarget firstReading below small sameWord wordsFrom entriesFrom byteFault wordFault entryFault simplesIn simplesOfWords lineCheck given readAgainst readParsed
 spelt-lines = refl
 
 -- A word 22 times in a line: with an entry of 12 simple types under one spelling they are 264 together, under two 528, which is 14.
@@ -106,5 +106,5 @@ unfolding sameBytes small sameWord entriesFrom simplesIn simplesOfWords
 both-counted = refl
 
 pub too-many-together : outcome (heavyBook (Fetch ∷ fetch ∷ [])) (lineOf (replicate 22 FETCH)) lent ≡ record { answer = Refused tooManySimples 0; buffer = lent }
-unfolding every twoBytes nameByte isName exponentOf simplesOf isEntry exponentListed sameBytes bodyRules recordRules firstBroken add ended recordsFrom parse small sameWord wordsFrom entriesFrom byteFault wordFault entryFault simplesIn simplesOfWords lineCheck readAgainst readParsed
+unfolding every twoBytes nameByte isName exponentOf simplesOf isWorded isEntry exponentListed sameBytes numberOf bodyRules recordRules firstBroken add ended recordsFrom parse small sameWord wordsFrom entriesFrom byteFault wordFault entryFault simplesIn simplesOfWords lineCheck readAgainst readParsed
 too-many-together = refl

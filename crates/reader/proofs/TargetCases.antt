@@ -11,8 +11,8 @@ use Rattle.order.specs.Closed.{below}
 use Rattle.linking.specs.Linking.{firstSome, linkedTo, firstWithin, unlinkedAt, firstFrom, firstLinking}
 use Rattle.linking.specs.Reading.{answer, firstEntry, firstBehind, firstTarget, firstReading}
 use Rattle.format.specs.Records.{Bytes, every, twoBytes, sameBytes}
-use Rattle.format.specs.Names.{nameByte, isName}
-use Rattle.book.specs.Format.{exponentOf, simplesOf, isEntry, exponentListed, bodyRules, recordRules, firstBroken, add, ended, recordsFrom, parse}
+use Rattle.format.specs.Names.{nameByte, isName, numberOf}
+use Rattle.book.specs.Format.{exponentOf, simplesOf, isWorded, isEntry, exponentListed, bodyRules, recordRules, firstBroken, add, ended, recordsFrom, parse}
 use Rattle.book.proofs.PaperBooks.{typeRecord, pairRecord, entryRecord, targetRecord, join, go, site, ward7, please}
 use Rattle.line.specs.LineWords.{wordsFrom}
 use Rattle.lookup.specs.Capitals.{small, sameWord}
@@ -55,7 +55,7 @@ pub targets-apart :
     ∷ expected none
     ∷ record { answer = Refused tooManyTargets 117; buffer = lent }
     ∷ []
-unfolding every twoBytes nameByte isName exponentOf simplesOf isEntry exponentListed sameBytes bodyRules recordRules firstBroken add ended recordsFrom parse even sameExponent contracts firstSome linkedTo firstWithin unlinkedAt firstFrom firstLinking firstEntry firstBehind firstTarget firstReading below small sameWord wordsFrom entriesFrom byteFault wordFault entryFault simplesIn simplesOfWords lineCheck given readAgainst readParsed
+unfolding every twoBytes nameByte isName exponentOf simplesOf isWorded isEntry exponentListed sameBytes numberOf bodyRules recordRules firstBroken add ended recordsFrom parse even sameExponent contracts firstSome linkedTo firstWithin unlinkedAt firstFrom firstLinking firstEntry firstBehind firstTarget firstReading below small sameWord wordsFrom entriesFrom byteFault wordFault entryFault simplesIn simplesOfWords lineCheck given readAgainst readParsed
 targets-apart = refl
 
 -- p ≤ o and p ≤ k. A first target below the second, and one above it; then partners that go by the target: the same choice leaves its last
@@ -76,12 +76,12 @@ pub targets-in-order :
     ∷ expected (some (answer 0 (4 ∷ []) (4 ∷ 3 ∷ 2 ∷ 1 ∷ 5 ∷ [])))
     ∷ expected (some (answer 0 (4 ∷ []) (1 ∷ 5 ∷ 4 ∷ 3 ∷ 2 ∷ [])))
     ∷ []
-unfolding every twoBytes nameByte isName exponentOf simplesOf isEntry exponentListed sameBytes bodyRules recordRules firstBroken add ended recordsFrom parse even sameExponent contracts firstSome linkedTo firstWithin unlinkedAt firstFrom firstLinking firstEntry firstBehind firstTarget firstReading below small sameWord wordsFrom entriesFrom byteFault wordFault entryFault simplesIn simplesOfWords lineCheck given readAgainst readParsed
+unfolding every twoBytes nameByte isName exponentOf simplesOf isWorded isEntry exponentListed sameBytes numberOf bodyRules recordRules firstBroken add ended recordsFrom parse even sameExponent contracts firstSome linkedTo firstWithin unlinkedAt firstFrom firstLinking firstEntry firstBehind firstTarget firstReading below small sameWord wordsFrom entriesFrom byteFault wordFault entryFault simplesIn simplesOfWords lineCheck given readAgainst readParsed
 targets-in-order = refl
 
 -- An answer of one word and one simple type takes five values.
 pub one-value-too-few :
     outcome (bookOf [] (0 ∷ 1 ∷ [])) site (replicate 4 7) ∷ outcome (bookOf [] (0 ∷ 1 ∷ [])) site (replicate 5 7) ∷ []
     ≡ record { answer = Refused bufferTooShort 5; buffer = replicate 4 7 } ∷ record { answer = Read 5; buffer = 1 ∷ 1 ∷ 2 ∷ 1 ∷ 1 ∷ [] } ∷ []
-unfolding every twoBytes nameByte isName exponentOf simplesOf isEntry exponentListed sameBytes bodyRules recordRules firstBroken add ended recordsFrom parse even sameExponent contracts firstSome linkedTo firstWithin unlinkedAt firstFrom firstLinking firstEntry firstBehind firstTarget firstReading below small sameWord wordsFrom entriesFrom byteFault wordFault entryFault simplesIn simplesOfWords lineCheck given readAgainst readParsed
+unfolding every twoBytes nameByte isName exponentOf simplesOf isWorded isEntry exponentListed sameBytes numberOf bodyRules recordRules firstBroken add ended recordsFrom parse even sameExponent contracts firstSome linkedTo firstWithin unlinkedAt firstFrom firstLinking firstEntry firstBehind firstTarget firstReading below small sameWord wordsFrom entriesFrom byteFault wordFault entryFault simplesIn simplesOfWords lineCheck given readAgainst readParsed
 one-value-too-few = refl

@@ -4,11 +4,11 @@ use Prim.Native.Nat.{ℕ, _+_, _≤_, _<_}
 use mathlib.Core.Path.{_≡_}
 use mathlib.Core.Bool.{true}
 use mathlib.Core.Logic.{_↔_, _⊎_}
-use mathlib.Core.List.{List, [], _∷_, _++_, map}
+use mathlib.Core.List.{List, [], _∷_, _++_, map, List·Memᴰ}
 use mathlib.Core.Option.{none, some}
 use lib.ListN.{length}
 use Rattle.figures.specs.Limits.{maxBook, maxTypes, maxTargets}
-use Rattle.figures.specs.Refusals.{Reply}
+use Rattle.figures.specs.Refusals.{Reply, exponentOutside}
 use Rattle.pregroup.specs.Types.{Basic, PregroupType, plain, leftAdjoint, rightAdjoint}
 use Rattle.pregroup.specs.Order.{Relation, IsOrder, AllDeclared}
 use Rattle.pregroup.specs.Steps.{Chain, Contractions}
@@ -28,10 +28,18 @@ use Rattle.order.specs.Rows.{Hold, pairsIn}
 use Rattle.order.proofs.Decision.{below-decides}
 use Rattle.order.proofs.Counting.{pairs-in-closed}
 use Rattle.format.specs.Records.{Bytes, recordOf}
-use Rattle.book.specs.Format.{Book, accepted, parse, nothingYet, recordsFrom}
+use Rattle.slash.specs.Grammar.{Tree, IsType}
+use Rattle.slash.specs.Brackets.{TooDeep, tooDeep}
+use Rattle.slash.specs.Trees.{treeOf}
+use Rattle.slash.proofs.BracketLaws.{deep-exactly}
+use Rattle.slash.proofs.TreeLaws.{tree-sound, tree-complete, one-tree}
+use Rattle.book.specs.Format.{Book, accepted, parse, nothingYet, recordsFrom, slashed, typePart, bodyRules, firstBroken}
+use Rattle.book.specs.TextRules.{TextRuled}
 use Rattle.book.specs.Check.{bookCheck, checkReply, BookPromised}
 use Rattle.book.proofs.Parsing.{bound-never-ends}
 use Rattle.book.proofs.Promises.{check-promised, one-answer}
+use Rattle.book.proofs.Slashed.{no-exponent-fault}
+use Rattle.book.proofs.TextRules.{text-ruled}
 use Rattle.lookup.specs.Capitals.{small, smallBytes, sameWord, DifferInCase}
 use Rattle.lookup.proofs.CapitalLaws.{CapitalOf, NoCapital, alike-exactly, same-reflexive, same-symmetric, same-transitive, equal-words, same-without-capitals}
 use Rattle.line.specs.LineFaults.{entriesOfLine}
@@ -39,8 +47,10 @@ use Rattle.line.specs.Promise.{LookUpPromised}
 use Rattle.line.proofs.PromiseLaws.{look-up-kept}
 use Rattle.reader.specs.declared.LineAnswer.the-variants.{Refused}
 use Rattle.reader.specs.Outcome.{outcomeReply, outcome}
-use Rattle.reader.specs.Demands.{OrderOf, Readable, Promised}
+use Rattle.reader.specs.Demands.{OrderOf, Readable, Promised, LineNumber}
 use Rattle.reader.proofs.Promises.{outcome-promised, refusals-within}
+use Rattle.reader.proofs.Notations.{SameWithBoth, notation-outcome}
+use Rattle.book.specs.Notation.{DifferInNotation}
 use Rattle.reader.proofs.Capitals.{small-line-outcome, same-books-outcome}
 use Rattle.reader.proofs.SeveralTargets.{one-target-outcome, repeated-target-outcome}
 use Rattle.reader.proofs.Table.{Case, lineOf, cases, lent, expected, paper-cases}
@@ -135,6 +145,32 @@ no-others-without-capitals = same-without-capitals
 pub case-of-a-book : (a b : Bytes) → DifferInCase a b → (line : Bytes) (buffer : List ℕ) → outcome a line buffer ≡ outcome b line buffer
 case-of-a-book = same-books-outcome
 
+-- Types written with slashes (document 02, 2.5). No text has two trees.
+pub one-tree-of-a-text : {text : Bytes} {T U : Tree} → IsType text T → IsType text U → T ≡ U
+one-tree-of-a-text = one-tree
+
+-- The computed tree of a text is its tree by the grammar.
+pub computed-tree-exactly : (text : Bytes) (T : Tree) → (treeOf text ≡ some T) ↔ IsType text T
+computed-tree-exactly text T = (tree-sound text T, tree-complete text T)
+
+-- The test for 19 is exact.
+pub too-deep-exactly : (text : Bytes) → (tooDeep text ≡ true) ↔ TooDeep text
+too-deep-exactly = deep-exactly
+
+-- A slashed entry breaks 19, 20, 5 and 21 exactly when the grammar says so of its text, and 6 only with 19.
+pub rules-of-a-text : (body : Bytes) (names : List Bytes) (entries targets : ℕ)
+    → TextRuled names (typePart body) (λ n. List·Memᴰ (n, true) (bodyRules slashed body names entries targets))
+rules-of-a-text = text-ruled
+
+-- So 6 is never the first that a slashed entry breaks.
+pub no-six-for-a-text : (body : Bytes) (names : List Bytes) (entries targets : ℕ) → firstBroken (bodyRules slashed body names entries targets) ≡ exponentOutside → ⊥
+no-six-for-a-text = no-exponent-fault
+
+-- Books that differ only in that entries of kind 3 stand as slashed entries of the same type give every line the same outcome, or are refused with the
+-- same number.
+pub notation-of-a-book : (a b : Bytes) → DifferInNotation nothingYet a b → length a ≤ maxBook → length b ≤ maxBook → SameWithBoth a b
+notation-of-a-book = notation-outcome
+
 -- The look-up of a line's words finds exactly the entries of each, all of them, in the book's order, and 13, 14 and the choice go by what it finds.
 pub look-up-is-exact : (B : Book) (line : Bytes) → LookUpPromised B line (entriesOfLine B line)
 look-up-is-exact = look-up-kept
@@ -148,9 +184,9 @@ module _ (book line : Bytes) (buffer : List ℕ) where
   pub promises-kept : Promised book line buffer (outcome book line buffer .answer) (outcome book line buffer .buffer)
   promises-kept = outcome-promised book line buffer
 
-  -- A refusal has a number from 1 to 16; 0 stands for success.
-  pub refusals-from-1-to-16 : (number value : ℕ) → outcome book line buffer .answer ≡ Refused number value → (1 ≤ number) × (number ≤ 16)
-  refusals-from-1-to-16 = refusals-within book line buffer
+  -- A refusal has a number from 1 to 16 or from 19 to 21; 0 stands for success.
+  pub refusals-of-a-line : (number value : ℕ) → outcome book line buffer .answer ≡ Refused number value → LineNumber number
+  refusals-of-a-line = refusals-within book line buffer
 
 -- A book with one target takes the readings that it takes for this target, with 0 in front of the values.
 pub one-target-answers : (book line : Bytes) (B : Book) (words : Words) (s : Basic) → Readable book line B words → B .targets ≡ s ∷ [] → (ns P buffer : List ℕ)

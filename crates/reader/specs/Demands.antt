@@ -5,13 +5,14 @@ use mathlib.Core.Path.{_≡_}
 use mathlib.Core.Logic.{_↔_, _⊎_}
 use mathlib.Core.List.{List, [], _∷_, _++_}
 use lib.ListN.{length, drop}
-use Rattle.figures.specs.Refusals.{refusal, noReading, bufferTooShort}
+use Rattle.figures.specs.Refusals.{refusal, noTarget, noReading, bufferTooShort}
 use Rattle.pregroup.specs.Types.{PregroupType, plain}
 use Rattle.pregroup.specs.Order.{Relation}
 use Rattle.pregroup.specs.Steps.{Chain}
 use Rattle.order.specs.Closed.{Closed, Listed}
 use Rattle.format.specs.Records.{Bytes}
 use Rattle.book.specs.Format.{Book, accepted, parse}
+use Rattle.book.specs.Check.{BookNumber}
 use Rattle.linking.specs.Reading.{Words, Choice, targetAt, IsReading, IsFirst, answer}
 use Rattle.line.specs.LineFaults.{passed, lineCheck}
 use Rattle.reader.specs.declared.LineAnswer.{LineAnswer}
@@ -69,3 +70,7 @@ pub record Promised (book line : Bytes) (buffer : List ℕ) (answer : LineAnswer
   -- 15 with 0, exactly when no choice of entries can be turned into any of the targets by a chain.
   pub unread : (B : Book) (words : Words) → Readable book line B words
       → (lineReply answer after ≡ refusal noReading 0) ↔ NoChain B words
+
+-- The numbers that a line is refused with: its book's, or from 11 to 16.
+abbrev pub LineNumber : ℕ → Type 0
+LineNumber n = BookNumber n ⊎ ((noTarget < n) × (n ≤ bufferTooShort))

@@ -9,38 +9,41 @@ use Rattle.pregroup.specs.Order.{Relation}
 use Rattle.pregroup.specs.Tests.{Test, Decides}
 use Rattle.pregroup.specs.Held.{InRows}
 use Rattle.order.specs.Closed.{below}
-use Rattle.format.specs.Records.{Bytes}
+use Rattle.format.specs.Records.{Bytes, bodiesAt}
+use Rattle.format.specs.Names.{Named}
 use Rattle.book.specs.Format.{Book, accepted, refused, parse}
 use Rattle.book.specs.declared.Scan.{Scan}
 use Rattle.book.specs.declared.Scan.the-variants.{Accepted, Refused}
 use Rattle.linking.specs.Reading.{Words, targetAt}
-use Rattle.lookup.specs.Entries.{entriesKept}
+use Rattle.lookup.specs.Entries.{KeptOf}
 use Rattle.lookup.specs.Threads.{Alike}
 use Rattle.line.specs.Passing.{AllKnown, AllBrief}
 use Rattle.graph.specs.Graph.{Graph, Upward}
 use Rattle.graph.specs.Layout.{End, Laid}
-use Rattle.graph.specs.Cells.{Lexicon}
 use Rattle.graph.specs.Lists.{endAt, nodesWith}
 use Rattle.bits.specs.Rows.{HasRow, InRow}
 
--- The book is B, its entries are kept at these offsets and threaded by their keys, the rows hold its order, and these are its targets.
-pub record Open (bytes : Bytes) (offsets : List ℕ) (count : ℕ) (alike rows targets : List ℕ) (B : Book) : Type 0 where
+-- The book is B, its basic types and its entries are kept at these offsets, the entries threaded by their keys, the rows hold its order, and these are
+-- its targets.
+pub record Open (bytes : Bytes) (names : List ℕ) (types : ℕ) (offsets : List ℕ) (count : ℕ) (alike rows targets : List ℕ) (B : Book) : Type 0 where
   pub parsed : parse bytes ≡ accepted B
-  pub entries : B .entries ≡ entriesKept bytes offsets count
-  pub lexicon : Lexicon bytes offsets count
+  pub named : Named bytes names types
+  pub type-names : B .names ≡ bodiesAt bytes names types
+  pub kept : KeptOf bytes offsets count B
   pub threaded : Alike bytes offsets count alike
   pub decides : Decides (below (length (B .names)) (B .pairs)) (InRows rows)
   pub chosen : B .targets ≡ targets
   pub few-targets : length targets ≤ maxTargets
 
 -- Some book is open.
-abbrev pub IsOpen : Bytes → List ℕ → ℕ → List ℕ → List ℕ → List ℕ → Type 0
-IsOpen bytes offsets count alike rows targets = (B : Book) × Open bytes offsets count alike rows targets B
+abbrev pub IsOpen : Bytes → List ℕ → ℕ → List ℕ → ℕ → List ℕ → List ℕ → List ℕ → Type 0
+IsOpen bytes names types offsets count alike rows targets = (B : Book) × Open bytes names types offsets count alike rows targets B
 
 -- What opening a book comes to: it is open, and its targets are the first ones kept; or it is refused.
-abbrev pub OpeningSays : Bytes → List ℕ → List ℕ → List ℕ → List ℕ → Scan → Type 0
-OpeningSays bytes offsets alike rows kept (Accepted types count goals) = IsOpen bytes offsets count alike rows (take goals kept) × (goals ≤ length kept)
-OpeningSays bytes offsets alike rows kept (Refused number value) = parse bytes ≡ refused number value
+abbrev pub OpeningSays : Bytes → List ℕ → List ℕ → List ℕ → List ℕ → List ℕ → Scan → Type 0
+OpeningSays bytes names offsets alike rows kept (Accepted types count goals) =
+    IsOpen bytes names types offsets count alike rows (take goals kept) × (goals ≤ length kept)
+OpeningSays bytes names offsets alike rows kept (Refused number value) = parse bytes ≡ refused number value
 
 -- The graph is that of these words, n of them, and the targets behind the last boundary; its edges go up, its lists have room, and the test
 -- decides the order.

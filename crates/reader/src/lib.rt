@@ -17,6 +17,7 @@ use figures::limits::MAX_WORDS;
 use figures::limits::TABLE_WORDS;
 use figures::refusals::BUFFER_TOO_SHORT;
 use figures::refusals::NO_READING;
+use format::names::NAME_PLACES;
 use graph::layout::lay_out;
 use line::CheckedLine;
 use line::words::check_line;
@@ -26,6 +27,7 @@ use lookup::keys::thread_entries;
 ghost use Prim.Native.Nat.{_≤_};
 ghost use lib.ListN.{length};
 ghost use Rattle.figures.specs.Limits.{maxEntries};
+ghost use Rattle.format.specs.Names.{namePlaces};
 ghost use Rattle.lookup.specs.Threads.{NoneAlike};
 ghost use Rattle.reader.specs.Outcome.{outcome, Gives};
 ghost use Rattle.reader.specs.Demands.{Promised};
@@ -38,7 +40,7 @@ pub enum LineAnswer {
     Refused { number: u32, value: usize },
 }
 
-// What opening a book gives beside the offsets and the threads of its entries: what its records come to, its closed order, and its targets.
+// What opening a book gives beside the offsets of its basic types and entries and the threads of these: what its records come to, its closed order, and its targets.
 // Rows and targets of a refused book mean nothing.
 pub struct Opening {
     pub scan: Scan,
@@ -46,16 +48,16 @@ pub struct Opening {
     pub targets: [u8; MAX_TARGETS],
 }
 
-// Opens a book: its records are scanned, with the offsets of its entries kept in `entries`, these are threaded by their keys in `alike`, and its order
-// is closed.
-pub fn open_book(book: &[u8], entries: &mut [u16], alike: &mut [u16]) -> Opening
-    requires { ⌜ (maxEntries ≤ length (now entries)) × NoneAlike (now alike) ⌝ }
-    ensures { λ r. ⌜ OpeningSays (now (book .entry)) (now (entries .exit)) (now (alike .exit)) (r .rows) (r .targets) (r .scan) ⌝ }
+// Opens a book: its records are scanned, with the offsets of its basic types kept in `names` and those of its entries in `entries`, these are threaded
+// by their keys in `alike`, and its order is closed.
+pub fn open_book(book: &[u8], names: &mut [u16], entries: &mut [u16], alike: &mut [u16]) -> Opening
+    requires { ⌜ (namePlaces ≤ length (now names)) × (maxEntries ≤ length (now entries)) × NoneAlike (now alike) ⌝ }
+    ensures { λ r. ⌜ OpeningSays (now (book .entry)) (now (names .exit)) (now (entries .exit)) (now (alike .exit)) (r .rows) (r .targets)
+        (r .scan) ⌝ }
 {
-    let mut names = [0u16; MAX_TYPES];
     let mut direct = [0u64; MAX_TYPES];
     let mut targets = [0u8; MAX_TARGETS];
-    let scan = scan_book(book, &mut names, entries, &mut direct, &mut targets);
+    let scan = scan_book(book, names, entries, &mut direct, &mut targets);
     match scan {
         Scan::Refused {
             number: _,
@@ -101,6 +103,8 @@ fn first_target(chart: &[u64], last: usize, count: usize) -> usize
 // Reads a line against an open book.
 pub fn read_open(
     book: &[u8],
+    names: &[u16],
+    types: usize,
     offsets: &[u16],
     count: usize,
     alike: &[u16],
@@ -109,7 +113,7 @@ pub fn read_open(
     line: &[u8],
     answer: &mut [u16],
 ) -> LineAnswer
-    requires { ⌜ IsOpen (now book) (now offsets) count (now alike) (now order) (now targets) ⌝ }
+    requires { ⌜ IsOpen (now book) (now names) types (now offsets) count (now alike) (now order) (now targets) ⌝ }
     ensures { λ r. ⌜ Gives (outcome (now (book .entry)) (now (line .entry)) (now (answer .entry))) r (now (answer .exit)) ⌝ }
 {
     let mut firsts = [0u16; MAX_WORDS];
@@ -127,6 +131,8 @@ pub fn read_open(
     let mut numbers = [0u16; MAX_NODES];
     let last = lay_out(
         book,
+        names,
+        types,
         offsets,
         count,
         &same,
@@ -207,20 +213,23 @@ pub fn read_line(book: &[u8], line: &[u8], answer: &mut [u16]) -> LineAnswer
     ensures { λ r. ⌜ Gives (outcome (now (book .entry)) (now (line .entry)) (now (answer .entry))) r (now (answer .exit)) ⌝ }
     ensures { λ r. ⌜ Promised (now (book .entry)) (now (line .entry)) (now (answer .entry)) r (now (answer .exit)) ⌝ }
 {
+    let mut names = [0u16; NAME_PLACES];
     let mut entries = [0u16; MAX_ENTRIES];
     let mut alike = [NO_ENTRY; PLACES];
-    let opening = open_book(book, &mut entries, &mut alike);
+    let opening = open_book(book, &mut names, &mut entries, &mut alike);
     let rows = opening.rows;
     let targets = opening.targets;
     let scan = opening.scan;
     match scan {
         Scan::Refused { number, value } => LineAnswer::Refused { number, value },
         Scan::Accepted {
-            types: _,
+            types,
             entries: count,
             targets: goals,
         } => read_open(
             book,
+            &names,
+            types,
             &entries,
             count,
             &alike,

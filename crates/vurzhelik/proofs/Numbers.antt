@@ -12,7 +12,7 @@ use Rattle.book.specs.declared.BookCheck.{BookCheck}
 use Rattle.book.specs.declared.BookCheck.the-variants.{Accepted, Refused}
 use Rattle.reader.specs.declared.LineAnswer.the-variants.{Refused as RefusedLine}
 use Rattle.reader.specs.Outcome.{outcome}
-use Rattle.reader.proofs.Refusals.{NamedParse, parse-named}
+use Rattle.reader.proofs.Refusals.{book-some, line-some, NamedParse, parse-named}
 use Rattle.reader.proofs.Promises.{refusals-within}
 use Rattle.batch.specs.declared.BatchAnswer.the-variants.{Refused as RefusedBatch}
 use Rattle.batch.specs.Batch.{batchOutcome}
@@ -28,7 +28,7 @@ check-named bytes = go (parse bytes) (parse-named bytes)
   where
     go : (p : Parsed) → NamedParse p → NamedCheck (answerFor p)
     go (accepted B) named = tt
-    go (refused number value) named = λ z. omega (arith, named .0)
+    go (refused number value) named = λ z. omega (arith, book-some named)
 
 -- The laws that the functions use.
 
@@ -44,9 +44,9 @@ accepted-checks bytes before types entries pairs e =
     (record { same-number = refl; accepted = λ _. (refl, refl); refused = λ some. absurd (some refl) })
 
 pub refused-answers : (book line : Bytes) (buffer : List ℕ) (number value : ℕ) → RefusedLine number value ≡ outcome book line buffer .answer → RefusedLine number value ≡ answerOf number value
-refused-answers book line buffer number value e = rw (ne-eqb number 0 (λ z. omega (arith, refusals-within book line buffer number value (sym e) .0)))
+refused-answers book line buffer number value e = rw (ne-eqb number 0 (λ z. omega (arith, line-some (refusals-within book line buffer number value (sym e)))))
 
 pub refused-batch : (book batch : Bytes) (buffer : List ℕ) (number value : ℕ) → RefusedBatch number value ≡ batchOutcome book batch buffer .answer
     → RefusedBatch number value ≡ batchAnswerOf number value
 refused-batch book batch buffer number value e =
-    rw (ne-eqb number 0 (λ z. ⊎-elim (λ named. omega (arith, named .0)) (λ late. ⊎-elim (λ q. omega arith) (λ q. omega arith) late) (batch-refusals book batch buffer number value (sym e))))
+    rw (ne-eqb number 0 (λ z. ⊎-elim (λ named. omega (arith, book-some named)) (λ late. ⊎-elim (λ q. omega arith) (λ q. omega arith) late) (batch-refusals book batch buffer number value (sym e))))

@@ -19,7 +19,7 @@ ghost use Rattle.vurzhelik.specs.Version.{version};
 // The version of the interface. `specs/Version` has the same numbers for the contract, and `include/vurzhelik.h` for callers.
 const MAJOR: u32 = 2;
 
-const MINOR: u32 = 0;
+const MINOR: u32 = 1;
 
 const PATCH: u32 = 0;
 

@@ -41,8 +41,11 @@ slice-aggregate-open-book c = search needs
 slice-aggregate-open-book-2 : tie.Need-slice-aggregate-open-book-2
 slice-aggregate-open-book-2 c = search needs
 
+slice-aggregate-open-book-3 : tie.Need-slice-aggregate-open-book-3
+slice-aggregate-open-book-3 c = search needs
+
 open-book-requires : tie.Need-open-book-requires
-open-book-requires c κs = (omega arith, none-alike)
+open-book-requires c κs = (omega arith, omega arith, none-alike)
 
 enum-known-scan : tie.Need-enum-known-scan
 enum-known-scan c = search needs
@@ -59,20 +62,23 @@ slice-aggregate-read-parts-2 c = search needs
 slice-aggregate-read-parts-3 : tie.Need-slice-aggregate-read-parts-3
 slice-aggregate-read-parts-3 c = search needs
 
-array-share-prefix-targets : tie.Need-array-share-prefix-targets
-array-share-prefix-targets c = let o = rw (c .before .before .before .before .scan2 .given .1) at (c .before .before .before .before .before .before .before .before .before .before .open-book .ensures) in omega (arith, o .1)
-
 slice-aggregate-read-parts-4 : tie.Need-slice-aggregate-read-parts-4
-slice-aggregate-read-parts-4 c = let o = rw (c .before .before .before .before .before .scan2 .given .1) at (c .before .before .before .before .before .before .before .before .before .before .before .open-book .ensures) in sym (length-take-le _ _ (o .1))
+slice-aggregate-read-parts-4 c = search needs
+
+array-share-prefix-targets : tie.Need-array-share-prefix-targets
+array-share-prefix-targets c = let o = rw (c .before .before .before .before .before .scan2 .given .1) at (c .before .before .before .before .before .before .before .before .before .before .before .before .open-book .ensures) in omega (arith, o .1)
 
 slice-aggregate-read-parts-5 : tie.Need-slice-aggregate-read-parts-5
-slice-aggregate-read-parts-5 c = search needs
+slice-aggregate-read-parts-5 c = let o = rw (c .before .before .before .before .before .before .scan2 .given .1) at (c .before .before .before .before .before .before .before .before .before .before .before .before .before .open-book .ensures) in sym (length-take-le _ _ (o .1))
+
+slice-aggregate-read-parts-6 : tie.Need-slice-aggregate-read-parts-6
+slice-aggregate-read-parts-6 c = search needs
 
 read-parts-requires : tie.Need-read-parts-requires
 read-parts-requires c κs =
-    let k = c .before .before .before .before .before .before .before .before .before .before .before .before .before .before .before in
+    let k = c .before .before .before .before .before .before .before .before .before .before .before .before .before .before .before .before .before .before in
     let s = k .before .before .before .before .before .before .before in
-    let o = rw (c .before .before .before .before .before .before .scan2 .given .1) at (c .before .before .before .before .before .before .before .before .before .before .before .before .open-book .ensures) in
+    let o = rw (c .before .before .before .before .before .before .before .scan2 .given .1) at (c .before .before .before .before .before .before .before .before .before .before .before .before .before .before .open-book .ensures) in
     (o .0, can-store (s .args .book .now) (s .args .lines .now) (s .args .answers .now) (split k .0) (split k .1))
 
 slice-aggregate-copy-front : tie.Need-slice-aggregate-copy-front
@@ -83,18 +89,18 @@ copy-front-requires c κs = search needs
 
 returns-2 : tie.Need-returns-2
 returns-2 c =
-    let k = c .before .before .before .before .before .before .before .before .before .before .before .before .before .before .before .before .before .before in
+    let k = c .before .before .before .before .before .before .before .before .before .before .before .before .before .before .before .before .before .before .before .before .before in
     let s = k .before .before .before .before .before .before .before in
-    let opened = rw (c .before .before .before .before .before .before .before .before .before .scan2 .given .1) at (c .before .before .before .before .before .before .before .before .before .before .before .before .before .before .before .open-book .ensures) in
+    let opened = rw (c .before .before .before .before .before .before .before .before .before .before .scan2 .given .1) at (c .before .before .before .before .before .before .before .before .before .before .before .before .before .before .before .before .before .open-book .ensures) in
     let read = c .before .before .read-parts in
     let g = gives-too-long (s .args .book .now) (s .args .lines .now) (s .args .answers .now) (split k .0) (split k .1) (opened .0 .1 .parsed) (read .result) _ (read .ensures) (omega arith) in
     (g, gives-batch-promised _ _ _ g)
 
 returns-3 : tie.Need-returns-3
 returns-3 c =
-    let k = c .before .before .before .before .before .before .before .before .before .before in
+    let k = c .before .before .before .before .before .before .before .before .before .before .before .before in
     let s = k .before .before .before .before .before .before .before in
-    let g = gives-bad-book (s .args .book .now) (s .args .lines .now) (s .args .answers .now) (split k .0) (split k .1) (rw (c .before .scan .given .1) at (c .before .before .before .before .before .before .before .open-book .ensures)) in
+    let g = gives-bad-book (s .args .book .now) (s .args .lines .now) (s .args .answers .now) (split k .0) (split k .1) (rw (c .before .scan .given .1) at (c .before .before .before .before .before .before .before .before .open-book .ensures)) in
     (g, gives-batch-promised _ _ _ g)
 
 same-length : tie.Need-same-length
@@ -102,9 +108,9 @@ same-length c = search needs
 
 returns-4 : tie.Need-returns-4
 returns-4 c =
-    let k = c .before .before .before .before .before .before .before .before .before .before .before .before .before .before .before .before .before .before .before .before .before .before .before in
+    let k = c .before .before .before .before .before .before .before .before .before .before .before .before .before .before .before .before .before .before .before .before .before .before .before .before .before .before in
     let s = k .before .before .before .before .before .before .before in
-    let opened = rw (c .before .before .before .before .before .before .before .before .before .before .before .before .before .before .scan2 .given .1) at (c .before .before .before .before .before .before .before .before .before .before .before .before .before .before .before .before .before .before .before .before .open-book .ensures) in
+    let opened = rw (c .before .before .before .before .before .before .before .before .before .before .before .before .before .before .before .scan2 .given .1) at (c .before .before .before .before .before .before .before .before .before .before .before .before .before .before .before .before .before .before .before .before .before .before .open-book .ensures) in
     let read = c .before .before .before .before .before .before .before .read-parts in
     let copied = c .before .before .copy-front .ensures in
     let g = gives-answers (s .args .book .now) (s .args .lines .now) (s .args .answers .now) (split k .0) (split k .1) (opened .0 .1 .parsed) (read .result) _ (read .ensures) _ (split k .2) (omega arith) in
@@ -120,15 +126,17 @@ read-batch-spec =
     returns
     slice-aggregate-open-book
     slice-aggregate-open-book-2
+    slice-aggregate-open-book-3
     open-book-requires
     enum-known-scan
     enum-known-scan-2
     slice-aggregate-read-parts
     slice-aggregate-read-parts-2
     slice-aggregate-read-parts-3
-    array-share-prefix-targets
     slice-aggregate-read-parts-4
+    array-share-prefix-targets
     slice-aggregate-read-parts-5
+    slice-aggregate-read-parts-6
     read-parts-requires
     returns-2
     slice-aggregate-copy-front

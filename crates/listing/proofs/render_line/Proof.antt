@@ -2,7 +2,7 @@
 use borrow.Author.Needs.{needs}
 use native.Mathlib.Omega.{arith}
 use Rattle.format.specs.Records.{bodiesAt}
-use Rattle.lookup.specs.Entries.{entriesKept}
+use Rattle.book.specs.Kept.{entriesAt}
 use Rattle.listing.proofs.Rendering.{line-stopped, line-split}
 use Rattle.listing.proofs.render_line.Statement.{statement}
 use Rattle.listing.proofs.render_line.Tie as tie
@@ -42,7 +42,7 @@ same-length c = search needs
 returns : tie.Need-returns
 returns c =
     let a = c .before .before .before .before .before .before .before .before .before .before .before .before .before .before .before .before .before .before .args in
-    rw (← line-stopped (bodiesAt (a .book .now) (a .names .now) (a .types)) (entriesKept (a .book .now) (a .offsets .now) (a .count)) (a .values .now) (rw (c .before .before .before .before .before .found .given .1) at (c .before .before .before .before .before .before .before .before .before .split .ensures))) (c .before .before .render-refusal .ensures)
+    rw (← line-stopped (bodiesAt (a .book .now) (a .names .now) (a .types)) (entriesAt (a .book .now) (bodiesAt (a .book .now) (a .names .now) (a .types)) (a .offsets .now) (a .count)) (a .values .now) (rw (c .before .before .before .before .before .found .given .1) at (c .before .before .before .before .before .before .before .before .before .split .ensures))) (c .before .before .render-refusal .ensures)
 
 same-length-2 : tie.Need-same-length-2
 same-length-2 c = search needs
@@ -51,7 +51,7 @@ returns-2 : tie.Need-returns-2
 returns-2 c =
     let a = c .before .before .before .before .before .before .before .before .before .before .before .before .before .before .before .before .before .before .before .before .args in
     let s = rw (c .before .before .before .before .before .before .before .found2 .given .1) at (c .before .before .before .before .before .before .before .before .before .before .before .split .ensures) in
-    rw (← line-split (bodiesAt (a .book .now) (a .names .now) (a .types)) (entriesKept (a .book .now) (a .offsets .now) (a .count)) (a .line .now) (c .before .before .before .before .before .before .before .before .before .before .before .split .last .1 .0) (c .before .before .before .before .before .before .before .before .before .before .before .split .last .1 .1 .0) (c .before .before .before .before .before .before .before .found2 .given .0 .0) (a .values .now) s) (c .before .before .render-values .ensures)
+    rw (← line-split (bodiesAt (a .book .now) (a .names .now) (a .types)) (entriesAt (a .book .now) (bodiesAt (a .book .now) (a .names .now) (a .types)) (a .offsets .now) (a .count)) (a .line .now) (c .before .before .before .before .before .before .before .before .before .before .before .split .last .1 .0) (c .before .before .before .before .before .before .before .before .before .before .before .split .last .1 .1 .0) (c .before .before .before .before .before .before .before .found2 .given .0 .0) (a .values .now) s) (c .before .before .render-values .ensures)
 
 pub render-line-spec : {M : Type 1} → statement M
 render-line-spec =

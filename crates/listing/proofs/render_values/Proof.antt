@@ -2,8 +2,8 @@
 use borrow.Author.Needs.{needs}
 use native.Mathlib.Omega.{arith}
 use Rattle.format.specs.Records.{bodiesAt}
+use Rattle.book.specs.Kept.{entriesAt}
 use Rattle.line.specs.LineWords.{wordsOf}
-use Rattle.lookup.specs.Entries.{entriesKept}
 use Rattle.listing.specs.Listing.{answerRows}
 use Rattle.listing.proofs.Bounds.{values-countable}
 use Rattle.listing.proofs.Rendering.{answer-parts, renders-short, renders-written}
@@ -29,7 +29,7 @@ put-reading-requires : tie.Need-put-reading-requires
 put-reading-requires c κs =
     let a = c .before .before .before .before .before .before .before .before .before .before .before .before .args in
     let names = bodiesAt (a .book .now) (a .names .now) (a .types) in
-    let entries = entriesKept (a .book .now) (a .offsets .now) (a .count) in
+    let entries = entriesAt (a .book .now) names (a .offsets .now) (a .count) in
     let parts = answer-parts names entries (wordsOf (a .line .now)) (a .values .now) (c .before .before .before .value-at .result) (c .before .before .counted .result .now) (c .before .counted2 .result .now) (c .before .before .before .value-at .ensures) (c .before .before .counted .ensures) (c .before .counted2 .ensures) in (
       c .before .before .before .before .before .before .before .before .before .before .before .before .pre,
       rw parts (values-countable (a .book .now) (a .names .now) (a .types) (a .offsets .now) (a .count) (c .before .before .before .before .before .before .before .before .before .before .before .before .pre .0)
@@ -40,7 +40,7 @@ returns : tie.Need-returns
 returns c =
     let a = c .before .before .before .before .before .before .before .before .before .before .before .before .before .before .before .args in
     let names = bodiesAt (a .book .now) (a .names .now) (a .types) in
-    let entries = entriesKept (a .book .now) (a .offsets .now) (a .count) in
+    let entries = entriesAt (a .book .now) names (a .offsets .now) (a .count) in
     let parts = answer-parts names entries (wordsOf (a .line .now)) (a .values .now) (c .before .before .before .before .before .before .value-at .result) (c .before .before .before .before .before .counted .result .now) (c .before .before .before .before .counted2 .result .now) (c .before .before .before .before .before .before .value-at .ensures) (c .before .before .before .before .before .counted .ensures) (c .before .before .before .before .counted2 .ensures) in
     let count = rw parts at (c .before .before .put-reading .ensures) in
     renders-short (answerRows names entries (wordsOf (a .line .now)) (a .values .now)) (a .text .now) (count .next) (c .if1 .taken)
@@ -49,7 +49,7 @@ put-reading-requires-2 : tie.Need-put-reading-requires-2
 put-reading-requires-2 c κs =
     let a = c .before .before .before .before .before .before .before .before .before .before .before .before .before .before .before .before .args in
     let names = bodiesAt (a .book .now) (a .names .now) (a .types) in
-    let entries = entriesKept (a .book .now) (a .offsets .now) (a .count) in
+    let entries = entriesAt (a .book .now) names (a .offsets .now) (a .count) in
     let parts = answer-parts names entries (wordsOf (a .line .now)) (a .values .now) (c .before .before .before .before .before .before .before .value-at .result) (c .before .before .before .before .before .before .counted .result .now) (c .before .before .before .before .before .counted2 .result .now) (c .before .before .before .before .before .before .before .value-at .ensures) (c .before .before .before .before .before .before .counted .ensures) (c .before .before .before .before .before .counted2 .ensures) in (
       c .before .before .before .before .before .before .before .before .before .before .before .before .before .before .before .before .pre,
       rw parts (values-countable (a .book .now) (a .names .now) (a .types) (a .offsets .now) (a .count) (c .before .before .before .before .before .before .before .before .before .before .before .before .before .before .before .before .pre .0)
@@ -63,7 +63,7 @@ returns-2 : tie.Need-returns-2
 returns-2 c =
     let a = c .before .before .before .before .before .before .before .before .before .before .before .before .before .before .before .before .before .before .before .args in
     let names = bodiesAt (a .book .now) (a .names .now) (a .types) in
-    let entries = entriesKept (a .book .now) (a .offsets .now) (a .count) in
+    let entries = entriesAt (a .book .now) names (a .offsets .now) (a .count) in
     let parts = answer-parts names entries (wordsOf (a .line .now)) (a .values .now) (c .before .before .before .before .before .before .before .before .before .before .value-at .result) (c .before .before .before .before .before .before .before .before .before .counted .result .now) (c .before .before .before .before .before .before .before .before .counted2 .result .now) (c .before .before .before .before .before .before .before .before .before .before .value-at .ensures) (c .before .before .before .before .before .before .before .before .before .counted .ensures) (c .before .before .before .before .before .before .before .before .counted2 .ensures) in
     let count = rw parts at (c .before .before .before .before .before .before .put-reading .ensures) in
     renders-written (answerRows names entries (wordsOf (a .line .now)) (a .values .now)) (a .text .now) (count .next) (c .before .before .before .before .if1 .left) (rw parts at (c .before .before .put-reading2 .ensures))

@@ -13,8 +13,11 @@ slice-aggregate-open-book c = search needs
 slice-aggregate-open-book-2 : tie.Need-slice-aggregate-open-book-2
 slice-aggregate-open-book-2 c = search needs
 
+slice-aggregate-open-book-3 : tie.Need-slice-aggregate-open-book-3
+slice-aggregate-open-book-3 c = search needs
+
 open-book-requires : tie.Need-open-book-requires
-open-book-requires c κs = (omega arith, none-alike)
+open-book-requires c κs = (omega arith, omega arith, none-alike)
 
 enum-known-scan : tie.Need-enum-known-scan
 enum-known-scan c = search needs
@@ -31,19 +34,22 @@ slice-aggregate-read-open-2 c = search needs
 slice-aggregate-read-open-3 : tie.Need-slice-aggregate-read-open-3
 slice-aggregate-read-open-3 c = search needs
 
-array-share-prefix-targets : tie.Need-array-share-prefix-targets
-array-share-prefix-targets c = let o = rw (c .before .before .before .before .scan2 .given .1) at (c .before .before .before .before .before .before .before .before .before .before .open-book .ensures) in omega (arith, o .1)
-
 slice-aggregate-read-open-4 : tie.Need-slice-aggregate-read-open-4
-slice-aggregate-read-open-4 c = let o = rw (c .before .before .before .before .before .scan2 .given .1) at (c .before .before .before .before .before .before .before .before .before .before .before .open-book .ensures) in sym (length-take-le _ _ (o .1))
+slice-aggregate-read-open-4 c = search needs
+
+array-share-prefix-targets : tie.Need-array-share-prefix-targets
+array-share-prefix-targets c = let o = rw (c .before .before .before .before .before .scan2 .given .1) at (c .before .before .before .before .before .before .before .before .before .before .before .before .open-book .ensures) in omega (arith, o .1)
+
+slice-aggregate-read-open-5 : tie.Need-slice-aggregate-read-open-5
+slice-aggregate-read-open-5 c = let o = rw (c .before .before .before .before .before .before .scan2 .given .1) at (c .before .before .before .before .before .before .before .before .before .before .before .before .before .open-book .ensures) in sym (length-take-le _ _ (o .1))
 
 read-open-requires : tie.Need-read-open-requires
-read-open-requires c κs = let o = rw (c .before .before .before .before .before .before .scan2 .given .1) at (c .before .before .before .before .before .before .before .before .before .before .before .before .open-book .ensures) in o .0
+read-open-requires c κs = let o = rw (c .before .before .before .before .before .before .before .scan2 .given .1) at (c .before .before .before .before .before .before .before .before .before .before .before .before .before .before .open-book .ensures) in o .0
 
 returns : tie.Need-returns
 returns c =
-    let s = c .before .before .before .before .before .before .before .before .before .before .before .before .before in
-    let g = gives-book-refused (s .args .book .now) (s .args .line .now) (s .args .answer .now) (rw (c .before .scan .given .1) at (c .before .before .before .before .before .before .before .open-book .ensures)) in
+    let s = c .before .before .before .before .before .before .before .before .before .before .before .before .before .before .before in
+    let g = gives-book-refused (s .args .book .now) (s .args .line .now) (s .args .answer .now) (rw (c .before .scan .given .1) at (c .before .before .before .before .before .before .before .before .open-book .ensures)) in
     (g, gives-promised _ _ _ g)
 
 same-length : tie.Need-same-length
@@ -60,14 +66,16 @@ read-line-spec =
     (tie.spec
     slice-aggregate-open-book
     slice-aggregate-open-book-2
+    slice-aggregate-open-book-3
     open-book-requires
     enum-known-scan
     enum-known-scan-2
     slice-aggregate-read-open
     slice-aggregate-read-open-2
     slice-aggregate-read-open-3
-    array-share-prefix-targets
     slice-aggregate-read-open-4
+    array-share-prefix-targets
+    slice-aggregate-read-open-5
     read-open-requires
     returns
     same-length

@@ -25,16 +25,16 @@ slice-aggregate-check-line-2 : tie.Need-slice-aggregate-check-line-2
 slice-aggregate-check-line-2 c = search needs
 
 check-line-requires : tie.Need-check-line-requires
-check-line-requires c κs = (c .before .before .before .before .before .before .before .before .before .pre .1 .lexicon .entries, c .before .before .before .before .before .before .before .before .before .pre .1 .threaded, none-same _ _ _, omega arith)
+check-line-requires c κs = ((c .before .before .before .before .before .before .before .before .before .before .pre .0, c .before .before .before .before .before .before .before .before .before .before .pre .1 .kept), c .before .before .before .before .before .before .before .before .before .before .pre .1 .threaded, none-same _ _ _, omega arith)
 
 enum-known-checked : tie.Need-enum-known-checked
 enum-known-checked c = search needs
 
 returns : tie.Need-returns
 returns c =
-    let s = c .before .before .before .before .before .before .before .before .before .before .before .before .before .before .before in
+    let s = c .before .before .before .before .before .before .before .before .before .before .before .before .before .before .before .before in
     let o = s .pre .1 in
-    gives-line-refused _ _ _ (o .parsed) ((rw (c .before .checked .given .1) at (c .before .before .before .before .before .check-line .ensures)) (s .pre .0) (o .entries))
+    gives-line-refused _ _ _ (o .parsed) ((rw (c .before .checked .given .1) at (c .before .before .before .before .before .check-line .ensures)) (s .pre .0) (o .kept))
 
 enum-known-checked-2 : tie.Need-enum-known-checked-2
 enum-known-checked-2 c = search needs
@@ -67,31 +67,31 @@ lay-out-requires : tie.Need-lay-out-requires
 lay-out-requires c κs =
     let said = rw (c .before .before .before .before .before .before .before .before .before .checked2 .given .1) at (c .before .before .before .before .before .before .before .before .before .before .before .before .before .check-line .ensures) in
     let kept = c .before .before .before .before .before .before .before .before .before .before .before .before .before .check-line .kept .1 .1 .1 .1 .1 in
-    line-fits (c .before .before .before .before .before .before .before .before .before .before .before .before .before .before .before .before .before .before .before .before .before .before .before .pre .1) (said (c .before .before .before .before .before .before .before .before .before .before .before .before .before .before .before .before .before .before .before .before .before .before .before .pre .0) (c .before .before .before .before .before .before .before .before .before .before .before .before .before .before .before .before .before .before .before .before .before .before .before .pre .1 .entries)) (omega (arith, kept .1 .0)) (omega (arith, kept .0))
+    line-fits (c .before .before .before .before .before .before .before .before .before .before .before .before .before .before .before .before .before .before .before .before .before .before .before .before .pre .1) (said (c .before .before .before .before .before .before .before .before .before .before .before .before .before .before .before .before .before .before .before .before .before .before .before .before .pre .0) (c .before .before .before .before .before .before .before .before .before .before .before .before .before .before .before .before .before .before .before .before .before .before .before .before .pre .1 .kept)) (omega (arith, kept .1 .0)) (omega (arith, kept .0))
     (record { simples = omega arith; nexts = omega arith; froms = omega arith; tos = omega arith; enters = omega arith })
     (omega arith) (record { nexts = zeros maxNodes; tos = zeros maxNodes })
 
 -- The lists behind the layout keep their lengths, and the graph is that of the line's words.
 module _ (c : tie.After-lay-out) where
   abbrev the-lists : Lists
-  the-lists = let m = c .lay-out .last .1 .1 .1 .1 .1 .1 .1 in lists (m .0) (m .1 .0) (m .1 .1 .0) (m .1 .1 .1 .0) (m .1 .1 .1 .1 .0) (m .1 .1 .1 .1 .1 .0)
+  the-lists = let m = c .lay-out .last .1 .1 .1 .1 .1 .1 .1 .1 .1 in lists (m .0) (m .1 .0) (m .1 .1 .0) (m .1 .1 .1 .0) (m .1 .1 .1 .1 .0) (m .1 .1 .1 .1 .1 .0)
 
   abbrev the-book : Book
-  the-book = c .before .before .before .before .before .before .before .before .before .before .before .before .before .before .before .before .before .before .before .before .before .before .before .before .pre .0
+  the-book = c .before .before .before .before .before .before .before .before .before .before .before .before .before .before .before .before .before .before .before .before .before .before .before .before .before .pre .0
 
   numbers-long : length (the-lists .cells .numbers) ≡ maxNodes
-  numbers-long = c .lay-out .kept .1 .1 .1 .1 .1 .1 .1 .1 .1 .1 .1 .1 .0
+  numbers-long = c .lay-out .kept .1 .1 .1 .1 .1 .1 .1 .1 .1 .1 .1 .1 .1 .1 .0
 
   drawn :
-      Drawn (below (length (the-book .names)) (the-book .pairs)) (InRows (c .before .before .before .before .before .before .before .before .before .before .before .before .before .before .before .before .before .before .before .before .before .before .before .before .args .order .now)) (graphOf (nodesWith (c .lay-out .result) (length (c .before .before .before .before .before .before .before .before .before .before .before .before .before .before .before .before .before .before .before .before .before .before .before .before .args .targets .now))) the-lists)
-      (the-lists .cells .numbers) (c .before .before .before .before .before .before .before .before .before .before .before .before .before .before .before .before .before .before .before .before .before .before .before .before .args .targets .now) (c .lay-out .result) (c .before .before .before .before .before .before .before .before .before .before .checked2 .given .0 .0) (entriesOfLine the-book (c .before .before .before .before .before .before .before .before .before .before .before .before .before .before .before .before .before .before .before .before .before .before .before .before .args .line .now))
+      Drawn (below (length (the-book .names)) (the-book .pairs)) (InRows (c .before .before .before .before .before .before .before .before .before .before .before .before .before .before .before .before .before .before .before .before .before .before .before .before .before .args .order .now)) (graphOf (nodesWith (c .lay-out .result) (length (c .before .before .before .before .before .before .before .before .before .before .before .before .before .before .before .before .before .before .before .before .before .before .before .before .before .args .targets .now))) the-lists)
+      (the-lists .cells .numbers) (c .before .before .before .before .before .before .before .before .before .before .before .before .before .before .before .before .before .before .before .before .before .before .before .before .before .args .targets .now) (c .lay-out .result) (c .before .before .before .before .before .before .before .before .before .before .checked2 .given .0 .0) (entriesOfLine the-book (c .before .before .before .before .before .before .before .before .before .before .before .before .before .before .before .before .before .before .before .before .before .before .before .before .before .args .line .now))
   drawn =
-      let enters-long : length (the-lists .cells .enters) ≡ maxNodes = c .lay-out .kept .1 .1 .1 .1 .1 .1 .1 .1 .1 .1 .1 .0 in
+      let enters-long : length (the-lists .cells .enters) ≡ maxNodes = c .lay-out .kept .1 .1 .1 .1 .1 .1 .1 .1 .1 .1 .1 .1 .1 .0 in
       let said = rw (c .before .before .before .before .before .before .before .before .before .before .checked2 .given .1) at (c .before .before .before .before .before .before .before .before .before .before .before .before .before .before .check-line .ensures) in
-      line-drawn (c .before .before .before .before .before .before .before .before .before .before .before .before .before .before .before .before .before .before .before .before .before .before .before .before .pre .1) (said the-book (c .before .before .before .before .before .before .before .before .before .before .before .before .before .before .before .before .before .before .before .before .before .before .before .before .pre .1 .entries)) (c .lay-out .ensures) (omega (arith, enters-long, numbers-long))
+      line-drawn (c .before .before .before .before .before .before .before .before .before .before .before .before .before .before .before .before .before .before .before .before .before .before .before .before .before .pre .1) (said the-book (c .before .before .before .before .before .before .before .before .before .before .before .before .before .before .before .before .before .before .before .before .before .before .before .before .before .pre .1 .kept)) (c .lay-out .ensures) (omega (arith, enters-long, numbers-long))
 
-  passed-line : lineCheck the-book (c .before .before .before .before .before .before .before .before .before .before .before .before .before .before .before .before .before .before .before .before .before .before .before .before .args .line .now) ≡ passed (entriesOfLine the-book (c .before .before .before .before .before .before .before .before .before .before .before .before .before .before .before .before .before .before .before .before .before .before .before .before .args .line .now))
-  passed-line = (rw (c .before .before .before .before .before .before .before .before .before .before .checked2 .given .1) at (c .before .before .before .before .before .before .before .before .before .before .before .before .before .before .check-line .ensures)) the-book (c .before .before .before .before .before .before .before .before .before .before .before .before .before .before .before .before .before .before .before .before .before .before .before .before .pre .1 .entries) .0
+  passed-line : lineCheck the-book (c .before .before .before .before .before .before .before .before .before .before .before .before .before .before .before .before .before .before .before .before .before .before .before .before .before .args .line .now) ≡ passed (entriesOfLine the-book (c .before .before .before .before .before .before .before .before .before .before .before .before .before .before .before .before .before .before .before .before .before .before .before .before .before .args .line .now))
+  passed-line = (rw (c .before .before .before .before .before .before .before .before .before .before .checked2 .given .1) at (c .before .before .before .before .before .before .before .before .before .before .before .before .before .before .check-line .ensures)) the-book (c .before .before .before .before .before .before .before .before .before .before .before .before .before .before .before .before .before .before .before .before .before .before .before .before .before .pre .1 .kept) .0
 
 add-nodes : tie.Need-add-nodes
 add-nodes c = let d = drawn (c .before .before .before .before .before .before) in omega (arith, d .few)
@@ -134,7 +134,7 @@ first-target-requires c κs = ends-there (drawn (c .before .before .before .befo
 -- What the definition answers, by what the graph gives.
 returns-2 : tie.Need-returns-2
 returns-2 c =
-    let s = c .before .before .before .before .before .before .before .before .before .before .before .before .before .before .before .before .before .before .before .before .before .before .before .before .before .before .before .before .before .before .before .before .before .before .before .before .before .before .before .before .before in
+    let s = c .before .before .before .before .before .before .before .before .before .before .before .before .before .before .before .before .before .before .before .before .before .before .before .before .before .before .before .before .before .before .before .before .before .before .before .before .before .before .before .before .before .before in
     let o = s .pre .1 in
     let d = drawn (c .before .before .before .before .before .before .before .before .before .before .before .before .before .before .before .before .before) in
     gives-outcome _ _ _ (o .parsed) (passed-line (c .before .before .before .before .before .before .before .before .before .before .before .before .before .before .before .before .before)) (o .chosen)
@@ -142,7 +142,7 @@ returns-2 c =
 
 -- The target that is chosen.
 module _ (c : tie.Else1) where
-  there : c .before .first-target .result < length (c .before .before .before .before .before .before .before .before .before .before .before .before .before .before .before .before .before .before .before .before .before .before .before .before .before .before .before .before .before .before .before .before .before .before .before .before .before .before .before .before .before .args .targets .now)
+  there : c .before .first-target .result < length (c .before .before .before .before .before .before .before .before .before .before .before .before .before .before .before .before .before .before .before .before .before .before .before .before .before .before .before .before .before .before .before .before .before .before .before .before .before .before .before .before .before .before .args .targets .now)
   there = target-there (drawn (c .before .before .before .before .before .before .before .before .before .before .before .before .before .before .before .before .before)) (c .before .before .before .before .fill .ensures) (c .before .first-target .ensures) (c .if1 .left)
 
 add-end : tie.Need-add-end
@@ -217,7 +217,7 @@ add-needed-2 c = omega (arith, drawn (c .before .before .before .before .before 
 
 returns-3 : tie.Need-returns-3
 returns-3 c =
-    let s = c .before .before .before .before .before .before .before .before .before .before .before .before .before .before .before .before .before .before .before .before .before .before .before .before .before .before .before .before .before .before .before .before .before .before .before .before .before .before .before .before .before .before .before .before .before .before .before .before .before .before .before .before .before .before .before .before .before .before in
+    let s = c .before .before .before .before .before .before .before .before .before .before .before .before .before .before .before .before .before .before .before .before .before .before .before .before .before .before .before .before .before .before .before .before .before .before .before .before .before .before .before .before .before .before .before .before .before .before .before .before .before .before .before .before .before .before .before .before .before .before .before in
     let o = s .pre .1 in
     let k = c .before .before .before .before .before .before in
     gives-outcome _ _ _ (o .parsed) (passed-line (c .before .before .before .before .before .before .before .before .before .before .before .before .before .before .before .before .before .before .before .before .before .before .before .before .before .before .before .before .before .before .before .before .before .before)) (o .chosen)
@@ -251,7 +251,7 @@ same-length c = search needs
 
 returns-4 : tie.Need-returns-4
 returns-4 c =
-    let s = c .before .before .before .before .before .before .before .before .before .before .before .before .before .before .before .before .before .before .before .before .before .before .before .before .before .before .before .before .before .before .before .before .before .before .before .before .before .before .before .before .before .before .before .before .before .before .before .before .before .before .before .before .before .before .before .before .before .before .before .before .before .before .before .before .before .before .before in
+    let s = c .before .before .before .before .before .before .before .before .before .before .before .before .before .before .before .before .before .before .before .before .before .before .before .before .before .before .before .before .before .before .before .before .before .before .before .before .before .before .before .before .before .before .before .before .before .before .before .before .before .before .before .before .before .before .before .before .before .before .before .before .before .before .before .before .before .before .before .before in
     let o = s .pre .1 in
     let k = c .before .before .before .before .before .before .before .before .before .before .before .before .before .before .before in
     gives-outcome _ _ _ (o .parsed) (passed-line (c .before .before .before .before .before .before .before .before .before .before .before .before .before .before .before .before .before .before .before .before .before .before .before .before .before .before .before .before .before .before .before .before .before .before .before .before .before .before .before .before .before .before .before)) (o .chosen)

@@ -30,7 +30,7 @@ enum-known-answer c = search needs
 
 put-refusal-requires : tie.Need-put-refusal-requires
 put-refusal-requires c κs =
-    let s = c .before .before .before .before .before .before .before .before .before .before .before .before .before .before .before in
+    let s = c .before .before .before .before .before .before .before .before .before .before .before .before .before .before .before .before in
     let store = s .args .store .now in
     let given = c .before .before .answer .given in
     let g = rw (given .1) at (c .before .before .before .before .before .before .read-open .ensures) in
@@ -42,7 +42,7 @@ enum-known-answer-2 c = search needs
 
 put-head-requires : tie.Need-put-head-requires
 put-head-requires c κs =
-    let s = c .before .before .before .before .before .before .before .before .before .before .before .before .before .before .before in
+    let s = c .before .before .before .before .before .before .before .before .before .before .before .before .before .before .before .before in
     let store = s .args .store .now in
     let given = c .before .before .answer2 .given in
     let g = rw (given .1) at (c .before .before .before .before .before .before .read-open .ensures) in
@@ -54,7 +54,7 @@ same-length c = search needs
 
 returns : tie.Need-returns
 returns c =
-    let s = c .before .before .before .before .before .before .before .before .before .before .before .before .before .before .before .before .before .before in
+    let s = c .before .before .before .before .before .before .before .before .before .before .before .before .before .before .before .before .before .before .before in
     let store = s .args .store .now in
     let given = c .before .before .before .before .before .answer .given in
     let g = rw (given .1) at (c .before .before .before .before .before .before .before .before .before .read-open .ensures) in
@@ -67,7 +67,7 @@ same-length-2 c = search needs
 
 returns-2 : tie.Need-returns-2
 returns-2 c =
-    let s = c .before .before .before .before .before .before .before .before .before .before .before .before .before .before .before .before .before .before in
+    let s = c .before .before .before .before .before .before .before .before .before .before .before .before .before .before .before .before .before .before .before in
     let store = s .args .store .now in
     let given = c .before .before .before .before .before .answer2 .given in
     let g = rw (given .1) at (c .before .before .before .before .before .before .before .before .before .read-open .ensures) in

@@ -8,14 +8,14 @@ use Rattle.batch.proofs.parts.read_parts.Statement.{statement}
 use Rattle.batch.proofs.parts.read_parts.Tie as tie
 
 abbrev Inv-loop : tie.InvT-loop
-Inv-loop book offsets count alike order targets batch store₀ at₀ used₀ store at used = (length store ≡ length store₀) × Reading book batch store at used
+Inv-loop book names types offsets count alike order targets batch store₀ at₀ used₀ store at used = (length store ≡ length store₀) × Reading book batch store at used
 
 abbrev μ-loop : tie.MeasureT-loop
-μ-loop book offsets count alike order targets batch store₀ at₀ used₀ store at used = length batch - at
+μ-loop book names types offsets count alike order targets batch store₀ at₀ used₀ store at used = length batch - at
 
 loop-holds : tie.Need-loop-holds Inv-loop μ-loop
 loop-holds c =
-    let s = c .before .before .before .before .before .before .before in
+    let s = c .before .before .before .before .before .before .before .before in
     (refl, reading-starts (s .args .book .now) (s .args .batch .now) (s .args .store .now) (s .pre .1))
 
 find-byte-requires : tie.Need-find-byte-requires Inv-loop μ-loop
@@ -32,7 +32,7 @@ part-line-end c = omega arith
 
 read-part-requires : tie.Need-read-part-requires Inv-loop μ-loop
 read-part-requires c κs =
-    let s = c .before .before .before .before .before .before .before .before .before .before .before .before in
+    let s = c .before .before .before .before .before .before .before .before .before .before .before .before .before in
     let loop = c .before .before .before .before .loop in
     let batch = s .args .batch .now in
     let end = c .before .before .find-byte .result in
@@ -47,7 +47,7 @@ loop-less c = omega arith
 
 loop-again : tie.Need-loop-again Inv-loop μ-loop
 loop-again c =
-    let s = c .before .before .before .before .before .before .before .before .before .before .before .before .before .before .before in
+    let s = c .before .before .before .before .before .before .before .before .before .before .before .before .before .before .before .before in
     let loop = c .before .before .before .before .before .before .before .loop in
     let end = c .before .before .before .before .before .find-byte in
     let read = c .before .before .read-part in (
@@ -61,7 +61,7 @@ same-length c = omega arith
 returns : tie.Need-returns Inv-loop μ-loop
 returns c =
     let loop = c .before .loop in
-    let s = c .before .before .before .before .before .before .before .before .before in
+    let s = c .before .before .before .before .before .before .before .before .before .before in
     reading-ends (s .args .book .now) (s .args .batch .now) (loop .store) (loop .at) (loop .used) (omega arith) (loop .inv .1)
 
 pub read-parts-spec : {M : Type 1} → statement M

@@ -5,12 +5,12 @@ use mathlib.Core.Path.{ap, _∙_}
 use lib.ListN.{length, drop, length-drop}
 use lib.Seq.{take-all}
 use Prim.Native.Nat.{ℕ, _+_, _-_}
-use Rattle.book.proofs.Layouts.{entry-shape}
+use Rattle.book.proofs.Layouts.{word-shape}
 use Rattle.book.proofs.layout.type_part.Statement.{statement}
 use Rattle.book.proofs.layout.type_part.Tie as tie
 
 shared-slice-read-wide-byte : tie.Need-shared-slice-read-wide-byte
-shared-slice-read-wide-byte c = let s = entry-shape _ (c .before .before .pre) in omega arith
+shared-slice-read-wide-byte c = let s = word-shape _ (c .before .before .pre) in omega arith
 
 wide-byte-requires : tie.Need-wide-byte-requires
 wide-byte-requires c κs = search needs
@@ -19,10 +19,10 @@ add-start : tie.Need-add-start
 add-start c = search needs
 
 sub-result : tie.Need-sub-result
-sub-result c = let s = entry-shape _ (c .before .before .before .pre) in let e = c .wide-byte .ensures .0 in omega arith
+sub-result c = let s = word-shape _ (c .before .before .before .pre) in let e = c .wide-byte .ensures .0 in omega arith
 
 part-result-start : tie.Need-part-result-start
-part-result-start c = let s = entry-shape _ (c .before .before .before .pre) in let e = c .wide-byte .ensures .0 in omega arith
+part-result-start c = let s = word-shape _ (c .before .before .before .pre) in let e = c .wide-byte .ensures .0 in omega arith
 
 part-result-end : tie.Need-part-result-end
 part-result-end c = search needs

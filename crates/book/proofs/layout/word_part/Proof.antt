@@ -4,12 +4,12 @@ use native.Mathlib.Omega.{arith}
 use mathlib.Core.Path.{_≡_, ap, _∙_}
 use lib.ListN.{take, drop}
 use Prim.Native.Nat.{ℕ, _+_, _-_}
-use Rattle.book.proofs.Layouts.{entry-shape}
+use Rattle.book.proofs.Layouts.{word-shape}
 use Rattle.book.proofs.layout.word_part.Statement.{statement}
 use Rattle.book.proofs.layout.word_part.Tie as tie
 
 shared-slice-read-wide-byte : tie.Need-shared-slice-read-wide-byte
-shared-slice-read-wide-byte c = let s = entry-shape _ (c .before .before .pre) in omega arith
+shared-slice-read-wide-byte c = let s = word-shape _ (c .before .before .pre) in omega arith
 
 wide-byte-requires : tie.Need-wide-byte-requires
 wide-byte-requires c κs = search needs
@@ -24,7 +24,7 @@ part-result-start : tie.Need-part-result-start
 part-result-start c = search needs
 
 part-result-end : tie.Need-part-result-end
-part-result-end c = let s = entry-shape _ (c .before .before .before .pre) in let e = c .wide-byte .ensures .0 in omega arith
+part-result-end c = let s = word-shape _ (c .before .before .before .pre) in let e = c .wide-byte .ensures .0 in omega arith
 
 returns : tie.Need-returns
 returns c =

@@ -37,7 +37,8 @@ use denote.Triple.Walked.{says, needs, Stays, stay-none, stay-none-slice, walkOf
 use denote.Exit.{yes}
 use denote.Triple.Clauses.{ensured, lasts}
 use Rattle.book.specs.Format.{recordRules, firstBroken}
-use Rattle.format.specs.Records.{bodiesAt, Whole}
+use Rattle.format.specs.Records.{bodiesAt}
+use Rattle.format.specs.Names.{Named}
 use Rattle.book.specs.declared.RecordReader.{RecordReader}
 use Rattle.book.proofs.RecordReader as T
 use Rattle.book.proofs.RecordReader.Laws as T′
@@ -95,7 +96,7 @@ module _ {M : Type 1} (𝓤 : URA M) (H : Heap 𝓤) (A : Atoms 𝓤) (W : Given
 
   -- what is asked of a book and an offset, and what is said of them
   abbrev Asked : RefT (List ℕ) → ℕ → Type 0
-  Asked s i = (i ≤ length (now s)) × Whole (now s) (now names) t
+  Asked s i = (i ≤ length (now s)) × Named (now s) (now names) t
 
   abbrev found : RefT (List ℕ) → ℕ → ℕ
   found s i = firstBroken (recordRules (now s) i (bodiesAt (now s) (now names) t) n g)

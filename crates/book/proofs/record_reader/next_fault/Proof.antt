@@ -42,7 +42,8 @@ use denote.Triple.Walked.{says, needs, Stays, stay-none, stay-none-slice, walkOf
 use denote.Exit.{yes}
 use denote.Triple.Clauses.{ensured, lasts}
 use Rattle.book.specs.Format.{recordRules, firstBroken}
-use Rattle.format.specs.Records.{bodiesAt, Whole}
+use Rattle.format.specs.Records.{bodiesAt}
+use Rattle.format.specs.Names.{Named}
 use Rattle.book.specs.declared.RecordReader.{RecordReader}
 use Rattle.book.proofs.RecordReader as T
 use Rattle.book.proofs.RecordReader.Laws as T′
@@ -125,7 +126,7 @@ module _ {M : Type 1} (𝓤 : URA M) (H : Heap 𝓤) (A : Atoms 𝓤) (W : Given
   to = ((κs, (q, (q′, tt)), tt, passed, passed-vals), tt)
 
   abbrev Asked : Type 0
-  Asked = (d .at ≤ length (now (d .book))) × Whole (now (d .book)) (now names) t
+  Asked = (d .at ≤ length (now (d .book))) × Named (now (d .book)) (now names) t
 
   asked : Asked → ent 𝓤 (onEntry 𝓤 H A record-fault.signature κs (q, (q′, tt)) passed passed-vals) (RecordFault 𝓤 H A mem run .pre to)
   asked ok =

@@ -1,15 +1,16 @@
 -- `book::records::take_record` meets its contract: where no rule is broken, what the record says is put where the laws of Keeping expect it.
 use borrow.Author.Needs.{needs}
 use native.Mathlib.Omega.{arith}
-use mathlib.Core.Path.{_≡_, sym, ap, _∙_}
+use mathlib.Core.Path.{_≡_, sym, ap, subst, _∙_}
+use mathlib.Core.Logic.{inl, inr, ⊎-elim}
 use Prim.Native.Nat.{ℕ, _+_, _<_, _≤_}
 use lib.ListN.{length, getD}
-use Rattle.figures.specs.Limits.{maxTargets}
+use Rattle.figures.specs.Limits.{maxTypes, maxTargets, maxName}
 use Rattle.format.specs.Records.{Bytes, bodyAt, headLength, nextAt, kindAt}
 use Rattle.book.specs.Kept.{Store, store, Sound}
 use Rattle.book.specs.declared.Progress.{Progress}
-use Rattle.format.proofs.RecordLaws.{two-bytes-read}
-use Rattle.format.proofs.RecordLaws.{whole-length}
+use Rattle.format.proofs.RecordLaws.{two-bytes-read, whole-length}
+use Rattle.book.specs.Format.{EntryKind, of-simples, of-text}
 use Rattle.book.proofs.Keeping.{Found, fault-kept, whole, name-place, entry-place, pair-place, target-place, kind-left, name-taken, entry-taken, pair-taken, target-taken}
 use Rattle.book.proofs.records.take_record.Statement.{statement}
 use Rattle.book.proofs.records.take_record.Tie as tie
@@ -58,19 +59,24 @@ module _ (c : tie.After-body-at) where
 name-kind : (c : tie.At-match-keys1) → kindAt (bytes (c .before .before .before)) (p (c .before .before .before) .at) ≡ 1
 name-kind c = sym (two-bytes-read (c .before .two-bytes .ensures)) ∙ c .match .keys1
 
+name-fits : (c : tie.At-match-keys1) → (p (c .before .before .before) .types < maxTypes) × (1 ≤ length (body (c .before .before))) × (length (body (c .before .before)) ≤ maxName)
+name-fits c = name-place (bytes (c .before .before .before)) (kept (c .before .before .before)) (p (c .before .before .before)) (sound (c .before .before .before)) (found (c .before .before .before)) (name-kind c)
+
 pair-kind : (c : tie.At-match-keys2) → kindAt (bytes (c .before .before .before)) (p (c .before .before .before) .at) ≡ 2
 pair-kind c = sym (two-bytes-read (c .before .two-bytes .ensures)) ∙ c .match .keys2
 
 pair-fits : (c : tie.At-match-keys2) → (length (body (c .before .before)) ≡ 2) × (getD {A = ℕ} (body (c .before .before)) 0 0 < p (c .before .before .before) .types) × (getD {A = ℕ} (body (c .before .before)) 1 0 < p (c .before .before .before) .types)
 pair-fits c = pair-place (bytes (c .before .before .before)) (kept (c .before .before .before)) (p (c .before .before .before)) (sound (c .before .before .before)) (found (c .before .before .before)) (pair-kind c)
 
-entry-kind : (c : tie.At-match-keys3) → kindAt (bytes (c .before .before .before)) (p (c .before .before .before) .at) ≡ 3
-entry-kind c = sym (two-bytes-read (c .before .two-bytes .ensures)) ∙ c .match .keys3
+entry-kind : (c : tie.At-match-keys3) → EntryKind (kindAt (bytes (c .before .before .before)) (p (c .before .before .before) .at))
+entry-kind c =
+    let read = two-bytes-read (c .before .two-bytes .ensures) in
+    ⊎-elim (λ e. subst EntryKind (sym e ∙ read) of-simples) (λ e. subst EntryKind (sym e ∙ read) of-text) (c .match .keys3)
 
 target-kind : (c : tie.At-match-rest) → kindAt (bytes (c .before .before .before)) (p (c .before .before .before) .at) ≡ 4
 target-kind c =
     let none = c .match .rest in
-    kind-left (bytes (c .before .before .before)) (kept (c .before .before .before)) (p (c .before .before .before)) (sound (c .before .before .before)) (found (c .before .before .before)) _ (two-bytes-read (c .before .two-bytes .ensures)) (none .0 .0 .1) (none .0 .1) (none .1)
+    kind-left (bytes (c .before .before .before)) (kept (c .before .before .before)) (p (c .before .before .before)) (sound (c .before .before .before)) (found (c .before .before .before)) _ (two-bytes-read (c .before .two-bytes .ensures)) (none .0 .0 .1) (none .0 .1) (λ e. none .1 (inl e)) (λ e. none .1 (inr e))
 
 target-fits : (c : tie.At-match-rest) → (length (body (c .before .before)) ≡ 1) × (getD {A = ℕ} (body (c .before .before)) 0 0 < p (c .before .before .before) .types) × (p (c .before .before .before) .targets < maxTargets)
 target-fits c = target-place (bytes (c .before .before .before)) (kept (c .before .before .before)) (p (c .before .before .before)) (sound (c .before .before .before)) (found (c .before .before .before)) (target-kind c)
@@ -98,17 +104,16 @@ add-two-bytes c = search needs
 two-bytes-requires : tie.Need-two-bytes-requires
 two-bytes-requires c κs = omega (arith, all (c .before))
 
-cast-names : tie.Need-cast-names
-cast-names c = search needs
+keep-name-requires : tie.Need-keep-name-requires
+keep-name-requires c κs =
+    let k = c .before in
+    let fits = name-fits k in
+    let s = sound (k .before .before .before) in
+    let size = ap length (k .before .before .body-at .ensures) in
+    (fits .0, omega (arith, s .short, s .reached), s .roomy .names-room, omega (arith, fits .1), omega (arith, fits .2))
 
-mul-names : tie.Need-mul-names
-mul-names c = search needs
-
-slice-write-names : tie.Need-slice-write-names
-slice-write-names c = omega (arith, name-place (bytes (c .before .before .before)) (kept (c .before .before .before)) (p (c .before .before .before)) (sound (c .before .before .before)) (found (c .before .before .before)) (name-kind c), sound (c .before .before .before) .roomy .names-room)
-
-add-t23 : tie.Need-add-t23
-add-t23 c = search needs
+add-t25 : tie.Need-add-t25
+add-t25 c = search needs
 
 shared-slice-read-wide-byte : tie.Need-shared-slice-read-wide-byte
 shared-slice-read-wide-byte c = omega (arith, pair-fits (c .before) .0, ap length (c .before .before .before .body-at .ensures))
@@ -122,13 +127,13 @@ mul-with c = search needs
 slice-read-with : tie.Need-slice-read-with
 slice-read-with c =
     let s = sound (c .before .before .before .before .before .before) in
-    omega (arith, pair-fits (c .before .before .before) .1, s .few-types, s .roomy .rows, c .before .wide-byte .ensures .0, first-byte (c .before .before .before .before .before))
+    omega (arith, pair-fits (c .before .before .before) .1, s .named .few, s .roomy .rows, c .before .wide-byte .ensures .0, first-byte (c .before .before .before .before .before))
 
 shared-slice-read-with : tie.Need-shared-slice-read-with
 shared-slice-read-with c = omega (arith, pair-fits (c .before .before .before .before) .0, ap length (c .before .before .before .before .before .before .body-at .ensures))
 
 with-requires : tie.Need-with-requires
-with-requires c κs = omega (arith, pair-fits (c .before .before .before .before) .2, sound (c .before .before .before .before .before .before .before) .few-types, second-byte (c .before .before .before .before .before .before))
+with-requires c κs = omega (arith, pair-fits (c .before .before .before .before) .2, sound (c .before .before .before .before .before .before .before) .named .few, second-byte (c .before .before .before .before .before .before))
 
 mul-direct : tie.Need-mul-direct
 mul-direct c = search needs
@@ -136,7 +141,7 @@ mul-direct c = search needs
 slice-write-direct : tie.Need-slice-write-direct
 slice-write-direct c =
     let s = sound (c .before .before .before .before .before .before .before .before) in
-    omega (arith, pair-fits (c .before .before .before .before .before) .1, s .few-types, s .roomy .rows, c .before .before .before .wide-byte .ensures .0, first-byte (c .before .before .before .before .before .before .before))
+    omega (arith, pair-fits (c .before .before .before .before .before) .1, s .named .few, s .roomy .rows, c .before .before .before .wide-byte .ensures .0, first-byte (c .before .before .before .before .before .before .before))
 
 cast-entries : tie.Need-cast-entries
 cast-entries c = search needs
@@ -147,8 +152,8 @@ mul-entries c = search needs
 slice-write-entries : tie.Need-slice-write-entries
 slice-write-entries c = omega (arith, entry-place (bytes (c .before .before .before)) (kept (c .before .before .before)) (p (c .before .before .before)) (sound (c .before .before .before)) (found (c .before .before .before)) (entry-kind c), sound (c .before .before .before) .roomy .entries-room)
 
-add-t37 : tie.Need-add-t37
-add-t37 c = search needs
+add-t38 : tie.Need-add-t38
+add-t38 c = search needs
 
 shared-slice-read-targets : tie.Need-shared-slice-read-targets
 shared-slice-read-targets c = omega (arith, target-fits (c .before) .0, ap length (c .before .before .before .body-at .ensures))
@@ -156,14 +161,16 @@ shared-slice-read-targets c = omega (arith, target-fits (c .before) .0, ap lengt
 slice-write-targets : tie.Need-slice-write-targets
 slice-write-targets c = omega (arith, target-fits (c .before) .2, sound (c .before .before .before .before) .roomy .targets-room)
 
-add-t43 : tie.Need-add-t43
-add-t43 c = search needs
+add-t44 : tie.Need-add-t44
+add-t44 c = search needs
 
 same-length-2 : tie.Need-same-length-2
 same-length-2 c = search needs
 
 returns-2 : tie.Need-returns-2
-returns-2 c = name-taken (bytes (c .before .before .before)) (kept (c .before .before .before)) (p (c .before .before .before)) (sound (c .before .before .before)) (found (c .before .before .before)) _ (next-is (c .before .before)) (name-kind c)
+returns-2 c =
+    let k = c .before .before .before .before in
+    name-taken (bytes (k .before .before .before)) (kept (k .before .before .before)) (p (k .before .before .before)) (sound (k .before .before .before)) (found (k .before .before .before)) _ (next-is (k .before .before)) (name-kind k) _ (c .before .before .keep-name .ensures)
 
 same-length-3 : tie.Need-same-length-3
 same-length-3 c = search needs
@@ -206,10 +213,8 @@ take-record-spec =
     add-next-2
     add-two-bytes
     two-bytes-requires
-    cast-names
-    mul-names
-    slice-write-names
-    add-t23
+    keep-name-requires
+    add-t25
     shared-slice-read-wide-byte
     wide-byte-requires
     mul-with
@@ -221,10 +226,10 @@ take-record-spec =
     cast-entries
     mul-entries
     slice-write-entries
-    add-t37
+    add-t38
     shared-slice-read-targets
     slice-write-targets
-    add-t43
+    add-t44
     same-length-2
     returns-2
     same-length-3

@@ -1,11 +1,11 @@
--- `book::rules::entry_fault` meets its contract: the tests come in the order of their numbers.
+-- `book::rules::entry_fault` meets its contract: the tests come in the order of the rules.
 use borrow.Author.Needs.{needs}
 use mathlib.Core.Path.{sym, refl, ap, ap₂, _∙_}
 use borrow.Author.Tests.{not-true, not-false, le-leb, lt-leb}
 use Prim.Native.Nat.{ℕ}
 use native.Mathlib.Omega.{arith}
 use Rattle.figures.specs.Limits.{maxEntries}
-use Rattle.book.proofs.Layouts.{entry-shape}
+use Rattle.book.proofs.Layouts.{entry-worded, entry-shape}
 use Rattle.format.specs.Records.{Bytes, every}
 use Rattle.book.specs.Format.{declaredAmong, bases, simplesOf, exponentListed, exponents}
 use Rattle.book.proofs.Faults.{entry-faults}
@@ -19,7 +19,7 @@ returns : tie.Need-returns
 returns c = λ names targets h. sym (entry-faults _ names _ targets (sym (c .before .is-entry .ensures) ∙ not-true _ (c .if1 .taken)) refl refl refl)
 
 type-part-requires : tie.Need-type-part-requires
-type-part-requires c κs = sym (c .before .is-entry .ensures) ∙ not-false _ (c .if1 .left)
+type-part-requires c κs = entry-worded _ (sym (c .before .is-entry .ensures) ∙ not-false _ (c .if1 .left))
 
 all-declared-requires : tie.Need-all-declared-requires
 all-declared-requires c κs = rw (c .type-part .ensures) (entry-shape _ (sym (c .before .before .is-entry .ensures) ∙ not-false _ (c .before .if1 .left)) .pairs)

@@ -49,11 +49,13 @@ entry-fault-requires c κs = search needs
 target-fault-requires : tie.Need-target-fault-requires
 target-fault-requires c κs = search needs
 
+slashed-fault-requires : tie.Need-slashed-fault-requires
+slashed-fault-requires c κs = search needs
+
 returns-3 : tie.Need-returns-3
 returns-3 c =
     let a = c .before .before .before .before .before .before .before .before .before .args in
     let names = bodiesAt (a .book .now) (a .names .now) (a .types) in
-    let count = bodies-length (a .book .now) (a .names .now) (a .types) (c .before .before .before .before .before .before .before .before .before .pre .1 .room) in
     let kind = sym (two-bytes-read (c .before .before .two-bytes2 .ensures)) ∙ c .before .match .keys1 in
     (rw (c .before .before .before .body-at .ensures) at (c .name-fault .ensures (a .entries) (a .targets)))
     ∙ record-whole (a .book .now) (a .at) names (a .entries) (a .targets) (omega (arith, two-bytes-read (c .before .before .before .before .before .two-bytes .ensures))) kind
@@ -62,7 +64,7 @@ returns-4 : tie.Need-returns-4
 returns-4 c =
     let a = c .before .before .before .before .before .before .before .before .before .args in
     let names = bodiesAt (a .book .now) (a .names .now) (a .types) in
-    let count = bodies-length (a .book .now) (a .names .now) (a .types) (c .before .before .before .before .before .before .before .before .before .pre .1 .room) in
+    let count = bodies-length (a .book .now) (a .names .now) (a .types) (c .before .before .before .before .before .before .before .before .before .pre .1 .whole .room) in
     let kind = sym (two-bytes-read (c .before .before .two-bytes2 .ensures)) ∙ c .before .match .keys2 in
     (rw (c .before .before .before .body-at .ensures) at (c .pair-fault .ensures names (a .entries) (a .targets) count))
     ∙ record-whole (a .book .now) (a .at) names (a .entries) (a .targets) (omega (arith, two-bytes-read (c .before .before .before .before .before .two-bytes .ensures))) kind
@@ -71,7 +73,7 @@ returns-5 : tie.Need-returns-5
 returns-5 c =
     let a = c .before .before .before .before .before .before .before .before .before .args in
     let names = bodiesAt (a .book .now) (a .names .now) (a .types) in
-    let count = bodies-length (a .book .now) (a .names .now) (a .types) (c .before .before .before .before .before .before .before .before .before .pre .1 .room) in
+    let count = bodies-length (a .book .now) (a .names .now) (a .types) (c .before .before .before .before .before .before .before .before .before .pre .1 .whole .room) in
     let kind = sym (two-bytes-read (c .before .before .two-bytes2 .ensures)) ∙ c .before .match .keys3 in
     (rw (c .before .before .before .body-at .ensures) at (c .entry-fault .ensures names (a .targets) count))
     ∙ record-whole (a .book .now) (a .at) names (a .entries) (a .targets) (omega (arith, two-bytes-read (c .before .before .before .before .before .two-bytes .ensures))) kind
@@ -80,19 +82,27 @@ returns-6 : tie.Need-returns-6
 returns-6 c =
     let a = c .before .before .before .before .before .before .before .before .before .args in
     let names = bodiesAt (a .book .now) (a .names .now) (a .types) in
-    let count = bodies-length (a .book .now) (a .names .now) (a .types) (c .before .before .before .before .before .before .before .before .before .pre .1 .room) in
+    let count = bodies-length (a .book .now) (a .names .now) (a .types) (c .before .before .before .before .before .before .before .before .before .pre .1 .whole .room) in
     let kind = sym (two-bytes-read (c .before .before .two-bytes2 .ensures)) ∙ c .before .match .keys4 in
     (rw (c .before .before .before .body-at .ensures) at (c .target-fault .ensures names (a .entries) count))
     ∙ record-whole (a .book .now) (a .at) names (a .entries) (a .targets) (omega (arith, two-bytes-read (c .before .before .before .before .before .two-bytes .ensures))) kind
 
 returns-7 : tie.Need-returns-7
 returns-7 c =
+    let a = c .before .before .before .before .before .before .before .before .before .args in
+    let names = bodiesAt (a .book .now) (a .names .now) (a .types) in
+    let kind = sym (two-bytes-read (c .before .before .two-bytes2 .ensures)) ∙ c .before .match .keys5 in
+    (rw (c .before .before .before .body-at .ensures) at (c .slashed-fault .ensures (a .targets)))
+    ∙ record-whole (a .book .now) (a .at) names (a .entries) (a .targets) (omega (arith, two-bytes-read (c .before .before .before .before .before .two-bytes .ensures))) kind
+
+returns-8 : tie.Need-returns-8
+returns-8 c =
     let a = c .before .before .before .before .before .before .before .before .args in
     let names = bodiesAt (a .book .now) (a .names .now) (a .types) in
     let read = two-bytes-read (c .before .two-bytes2 .ensures) in
     let none = c .match .rest in
     let other =
-    kind-other _ (λ e. none .0 .0 .0 .1 (read ∙ e)) (λ e. none .0 .0 .1 (read ∙ e)) (λ e. none .0 .1 (read ∙ e)) (λ e. none .1 (read ∙ e)) in
+    kind-other _ (λ e. none .0 .0 .0 .0 .1 (read ∙ e)) (λ e. none .0 .0 .0 .1 (read ∙ e)) (λ e. none .0 .0 .1 (read ∙ e)) (λ e. none .0 .1 (read ∙ e)) (λ e. none .1 (read ∙ e)) in
     sym (unlisted-faults _ names (a .entries) (a .targets) _ other)
     ∙ record-whole (a .book .now) (a .at) names (a .entries) (a .targets) (omega (arith, two-bytes-read (c .before .before .before .before .two-bytes .ensures))) refl
 
@@ -113,8 +123,10 @@ record-fault-spec =
     pair-fault-requires
     entry-fault-requires
     target-fault-requires
+    slashed-fault-requires
     returns-3
     returns-4
     returns-5
     returns-6
-    returns-7)
+    returns-7
+    returns-8)

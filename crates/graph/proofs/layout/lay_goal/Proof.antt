@@ -2,16 +2,17 @@
 use borrow.Author.Needs.{needs}
 use native.Mathlib.Omega.{arith}
 use mathlib.Core.Path.{refl}
-use Rattle.book.specs.Format.{exponentOf, exponentListed}
 use Rattle.graph.proofs.layout.lay_goal.Statement.{statement}
 use Rattle.graph.proofs.layout.lay_goal.Tie as tie
 
 add-end : tie.Need-add-end
 add-end c = omega (arith, c .before .before .before .pre .node-fits)
 
-hold-simple-requires : tie.Need-hold-simple-requires
-unfolding exponentOf exponentListed
-hold-simple-requires c κs = refl
+add-hold : tie.Need-add-hold
+add-hold c = search needs
+
+hold-requires : tie.Need-hold-requires
+hold-requires c κs = search needs
 
 cast-enters : tie.Need-cast-enters
 cast-enters c =
@@ -63,15 +64,15 @@ same-length-3 : tie.Need-same-length-3
 same-length-3 c = search needs
 
 returns : tie.Need-returns
-unfolding exponentOf
-returns c = record { simple = c .hold-simple .result; holds = c .hold-simple .ensures; simples = refl; nexts = refl; enters = refl }
+returns c = record { simple = c .hold .result; holds = c .hold .ensures; simples = refl; nexts = refl; enters = refl }
 
 pub lay-goal-spec : {M : Type 1} → statement M
 lay-goal-spec =
     tie.close
     (tie.spec
     add-end
-    hold-simple-requires
+    add-hold
+    hold-requires
     cast-enters
     mul-enters
     slice-write-enters

@@ -8,8 +8,8 @@ use Rattle.graph.proofs.layout.lay_slot.Tie as tie
 
 returns : tie.Need-returns
 returns c =
-    let a = c .before .before .before .before .before .before .args in
-    slot-passed (a .part .now) (a .number) (a .boundary) (a .p) (cells (a .simples .now) (a .nexts .now) (a .enters .now) (a .numbers .now)) (c .before .before .before .before .before .before .pre) (c .if1 .taken)
+    let a = c .before .before .before .before .before .args in
+    slot-passed (a .t) (a .number) (a .boundary) (a .p) (cells (a .simples .now) (a .nexts .now) (a .enters .now) (a .numbers .now)) (c .before .before .before .before .before .pre) (c .if1 .taken)
 
 add-behind : tie.Need-add-behind
 add-behind c = search needs
@@ -35,8 +35,8 @@ mul-numbers c = search needs
 slice-write-numbers : tie.Need-slice-write-numbers
 slice-write-numbers c = search needs
 
-add-t15 : tie.Need-add-t15
-add-t15 c = search needs
+add-t22 : tie.Need-add-t22
+add-t22 c = search needs
 
 same-length : tie.Need-same-length
 same-length c = search needs
@@ -52,9 +52,9 @@ same-length-4 c = search needs
 
 returns-2 : tie.Need-returns-2
 returns-2 c =
-    let a = c .before .before .before .before .before .before .before .before .before .before .before .before .before .args in
+    let a = c .before .before .before .before .before .before .before .before .before .before .before .before .args in
     let m = c .before .before .before .before .lay-type .last .1 .1 .1 in
-    slot-taken (a .part .now) (a .number) (a .boundary) (a .p) (cells (a .simples .now) (a .nexts .now) (a .enters .now) (a .numbers .now)) (c .before .before .before .before .before .before .before .before .before .before .before .before .before .pre) (c .before .before .before .before .before .before .before .if1 .left) (m .0) (m .1 .0) (omega arith) (omega arith) (c .before .before .before .before .lay-type .result) (c .before .before .before .before .lay-type .ensures)
+    slot-taken (a .t) (a .number) (a .boundary) (a .p) (cells (a .simples .now) (a .nexts .now) (a .enters .now) (a .numbers .now)) (c .before .before .before .before .before .before .before .before .before .before .before .before .pre) (c .before .before .before .before .before .before .before .if1 .left) (m .0) (m .1 .0) (omega arith) (omega arith) (c .before .before .before .before .lay-type .result) (c .before .before .before .before .lay-type .ensures)
 
 pub lay-slot-spec : {M : Type 1} → statement M
 lay-slot-spec =
@@ -69,7 +69,7 @@ lay-slot-spec =
     cast-numbers
     mul-numbers
     slice-write-numbers
-    add-t15
+    add-t22
     same-length
     same-length-2
     same-length-3

@@ -7,6 +7,7 @@ use mathlib.Core.List.{List}
 use Rattle.figures.specs.Limits.{maxNodes}
 use Rattle.linking.specs.Reading.{NumberedEntry}
 use Rattle.lookup.specs.Entries.{simplesIn}
+use Rattle.format.specs.Records.{bodiesAt}
 use Rattle.lookup.specs.Threads.{Thread}
 use Rattle.graph.specs.Cells.{cells}
 use Rattle.graph.specs.Lists.{lists}
@@ -17,28 +18,28 @@ use Rattle.graph.proofs.layout.lay_word.Tie as tie
 -- The next boundary, by the word's entries.
 module _ (c : tie.After-tally) where
   abbrev boundary : ℕ
-  boundary = c .before .before .before .before .before .before .before .before .before .before .args .p .node + 1 + c .tally .result
+  boundary = c .before .before .before .before .before .before .before .before .before .before .before .args .p .node + 1 + c .tally .result
 
   next :
-      let a = c .before .before .before .before .before .before .before .before .before .before .args in
-      (es : List NumberedEntry) → Thread (a .book .now) (a .offsets .now) (a .count) (a .same .now) (a .first) es → boundary ≡ a .p .node + 1 + simplesIn es
-  next es t = ap (λ (m : ℕ). c .before .before .before .before .before .before .before .before .before .before .args .p .node + 1 + m) (c .tally .ensures es t .total)
+      let a = c .before .before .before .before .before .before .before .before .before .before .before .args in
+      (es : List NumberedEntry) → Thread (a .book .now) (bodiesAt (a .book .now) (a .names .now) (a .types)) (a .offsets .now) (a .count) (a .same .now) (a .first) es → boundary ≡ a .p .node + 1 + simplesIn es
+  next es t = ap (λ (m : ℕ). c .before .before .before .before .before .before .before .before .before .before .before .args .p .node + 1 + m) (c .tally .ensures _ es (c .before .before .before .before .before .before .before .before .before .before .before .pre .vocabulary .lexicon) t .total)
 
   low : boundary < maxNodes
-  low = omega (arith, next (c .before .before .before .before .before .before .before .before .before .before .pre .entries) (c .before .before .before .before .before .before .before .before .before .before .pre .thread), c .before .before .before .before .before .before .before .before .before .before .pre .fits)
+  low = omega (arith, next (c .before .before .before .before .before .before .before .before .before .before .before .pre .entries) (c .before .before .before .before .before .before .before .before .before .before .before .pre .thread), c .before .before .before .before .before .before .before .before .before .before .before .pre .fits)
 
 -- What is stored, and where, is below the number of nodes.
 module _ (c : tie.After-slice-known10) where
-  stored : (c .before .before .before .before .before .before .before .before .before .before .before .before .before .before .before .before .before .before .before .before .before .before .before .args .p .node < maxNodes) × (c .before .before .before .before .before .before .before .before .before .before .before .before .before .before .before .before .before .before .before .before .before .before .before .args .p .slot < maxNodes) × (c .before .before .before .before .before .before .before .before .lay-entries .result .slot < maxNodes)
+  stored : (c .before .before .before .before .before .before .before .before .before .before .before .before .before .before .before .before .before .before .before .before .before .before .before .before .args .p .node < maxNodes) × (c .before .before .before .before .before .before .before .before .before .before .before .before .before .before .before .before .before .before .before .before .before .before .before .before .args .p .slot < maxNodes) × (c .before .before .before .before .before .before .before .before .lay-entries .result .slot < maxNodes)
   stored =
-      let l = c .before .before .before .before .before .before .before .before .lay-entries .ensures (c .before .before .before .before .before .before .before .before .before .before .before .before .before .before .before .before .before .before .before .before .before .before .before .pre .entries) (c .before .before .before .before .before .before .before .before .before .before .before .before .before .before .before .before .before .before .before .before .before .before .before .pre .thread) in
-      (omega (arith, low (c .before .before .before .before .before .before .before .before .before .before .before .before .before)), omega (arith, low (c .before .before .before .before .before .before .before .before .before .before .before .before .before), c .before .before .before .before .before .before .before .before .before .before .before .before .before .before .before .before .before .before .before .before .before .before .before .pre .standing .few), omega (arith, l .placed .few, l .placed .inside, l .placed .small))
+      let l = c .before .before .before .before .before .before .before .before .lay-entries .ensures (c .before .before .before .before .before .before .before .before .before .before .before .before .before .before .before .before .before .before .before .before .before .before .before .before .pre .entries) (c .before .before .before .before .before .before .before .before .before .before .before .before .before .before .before .before .before .before .before .before .before .before .before .before .pre .thread) in
+      (omega (arith, low (c .before .before .before .before .before .before .before .before .before .before .before .before .before)), omega (arith, low (c .before .before .before .before .before .before .before .before .before .before .before .before .before), c .before .before .before .before .before .before .before .before .before .before .before .before .before .before .before .before .before .before .before .before .before .before .before .before .pre .standing .few), omega (arith, l .placed .few, l .placed .inside, l .placed .small))
 
 add-boundary : tie.Need-add-boundary
-add-boundary c = omega (arith, c .before .before .before .before .before .before .before .before .before .pre .fits)
+add-boundary c = omega (arith, c .before .before .before .before .before .before .before .before .before .before .pre .fits)
 
 tally-requires : tie.Need-tally-requires
-tally-requires c κs = (c .before .before .before .before .before .before .before .before .before .pre .lexicon .entries, c .before .before .before .before .before .before .before .before .before .pre .same-room, (c .before .before .before .before .before .before .before .before .before .pre .entries, c .before .before .before .before .before .before .before .before .before .pre .thread))
+tally-requires c κs = (c .before .before .before .before .before .before .before .before .before .before .pre .same-room, (_, c .before .before .before .before .before .before .before .before .before .before .pre .vocabulary .lexicon, (c .before .before .before .before .before .before .before .before .before .before .pre .entries, c .before .before .before .before .before .before .before .before .before .before .pre .thread)))
 
 add-boundary-2 : tie.Need-add-boundary-2
 add-boundary-2 c = omega (arith, low c)
@@ -48,11 +49,11 @@ add-tos c = omega (arith, low c)
 
 lay-entries-requires : tie.Need-lay-entries-requires
 lay-entries-requires c κs =
-    let a = c .before .before .before .before .before .before .before .before .before .before .before .before .before .before .args in
-    let n = c .before .before .before .before .before .before .before .before .before .before .before .before .before .before .pre in
+    let a = c .before .before .before .before .before .before .before .before .before .before .before .before .before .before .before .args in
+    let n = c .before .before .before .before .before .before .before .before .before .before .before .before .before .before .before .pre in
     let b = next (c .before .before .before .before) (n .entries) (n .thread) in
     record {
-      lexicon = n .lexicon;
+      vocabulary = n .vocabulary;
       same-room = n .same-room;
       entries = n .entries;
       thread = n .thread;
@@ -67,7 +68,7 @@ mul-froms : tie.Need-mul-froms
 mul-froms c = omega (arith, stored c .0)
 
 slice-write-froms : tie.Need-slice-write-froms
-slice-write-froms c = omega (arith, stored c .0, c .before .before .before .before .before .before .before .before .before .before .before .before .before .before .before .before .before .before .before .before .before .before .before .pre .standing .room .froms)
+slice-write-froms c = omega (arith, stored c .0, c .before .before .before .before .before .before .before .before .before .before .before .before .before .before .before .before .before .before .before .before .before .before .before .before .pre .standing .room .froms)
 
 cast-tos : tie.Need-cast-tos
 cast-tos c = omega (arith, stored c .2)
@@ -76,7 +77,7 @@ mul-tos : tie.Need-mul-tos
 mul-tos c = omega (arith, stored c .0)
 
 slice-write-tos : tie.Need-slice-write-tos
-slice-write-tos c = omega (arith, stored c .0, c .before .before .before .before .before .before .before .before .before .before .before .before .before .before .before .before .before .before .before .before .before .before .before .pre .standing .room .tos)
+slice-write-tos c = omega (arith, stored c .0, c .before .before .before .before .before .before .before .before .before .before .before .before .before .before .before .before .before .before .before .before .before .before .before .before .pre .standing .room .tos)
 
 same-length : tie.Need-same-length
 same-length c = search needs
@@ -98,9 +99,9 @@ same-length-6 c = search needs
 
 returns : tie.Need-returns
 returns c =
-    let a = c .before .before .before .before .before .before .before .before .before .before .before .before .before .before .before .before .before .before .before .before .before .before .before .args in
-    let n = c .before .before .before .before .before .before .before .before .before .before .before .before .before .before .before .before .before .before .before .before .before .before .before .pre in
-    let m = c .before .before .before .before .before .before .before .before .lay-entries .last .1 .1 .1 .1 .1 .1 .1 in
+    let a = c .before .before .before .before .before .before .before .before .before .before .before .before .before .before .before .before .before .before .before .before .before .before .before .before .args in
+    let n = c .before .before .before .before .before .before .before .before .before .before .before .before .before .before .before .before .before .before .before .before .before .before .before .before .pre in
+    let m = c .before .before .before .before .before .before .before .before .lay-entries .last .1 .1 .1 .1 .1 .1 .1 .1 .1 in
     λ es t. word-lined (a .p) (lists (a .simples .now) (a .nexts .now) (a .froms .now) (a .tos .now) (a .enters .now) (a .numbers .now)) (n .standing) (n .numbers-room) es (boundary (c .before .before .before .before .before .before .before .before .before .before .before .before .before)) (next (c .before .before .before .before .before .before .before .before .before .before .before .before .before) es t) (low (c .before .before .before .before .before .before .before .before .before .before .before .before .before)) (c .before .before .before .before .before .before .before .before .lay-entries .result) (cells (m .0) (m .1 .0) (m .1 .1 .0) (m .1 .1 .1 .0)) (c .before .before .before .before .before .before .before .before .lay-entries .ensures es t)
 
 pub lay-word-spec : {M : Type 1} → statement M

@@ -6,7 +6,7 @@ use lib.ListN.{length, length-set}
 use Rattle.lookup.proofs.FindLaws.{found-thread}
 use Rattle.figures.specs.Limits.{maxEntries, maxEntrySimples}
 use Rattle.book.specs.Format.{Book}
-use Rattle.lookup.specs.Entries.{entriesKept}
+use Rattle.lookup.specs.Entries.{KeptOf}
 use Rattle.lookup.specs.Threads.{Same, Thread}
 use Rattle.line.specs.LineFaults.{entriesOf}
 use Rattle.line.specs.Split.{SplitInto}
@@ -18,7 +18,7 @@ abbrev Inv-loop : tie.InvT-loop
 Inv-loop book offsets count alike line starts ends words firsts₀ same₀ sum₀ k₀ firsts same sum k =
     (k ≤ words) × (sum ≤ maxEntries * maxEntrySimples * k) × (length firsts ≡ length firsts₀) × (length same ≡ length same₀) × Same book offsets count same
     × ((s : SplitInto line starts ends words) → AllFound line starts ends words s book offsets count same firsts k)
-    × ((B : Book) → B .entries ≡ entriesKept book offsets count → (s : SplitInto line starts ends words) → Looking line starts ends words s B sum k)
+    × ((B : Book) → KeptOf book offsets count B → (s : SplitInto line starts ends words) → Looking line starts ends words s B sum k)
 
 abbrev μ-loop : tie.MeasureT-loop
 μ-loop book offsets count alike line starts ends words firsts₀ same₀ sum₀ k₀ firsts same sum k = words - k
@@ -50,7 +50,7 @@ part-find-word-end c = let lies = c .before .before .before .before .before .bef
 find-word-requires : tie.Need-find-word-requires Inv-loop μ-loop
 find-word-requires c κs =
     let range = word-range _ _ _ _ (c .before .before .before .before .before .before .before .before .before .before .before .before .before .before .pre .0 .3) (c .before .before .before .before .before .loop .k) (c .before .before .before .before .loop-test .taken) in
-    (c .before .before .before .before .before .before .before .before .before .before .before .before .before .before .pre .0 .0, c .before .before .before .before .before .before .before .before .before .before .before .before .before .before .pre .0 .1, c .before .before .before .before .before .loop .inv .4, range .0, range .1)
+    (c .before .before .before .before .before .before .before .before .before .before .before .before .before .before .pre .0 .0 .1 .lexicon .entries, c .before .before .before .before .before .before .before .before .before .before .before .before .before .before .pre .0 .1, c .before .before .before .before .before .loop .inv .4, range .0, range .1)
 
 module _ (c : tie.After-find-word Inv-loop μ-loop) where
   inside-firsts : c .before .before .before .before .before .before .loop .k < length (c .before .before .before .before .before .before .loop .firsts)
@@ -58,9 +58,9 @@ module _ (c : tie.After-find-word Inv-loop μ-loop) where
 
   -- The word at hand and its thread.
   thread :
-      (B : Book) → B .entries ≡ entriesKept (c .before .before .before .before .before .before .before .before .before .before .before .before .before .before .before .args .book .now) (c .before .before .before .before .before .before .before .before .before .before .before .before .before .before .before .args .offsets .now) (c .before .before .before .before .before .before .before .before .before .before .before .before .before .before .before .args .count)
-      → Thread (c .before .before .before .before .before .before .before .before .before .before .before .before .before .before .before .args .book .now) (c .before .before .before .before .before .before .before .before .before .before .before .before .before .before .before .args .offsets .now) (c .before .before .before .before .before .before .before .before .before .before .before .before .before .before .before .args .count) (c .find-word .last .1 .1 .1 .1 .1 .0) (c .find-word .result) (entriesOf B (word (c .before .before .before .before .before .before .before .before .before .before .before .before .before .before .before .args .line .now) (c .before .before .before .before .before .before .before .before .before .before .before .before .before .before .before .args .starts .now) (c .before .before .before .before .before .before .before .before .before .before .before .before .before .before .before .args .ends .now) (c .before .before .before .before .before .before .before .before .before .before .before .before .before .before .before .args .words) (c .before .before .before .before .before .before .before .before .before .before .before .before .before .before .before .pre .0 .3) (c .before .before .before .before .before .before .loop .k)))
-  thread B kept = word-thread _ _ _ _ (c .before .before .before .before .before .before .before .before .before .before .before .before .before .before .before .pre .0 .3) B (c .before .before .before .before .before .before .before .before .before .before .before .before .before .before .before .pre .0 .0) kept (c .before .before .before .before .before .before .loop .k) (c .find-word .ensures .found)
+      (B : Book) → KeptOf (c .before .before .before .before .before .before .before .before .before .before .before .before .before .before .before .args .book .now) (c .before .before .before .before .before .before .before .before .before .before .before .before .before .before .before .args .offsets .now) (c .before .before .before .before .before .before .before .before .before .before .before .before .before .before .before .args .count) B
+      → Thread (c .before .before .before .before .before .before .before .before .before .before .before .before .before .before .before .args .book .now) (B .names) (c .before .before .before .before .before .before .before .before .before .before .before .before .before .before .before .args .offsets .now) (c .before .before .before .before .before .before .before .before .before .before .before .before .before .before .before .args .count) (c .find-word .last .1 .1 .1 .1 .1 .0) (c .find-word .result) (entriesOf B (word (c .before .before .before .before .before .before .before .before .before .before .before .before .before .before .before .args .line .now) (c .before .before .before .before .before .before .before .before .before .before .before .before .before .before .before .args .starts .now) (c .before .before .before .before .before .before .before .before .before .before .before .before .before .before .before .args .ends .now) (c .before .before .before .before .before .before .before .before .before .before .before .before .before .before .before .args .words) (c .before .before .before .before .before .before .before .before .before .before .before .before .before .before .before .pre .0 .3) (c .before .before .before .before .before .before .loop .k)))
+  thread B kept = word-thread _ _ _ _ (c .before .before .before .before .before .before .before .before .before .before .before .before .before .before .before .pre .0 .3) B kept (c .before .before .before .before .before .before .loop .k) (c .find-word .ensures .found)
 
 same-length : tie.Need-same-length Inv-loop μ-loop
 same-length c = omega (arith, c .before .before .before .before .before .before .before .before .before .loop .inv .2)
@@ -83,11 +83,14 @@ slice-write-firsts c = inside-firsts (c .before .before .before)
 tally-requires : tie.Need-tally-requires Inv-loop μ-loop
 tally-requires c κs =
     let found = c .before .before .before .before .find-word .ensures in
-    (c .before .before .before .before .before .before .before .before .before .before .before .before .before .before .before .before .before .before .before .pre .0 .0, omega (arith, found .threaded .room, c .before .before .before .before .before .before .before .before .before .before .before .before .before .before .before .before .before .before .before .pre .0 .0 .few), (_, found-thread _ _ _ _ (c .before .before .before .before .before .before .before .before .before .before .before .before .before .before .before .before .before .before .before .pre .0 .0) (found .found)))
+    let kept = c .before .before .before .before .before .before .before .before .before .before .before .before .before .before .before .before .before .before .before .pre .0 .0 .1 .lexicon in
+    (omega (arith, found .threaded .room, kept .entries .few), (_, kept, (_, found-thread _ _ _ _ _ (kept .entries) (found .found))))
 
 module _ (c : tie.After-tally Inv-loop μ-loop) where
   small : c .tally .result ≤ maxEntries * maxEntrySimples
-  small = c .tally .ensures _ (found-thread _ _ _ _ (c .before .before .before .before .before .before .before .before .before .before .before .before .before .before .before .before .before .before .before .before .pre .0 .0) (c .before .before .before .before .before .find-word .ensures .found)) .small
+  small =
+      let kept = c .before .before .before .before .before .before .before .before .before .before .before .before .before .before .before .before .before .before .before .before .pre .0 .0 .1 .lexicon in
+      c .tally .ensures _ _ kept (found-thread _ _ _ _ _ (kept .entries) (c .before .before .before .before .before .find-word .ensures .found)) .small
 
 add-sum : tie.Need-add-sum Inv-loop μ-loop
 add-sum c = omega (arith, c .before .before .before .before .before .before .before .before .before .before .before .loop .inv .1, c .before .before .before .before .before .before .before .before .before .before .loop-test .taken, c .before .before .before .before .before .before .before .before .before .before .before .before .before .before .before .before .before .before .before .before .pre .0 .3 .few, small c)
@@ -108,7 +111,7 @@ loop-again c =
       found .kept .1 .1 .1 .1 .1 .0 ∙ l .inv .3,
       found .ensures .threaded,
       λ s. found-more _ _ _ _ s _ _ _ (l .same) _ (l .firsts) (l .k) (found .result) (l .inv .5 s) (inside-firsts (c .before .before .before .before .before)) (found .ensures),
-      λ B kept s. looking-next _ _ _ _ s B (l .inv .6 B kept s) (c .before .before .before .before .before .before .before .before .before .before .loop-test .taken) (thread (c .before .before .before .before .before) B kept) (omega arith) (c .tally .ensures _ (thread (c .before .before .before .before .before) B kept)),
+      λ B kept s. looking-next _ _ _ _ s B (l .inv .6 B kept s) (c .before .before .before .before .before .before .before .before .before .before .loop-test .taken) (thread (c .before .before .before .before .before) B kept) (omega arith) (c .tally .ensures _ _ (kept .lexicon) (thread (c .before .before .before .before .before) B kept)),
     )
 
 same-length-3 : tie.Need-same-length-3 Inv-loop μ-loop
@@ -131,7 +134,7 @@ returns-3 c =
     let s = c .before .before .before .before .before .before .before .before .before .before .before .pre .0 .3 in
     let l = c .before .before .loop in
     let all : l .k ≡ c .before .before .before .before .before .before .before .before .before .before .before .args .words = omega (arith, l .inv .0) in
-    λ B kept. looking-end _ _ _ _ s B (c .before .before .before .before .before .before .before .before .before .before .before .pre .0 .0) kept _ _ _ (l .inv .6 B kept s) (omega arith) (omega arith) (rw all at (l .inv .5 s))
+    λ B kept. looking-end _ _ _ _ s B kept _ _ _ (l .inv .6 B kept s) (omega arith) (omega arith) (rw all at (l .inv .5 s))
 
 pub look-up-spec : {M : Type 1} → statement M
 look-up-spec =

@@ -1,14 +1,16 @@
--- `listing::parts::type_of` meets its contract: a type is that part of its record's body.
+-- `listing::parts::type_of` meets its contract: a type is that of the entry whose record stands at the kept offset.
 use borrow.Author.Needs.{needs}
-use Rattle.listing.proofs.PartLaws.{type-at, no-type}
+use mathlib.Core.Path.{refl}
+use Rattle.format.specs.Records.{bodiesAt}
+use Rattle.listing.proofs.PartLaws.{type-at, no-type, nothing-held}
 use Rattle.listing.proofs.parts.type_of.Statement.{statement}
 use Rattle.listing.proofs.parts.type_of.Tie as tie
 
-slice-aggregate-result : tie.Need-slice-aggregate-result
-slice-aggregate-result c = search needs
-
 returns : tie.Need-returns
-returns c = no-type _ (c .before .before .before .before .args .offsets .now) (c .before .before .before .before .args .count) (c .before .before .before .before .pre) (c .before .before .before .before .args .entry) (c .before .if1 .taken)
+returns c =
+    let a = c .before .before .before .before .args in
+    rw (no-type (a .book .now) (bodiesAt (a .book .now) (a .names .now) (a .types)) (a .offsets .now) (a .count) (c .before .before .before .before .pre .1 .entries) (a .entry) (c .if1 .taken))
+    (nothing-held _ refl)
 
 mul-wide-number : tie.Need-mul-wide-number
 mul-wide-number c = search needs
@@ -19,26 +21,25 @@ shared-slice-read-wide-number c = search needs
 wide-number-requires : tie.Need-wide-number-requires
 wide-number-requires c κs = search needs
 
-body-at-requires : tie.Need-body-at-requires
-body-at-requires c κs = rw (c .wide-number .ensures) (c .before .before .before .before .before .pre .whole .whole (c .before .before .before .before .before .args .entry) (c .before .before .if1 .left))
-
-type-part-requires : tie.Need-type-part-requires
-type-part-requires c κs = rw (c .body-at .ensures, c .before .wide-number .ensures) (c .before .before .before .before .before .before .pre .layouts (c .before .before .before .before .before .before .args .entry) (c .before .before .before .if1 .left))
+entry-type-requires : tie.Need-entry-type-requires
+entry-type-requires c κs =
+    let i = c .before .before .before .before .before .before .args .entry in
+    let l = c .before .before .before .before .before .before .pre .1 in
+    rw (c .wide-number .ensures) (c .before .before .before .before .before .before .pre .0, l .entries .whole .whole i (c .before .before .if1 .left), l .formed i (c .before .before .if1 .left))
 
 returns-2 : tie.Need-returns-2
 returns-2 c =
-    type-at _ (c .before .before .before .before .before .before .before .args .offsets .now) (c .before .before .before .before .before .before .before .args .count) (c .before .before .before .before .before .before .before .pre) (c .before .before .before .before .before .before .before .args .entry) _ (c .before .before .before .before .if1 .left)
-    (rw (c .before .body-at .ensures, c .before .before .wide-number .ensures) at (c .type-part .ensures))
+    let a = c .before .before .before .before .before .before .before .args in
+    rw (type-at (a .book .now) (bodiesAt (a .book .now) (a .names .now) (a .types)) (a .offsets .now) (a .count) (c .before .before .before .before .before .before .before .pre .1 .entries) (a .entry) (c .before .before .before .if1 .left))
+    (rw (c .before .wide-number .ensures) at (c .entry-type .ensures))
 
 pub type-of-spec : {M : Type 1} → statement M
 type-of-spec =
     tie.close
     (tie.spec
-    slice-aggregate-result
     returns
     mul-wide-number
     shared-slice-read-wide-number
     wide-number-requires
-    body-at-requires
-    type-part-requires
+    entry-type-requires
     returns-2)

@@ -3,8 +3,8 @@ use borrow.Author.Needs.{needs}
 use mathlib.Core.List.{_++_}
 use lib.ListN.{length}
 use Rattle.format.specs.Records.{bodiesAt}
+use Rattle.book.specs.Kept.{entriesAt}
 use Rattle.line.specs.LineWords.{wordsOf}
-use Rattle.lookup.specs.Entries.{entriesKept}
 use Rattle.listing.specs.Listing.{firstRow, wordRows, typeRows, joined}
 use Rattle.listing.proofs.Placing.{placed-append, countable-front, countable-back}
 use Rattle.listing.proofs.rows.put_reading.Statement.{statement}
@@ -14,21 +14,21 @@ put-first-row-requires : tie.Need-put-first-row-requires
 put-first-row-requires c κs =
     let a = c .before .before .before .before .before .before .before .before .before .before .args in
     let words = wordRows (a .chosen .now) 0 (wordsOf (a .line .now)) in
-    let types = typeRows (bodiesAt (a .book .now) (a .names .now) (a .types)) (a .partners .now) 0 (joined (entriesKept (a .book .now) (a .offsets .now) (a .count)) (a .chosen .now)) in
+    let types = typeRows (bodiesAt (a .book .now) (a .names .now) (a .types)) (a .partners .now) 0 (joined (entriesAt (a .book .now) (bodiesAt (a .book .now) (a .names .now) (a .types)) (a .offsets .now) (a .count)) (a .chosen .now)) in
     countable-front (firstRow (length (a .chosen .now)) (length (a .partners .now)) (a .target)) (words ++ types) (c .before .before .before .before .before .before .before .before .before .before .pre .1)
 
 put-word-rows-requires : tie.Need-put-word-rows-requires
 put-word-rows-requires c κs =
     let a = c .before .before .before .before .before .before .before .before .before .before .before .before .before .before .args in
     let words = wordRows (a .chosen .now) 0 (wordsOf (a .line .now)) in
-    let types = typeRows (bodiesAt (a .book .now) (a .names .now) (a .types)) (a .partners .now) 0 (joined (entriesKept (a .book .now) (a .offsets .now) (a .count)) (a .chosen .now)) in
+    let types = typeRows (bodiesAt (a .book .now) (a .names .now) (a .types)) (a .partners .now) 0 (joined (entriesAt (a .book .now) (bodiesAt (a .book .now) (a .names .now) (a .types)) (a .offsets .now) (a .count)) (a .chosen .now)) in
     (c .before .before .before .before .before .before .before .before .before .before .before .before .before .before .pre .0 .1, countable-front words types (countable-back (firstRow (length (a .chosen .now)) (length (a .partners .now)) (a .target)) (words ++ types) (c .before .before .before .before .before .before .before .before .before .before .before .before .before .before .pre .1) (c .before .before .before .put-first-row .ensures)))
 
 put-type-rows-requires : tie.Need-put-type-rows-requires
 put-type-rows-requires c κs =
     let a = c .before .before .before .before .before .before .before .before .before .before .before .before .before .before .before .before .before .before .args in
     let words = wordRows (a .chosen .now) 0 (wordsOf (a .line .now)) in
-    let types = typeRows (bodiesAt (a .book .now) (a .names .now) (a .types)) (a .partners .now) 0 (joined (entriesKept (a .book .now) (a .offsets .now) (a .count)) (a .chosen .now)) in
+    let types = typeRows (bodiesAt (a .book .now) (a .names .now) (a .types)) (a .partners .now) 0 (joined (entriesAt (a .book .now) (bodiesAt (a .book .now) (a .names .now) (a .types)) (a .offsets .now) (a .count)) (a .chosen .now)) in
     (c .before .before .before .before .before .before .before .before .before .before .before .before .before .before .before .before .before .before .pre .0 .0, countable-back words types (countable-back (firstRow (length (a .chosen .now)) (length (a .partners .now)) (a .target)) (words ++ types) (c .before .before .before .before .before .before .before .before .before .before .before .before .before .before .before .before .before .before .pre .1) (c .before .before .before .before .before .before .before .put-first-row .ensures)) (c .before .before .before .put-word-rows .ensures))
 
 same-length : tie.Need-same-length
@@ -38,7 +38,7 @@ returns : tie.Need-returns
 returns c =
     let a = c .before .before .before .before .before .before .before .before .before .before .before .before .before .before .before .before .before .before .before .before .before .args in
     let words = wordRows (a .chosen .now) 0 (wordsOf (a .line .now)) in
-    let types = typeRows (bodiesAt (a .book .now) (a .names .now) (a .types)) (a .partners .now) 0 (joined (entriesKept (a .book .now) (a .offsets .now) (a .count)) (a .chosen .now)) in
+    let types = typeRows (bodiesAt (a .book .now) (a .names .now) (a .types)) (a .partners .now) 0 (joined (entriesAt (a .book .now) (bodiesAt (a .book .now) (a .names .now) (a .types)) (a .offsets .now) (a .count)) (a .chosen .now)) in
     placed-append (firstRow (length (a .chosen .now)) (length (a .partners .now)) (a .target)) (words ++ types) (c .before .before .before .before .before .before .before .before .before .before .put-first-row .ensures) (placed-append words types (c .before .before .before .before .before .before .put-word-rows .ensures) (c .before .before .put-type-rows .ensures))
 
 pub put-reading-spec : {M : Type 1} → statement M

@@ -1,7 +1,8 @@
 -- `listing::rows::put_type_row` meets its contract, field by field.
 use borrow.Author.Needs.{needs}
 use mathlib.Core.List.{[], _∷_}
-use Rattle.book.specs.Format.{exponentOf}
+use lib.IntN.{pos, _-ℤ_}
+use Rattle.pregroup.specs.Held.{bias}
 use Rattle.listing.specs.Text.{decimal, signed}
 use Rattle.listing.proofs.Fields.{field-countable, fields-countable, row-placed}
 use Rattle.listing.proofs.rows.put_type_row.Statement.{statement}
@@ -10,14 +11,14 @@ use Rattle.listing.proofs.rows.put_type_row.Tie as tie
 put-number-requires : tie.Need-put-number-requires
 put-number-requires c κs =
     let a = c .before .before .before .args in
-    let z = signed (exponentOf (a .exponent)) in
+    let z = signed (pos (a .raised) -ℤ pos bias) in
     let p = decimal (a .partner) in
     field-countable (decimal (a .position)) (a .name .now) (z ∷ p ∷ []) (c .before .before .before .pre)
 
 put-text-requires : tie.Need-put-text-requires
 put-text-requires c κs =
     let a = c .before .before .before .before .before .before .before .args in
-    let z = signed (exponentOf (a .exponent)) in
+    let z = signed (pos (a .raised) -ℤ pos bias) in
     let p = decimal (a .partner) in
     field-countable (a .name .now) z (p ∷ [])
     (fields-countable (decimal (a .position)) (a .name .now) (z ∷ p ∷ []) (c .before .before .before .before .before .before .before .pre) (c .before .before .before .put-number .ensures))
@@ -25,7 +26,7 @@ put-text-requires c κs =
 put-exponent-requires : tie.Need-put-exponent-requires
 put-exponent-requires c κs =
     let a = c .before .before .before .before .before .before .before .before .before .before .before .args in
-    let z = signed (exponentOf (a .exponent)) in
+    let z = signed (pos (a .raised) -ℤ pos bias) in
     let p = decimal (a .partner) in
     field-countable z p []
     (fields-countable (a .name .now) z (p ∷ [])
@@ -35,7 +36,7 @@ put-exponent-requires c κs =
 put-number-requires-2 : tie.Need-put-number-requires-2
 put-number-requires-2 c κs =
     let a = c .before .before .before .before .before .before .before .before .before .before .before .before .before .before .before .args in
-    let z = signed (exponentOf (a .exponent)) in
+    let z = signed (pos (a .raised) -ℤ pos bias) in
     let p = decimal (a .partner) in
     fields-countable z p []
     (fields-countable (a .name .now) z (p ∷ [])
@@ -49,7 +50,7 @@ same-length c = search needs
 returns : tie.Need-returns
 returns c =
     let a = c .before .before .before .before .before .before .before .before .before .before .before .before .before .before .before .before .before .before .args in
-    let z = signed (exponentOf (a .exponent)) in
+    let z = signed (pos (a .raised) -ℤ pos bias) in
     let p = decimal (a .partner) in
     row-placed (decimal (a .position)) (a .name .now) (z ∷ p ∷ []) (c .before .before .before .before .before .before .before .before .before .before .before .before .before .before .put-number .ensures)
     (row-placed (a .name .now) z (p ∷ []) (c .before .before .before .before .before .before .before .before .before .before .put-text .ensures)

@@ -28,7 +28,7 @@ wide-number-requires : tie.Need-wide-number-requires Inv-loop μ-loop
 wide-number-requires c κs = omega arith
 
 entry-word-requires : tie.Need-entry-word-requires Inv-loop μ-loop
-entry-word-requires c κs = rw (c .wide-number .ensures) (c .before .before .before .before .before .before .before .before .pre .0 .whole .whole _ (c .before .before .loop-test .taken), c .before .before .before .before .before .before .before .before .pre .0 .layouts _ (c .before .before .loop-test .taken))
+entry-word-requires c κs = rw (c .wide-number .ensures) (c .before .before .before .before .before .before .before .before .pre .0 .whole .whole _ (c .before .before .loop-test .taken), c .before .before .before .before .before .before .before .before .pre .0 .worded _ (c .before .before .loop-test .taken))
 
 same-word-requires : tie.Need-same-word-requires Inv-loop μ-loop
 same-word-requires c κs = search needs

@@ -34,7 +34,7 @@ entry-word-requires : tie.Need-entry-word-requires Inv-loop μ-loop
 entry-word-requires c κs =
     let k = c .before .before .before .before .before .before .before .pre .0 in
     let inside : c .before .before .before .loop .i - 1 < c .before .before .before .before .before .before .before .args .count = omega (arith, c .before .before .before .loop .inv .0, c .before .before .loop-test .taken) in
-    rw (c .wide-number .ensures) (k .whole .whole _ inside, k .layouts _ inside)
+    rw (c .wide-number .ensures) (k .whole .whole _ inside, k .worded _ inside)
 
 key-of-requires : tie.Need-key-of-requires Inv-loop μ-loop
 key-of-requires c κs =

@@ -1,10 +1,10 @@
--- `graph::layout::hold_simple` meets its contract: what is held is the type number with the exponent that `raise` raised.
+-- `book::entries::hold_simple` meets its contract: what is held is the type number with the exponent that `raise` raised.
 use borrow.Author.Needs.{needs}
 use mathlib.Core.Path.{ap, _∙_}
 use lib.IntN.{ℤ}
 use Rattle.pregroup.specs.Types.{_⁽_⁾}
-use Rattle.graph.proofs.layout.hold_simple.Statement.{statement}
-use Rattle.graph.proofs.layout.hold_simple.Tie as tie
+use Rattle.book.proofs.entries.hold_simple.Statement.{statement}
+use Rattle.book.proofs.entries.hold_simple.Tie as tie
 
 raise-requires : tie.Need-raise-requires
 raise-requires c κs = search needs

@@ -1,9 +1,9 @@
--- `graph::layout::raise` meets its contract: below 248 the bias is added, and from 248 on the byte wraps.
+-- `book::entries::raise` meets its contract: below 248 the bias is added, and from 248 on the byte wraps.
 use borrow.Author.Needs.{needs}
 use native.Mathlib.Omega.{arith}
-use Rattle.graph.proofs.RaiseLaws.{raise-low, raise-high}
-use Rattle.graph.proofs.layout.raise.Statement.{statement}
-use Rattle.graph.proofs.layout.raise.Tie as tie
+use Rattle.book.proofs.RaiseLaws.{raise-low, raise-high}
+use Rattle.book.proofs.entries.raise.Statement.{statement}
+use Rattle.book.proofs.entries.raise.Tie as tie
 
 add-result : tie.Need-add-result
 add-result c = search needs

@@ -11,9 +11,8 @@ use borrow.Author.Tests.{lt-ltb, le-ltb, ltb-true}
 use Rattle.pregroup.specs.Types.{Simple}
 use Rattle.pregroup.specs.Held.{bias}
 use Rattle.format.specs.Records.{Bytes, every}
 use Rattle.book.specs.Format.{exponents, exponentOf, exponentListed, simplesOf}
 use Rattle.book.proofs.Simples.{simpleFrom, simples-stop, simples-pass}
-use Rattle.graph.specs.Cells.{ExponentsListed}
 
 plain : (e : ℕ) → pos (e + 8) -ℤ pos bias ≡ pos e
 plain e =
@@ -43,7 +42,7 @@ raise-high e h k =
     same : 8 - suc (e - 248) ≡ 255 - e
     same = omega arith
 
-module _ (part : Bytes) (pairs : length part % 2 ≡ 0) (listed : ExponentsListed part) where
+module _ (part : Bytes) (pairs : length part % 2 ≡ 0) (listed : every exponentListed (exponents (simplesOf part)) ≡ true) where
   abbrev test-at : ℕ → Bool
   test-at i = exponentListed (simpleFrom part i .exponent)
 

@@ -1,0 +1,107 @@
+-- A type at the first places of a list, place by place: whether its basic types are declared, and how the list is filled.
+use Prim.Native.Nat.{ℕ, zero, suc, _+_, _*_, _/_, _%_, _≤_, _<_}
+use native.Mathlib.Omega.{arith}
+use native.Mathlib.Decide.{ℕ-discrete}
+use mathlib.Core.Path.{_≡_, refl, sym, ap, subst, _∙_}
+use mathlib.Core.Bool.{Bool, true, false, _&&_}
+use mathlib.Core.List.{List, [], _∷_}
+use lib.ListN.{length, getD, set}
+use lib.Seq.{getD-set-same, getD-set-other}
+use borrow.Author.Tests.{lt-ltb, le-ltb}
+use Rattle.figures.specs.Limits.{maxEntrySimples}
+use Rattle.pregroup.specs.Types.{Simple, PregroupType, plain, _⁽_⁾}
+use Rattle.pregroup.specs.Held.{held}
+use Rattle.pregroup.proofs.HeldLaws.{held-base}
+use Rattle.format.specs.Records.{Bytes, every}
+use Rattle.slash.specs.Places.{Holds}
+use Rattle.book.specs.declared.EntryType.{EntryType}
+use Rattle.book.specs.Format.{bases, declaredAmong, exponentOf, simplesOf}
+use Rattle.book.specs.Kept.{HeldType}
+use Rattle.book.proofs.Simples.{simpleFrom}
+
+-- The k-th place holds the k-th simple type.
+module _ {places : List ℕ} {X : PregroupType} where
+  pub holds-at : Holds places 0 X → (k : ℕ) → k < length X → held (getD {A = ℕ} places k 0) ≡ getD X k (plain 0)
+  holds-at h k l =
+      let from : 0 + k ≡ k = omega arith in
+      ap (λ (i : ℕ). held (getD {A = ℕ} places i 0)) (sym from) ∙ h .each k l
+
+  holds-from : ((k : ℕ) → k < length X → held (getD {A = ℕ} places k 0) ≡ getD X k (plain 0)) → Holds places 0 X
+  holds-from h =
+      record { each = λ k l. let from : 0 + k ≡ k = omega arith in ap (λ (i : ℕ). held (getD {A = ℕ} places i 0)) from ∙ h k l }
+
+-- One that is not declared decides; and where every one is declared, all are.
+bases-no : (types : ℕ) (X : PregroupType) (i : ℕ) → i < length X → types ≤ getD X i (plain 0) .base → every (declaredAmong types) (bases X) ≡ false
+unfolding every
+bases-no types [] i h l = absurd (omega arith)
+bases-no types (x ∷ X) zero h l = rw (le-ltb (x .base) types l)
+bases-no types (x ∷ X) (suc i) h l =
+    let rest = bases-no types X i (omega arith) l in
+    go (declaredAmong types (x .base)) rest
+  where
+    go : (t : Bool) → every (declaredAmong types) (bases X) ≡ false → t && every (declaredAmong types) (bases X) ≡ false
+    go true e = e
+    go false e = refl
+
+bases-yes : (types : ℕ) (X : PregroupType) → ((i : ℕ) → i < length X → getD X i (plain 0) .base < types) → every (declaredAmong types) (bases X) ≡ true
+unfolding every
+bases-yes types [] h = refl
+bases-yes types (x ∷ X) h = rw (lt-ltb (x .base) types (h 0 (omega arith)), bases-yes types X (λ i l. h (suc i) (omega arith)))
+
+module _ (places : List ℕ) (types : ℕ) (X : PregroupType) (h : Holds places 0 X) where
+  base-at : (i : ℕ) → i < length X → getD {A = ℕ} places i 0 % 256 ≡ getD X i (plain 0) .base
+  base-at i l = sym (held-base (getD {A = ℕ} places i 0)) ∙ ap (λ (x : Simple). x .base) (holds-at h i l)
+
+  pub held-no : (i : ℕ) → i < length X → types ≤ getD {A = ℕ} places i 0 % 256 → every (declaredAmong types) (bases X) ≡ false
+  held-no i l k = bases-no types X i l (omega (arith, base-at i l))
+
+  pub held-yes : ((i : ℕ) → i < length X → types ≤ getD {A = ℕ} places i 0 % 256 → ⊥) → every (declaredAmong types) (bases X) ≡ true
+  held-yes none = bases-yes types X (λ i l. omega (arith, base-at i l, none i l))
+
+-- A list filled from its front on: below i, place k has what is asked of k.
+pub filled-next : (P : ℕ → ℕ → Type 0) (l : List ℕ) (i x : ℕ) → i < length l → ((k : ℕ) → k < i → P k (getD {A = ℕ} l k 0)) → P i x
+    → (k : ℕ) → k < i + 1 → P k (getD {A = ℕ} (set l i x) k 0)
+filled-next P l i x room before here k h = go (ℕ-discrete k i)
+  where
+    go : Dec (k ≡ i) → P k (getD {A = ℕ} (set l i x) k 0)
+    go (yes e) = subst (λ (j : ℕ). P j (getD {A = ℕ} (set l i x) j 0)) (sym e) (subst (P i) (sym (getD-set-same l i x 0 room)) here)
+    go (no d) = subst (P k) (sym (getD-set-other l i k x 0 d)) (before k (omega (arith, d)))
+
+-- The simple types of a type that stands as pairs of bytes.
+pub simples-length : (part : Bytes) → length part % 2 ≡ 0 → length (simplesOf part) ≡ length part / 2
+unfolding simplesOf
+simples-length [] h = refl
+simples-length (number ∷ []) h = absurd (omega arith)
+simples-length (number ∷ exponent ∷ rest) h = let e = simples-length rest (omega arith) in omega arith
+
+pub simple-at : (part : Bytes) (k : ℕ) → 2 * k + 1 < length part → getD (simplesOf part) k (plain 0) ≡ simpleFrom part (2 * k)
+unfolding simplesOf
+simple-at [] k h = absurd (omega arith)
+simple-at (number ∷ []) k h = absurd (omega arith)
+simple-at (number ∷ exponent ∷ rest) zero h = refl
+simple-at (number ∷ exponent ∷ rest) (suc k) h =
+    let all = number ∷ exponent ∷ rest in
+    let next : suc (suc (2 * k)) ≡ 2 * suc k = omega arith in
+    let behind : suc (suc (2 * k + 1)) ≡ suc (suc (2 * k)) + 1 = omega arith in
+    simple-at rest k (omega arith)
+    ∙ ap (λ (i : ℕ). getD {A = ℕ} rest (2 * k) 0 ⁽ exponentOf (getD {A = ℕ} all i 0) ⁾) behind
+    ∙ ap (λ (i : ℕ). simpleFrom all i) next
+
+-- A type as the code holds it, place by place.
+held-type :
+    (t : EntryType) (X : PregroupType) → t .count ≡ length X → length X ≤ maxEntrySimples
+    → ((k : ℕ) → k < length X → held (getD {A = ℕ} (t .simples) k 0) ≡ getD X k (plain 0)) → HeldType t X
+held-type t X size short each = record { count = size; short = short; simples = holds-from each }
+
+pub pairs-held :
+    (t : EntryType) (part : Bytes) → length part % 2 ≡ 0 → length part ≤ 2 * maxEntrySimples → t .count ≡ length part / 2
+    → ((k : ℕ) → k < t .count → held (getD {A = ℕ} (t .simples) k 0) ≡ simpleFrom part (2 * k)) → HeldType t (simplesOf part)
+pairs-held t part pairs short size each =
+    let all = simples-length part pairs in
+    held-type t (simplesOf part) (size ∙ sym all) (omega arith) (λ k l. each k (omega arith) ∙ sym (simple-at part k (omega arith)))
+
+pub copied-held :
+    (t : EntryType) (places : List ℕ) (X : PregroupType) → Holds places 0 X → length X ≤ maxEntrySimples → t .count ≡ length X
+    → ((k : ℕ) → k < t .count → getD {A = ℕ} (t .simples) k 0 ≡ getD {A = ℕ} places k 0) → HeldType t X
+copied-held t places X h short size same =
+    held-type t X size short (λ k l. ap held (same k (omega arith)) ∙ holds-at h k l)
