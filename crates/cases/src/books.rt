@@ -25,6 +25,28 @@ pub fn second_book(buf: &mut Space) -> usize {
     put_items(buf, at, b"3 \x03log\x04\x00\x00\xff")
 }
 
+// Puts entries 0 to 8 of the paper's books as slashed entries.
+fn put_slashed_entries(buf: &mut Space, at: usize) -> usize {
+    put_items(
+        buf,
+        at,
+        b"@fetch o/p,@fetch (o/w)/p,@bed4 p,@ward7 u,@urgently o\\o,@admit o/u,@site w,@go o,@please o/o",
+    )
+}
+
+// The first book with slashed entries.
+pub fn first_slashed_book(buf: &mut Space) -> usize {
+    let at = put_items(buf, 0, b"1 o,1 p,1 w,1 u,2 \x03\x02,4 \x00");
+    put_slashed_entries(buf, at)
+}
+
+// The second book with slashed entries.
+pub fn second_slashed_book(buf: &mut Space) -> usize {
+    let at = put_items(buf, 0, b"1 o,1 p,1 w,1 u,1 k,2 \x03\x02,4 \x04");
+    let at = put_slashed_entries(buf, at);
+    put_items(buf, at, b"@log k/o")
+}
+
 // The dictionary of document 000, example 4.3, with names respelt in letters and digits and the target s. π1 is p1, π is p.
 pub fn example_3(buf: &mut Space) -> usize {
     put_items(

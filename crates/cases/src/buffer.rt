@@ -11,6 +11,8 @@ const BASIC_TYPE: usize = 1;
 
 const PAIR: usize = 2;
 
+const SLASHED_ENTRY: usize = 5;
+
 // Puts a byte, where there is room.
 fn put(buf: &mut Space, at: usize, byte: u8) -> usize {
     if at < ROOM {
@@ -47,6 +49,14 @@ pub fn head(buf: &mut Space, at: usize, length: usize, kind: usize) -> usize {
 pub fn record(buf: &mut Space, at: usize, kind: usize, body: &[u8]) -> usize {
     let at = head(buf, at, body.len(), kind);
     put_all(buf, at, body)
+}
+
+// Puts a slashed entry: the length of a word, the word and a text.
+pub fn slashed_entry(buf: &mut Space, at: usize, word: &[u8], text: &[u8]) -> usize {
+    let at = head(buf, at, 1 + word.len() + text.len(), SLASHED_ENTRY);
+    let at = put(buf, at, (word.len() % 256) as u8);
+    let at = put_all(buf, at, word);
+    put_all(buf, at, text)
 }
 
 // The digit of a number that stands for units.

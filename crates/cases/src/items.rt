@@ -1,6 +1,7 @@
 // A book written as text: items with a comma between them, which no item holds. N and K are numbers in digits.
 //
-//     N BODY     a record of kind N: 1 is a basic type, 2 an order pair, 3 an entry, 4 a target
+//     N BODY     a record of kind N: 1 is a basic type, 2 an order pair, 3 an entry, 4 a target, 5 a slashed entry
+//     @WORD TEXT a slashed entry: a word, which holds no space, and the text of its type
 //     N/K        a record's head alone, with the length N and the kind K
 //     'BYTES     bytes as they are
 //     N#         N basic types: a00, a01, and so on
@@ -13,7 +14,9 @@ use crate::buffer::moving_pairs;
 use crate::buffer::numbered_types;
 use crate::buffer::put_all;
 use crate::buffer::record;
+use crate::buffer::slashed_entry;
 use crate::text::digits;
+use crate::text::find;
 use crate::text::number;
 
 // Puts the pairs that four bytes give.
@@ -22,6 +25,16 @@ fn pairs(buf: &mut Space, at: usize, count: usize, body: &[u8]) -> usize {
         return at;
     }
     moving_pairs(buf, at, count, body[0], body[1], body[2], body[3])
+}
+
+// Puts the slashed entry that a word and a text give, with a space between them.
+fn slashed(buf: &mut Space, at: usize, body: &[u8]) -> usize {
+    let space = find(body, b' ');
+    if space >= body.len() {
+        return at;
+    }
+    let text = space + 1;
+    slashed_entry(buf, at, &body[0..space], &body[text..])
 }
 
 // Puts what a mark stands for, with the number before it and the bytes behind it.
@@ -34,6 +47,9 @@ fn marked(buf: &mut Space, at: usize, n: usize, mark: u8, body: &[u8]) -> usize 
     }
     if mark == b'\'' {
         return put_all(buf, at, body);
+    }
+    if mark == b'@' {
+        return slashed(buf, at, body);
     }
     if mark == b'#' {
         return numbered_types(buf, at, n);

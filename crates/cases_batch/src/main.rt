@@ -6,6 +6,7 @@ mod limits;
 mod longest;
 mod paper;
 mod rows;
+mod slashes;
 mod targets;
 
 fn main() {
@@ -17,4 +18,5 @@ fn main() {
     longest::rows(&mut book, &mut lines);
     bad_books::rows(&mut book, &mut lines);
     targets::rows(&mut book, &mut lines);
+    slashes::rows(&mut book, &mut lines);
 }

@@ -1,4 +1,4 @@
-// Several faults at once: the earliest bad record decides, and within a record the smallest number.
+// Several faults at once: the earliest bad record decides, and within a record the first rule that is broken.
 use crate::rows::check_each;
 use cases::buffer::Space;
 

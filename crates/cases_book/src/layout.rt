@@ -46,7 +46,7 @@ fn heads(buf: &mut Space) {
         buf,
         b"kind-0:1 a,1 b,0 \x00\n\
           kind-4:1 a,1 b,4 \x00\n\
-          kind-5:1 a,1 b,5 \x00\n\
+          kind-6:1 a,1 b,6 \x00\n\
           kind-65535:1 a,1 b,65535 \x00\n\
           kind-0-without-a-body:1 a,1 b,0 \n\
           kind-256:1 a,1 b,256 \x00\n\

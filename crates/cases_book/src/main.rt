@@ -4,6 +4,7 @@ mod layout;
 mod limits;
 mod pairs;
 mod rows;
+mod slashes;
 mod targets;
 
 fn main() {
@@ -13,4 +14,5 @@ fn main() {
     faults::rows(&mut space);
     pairs::rows(&mut space);
     targets::rows(&mut space);
+    slashes::rows(&mut space);
 }

@@ -8,6 +8,7 @@ mod lookups;
 mod paper;
 mod rows;
 mod signs;
+mod slashes;
 mod spellings;
 mod targets;
 mod thesis;
@@ -26,4 +27,5 @@ fn main() {
     long_words::rows(&mut space);
     lookups::rows(&mut space);
     targets::rows(&mut space);
+    slashes::rows(&mut space);
 }

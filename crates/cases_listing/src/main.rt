@@ -6,6 +6,7 @@ mod longest;
 mod paper;
 mod rooms;
 mod rows;
+mod slashes;
 mod targets;
 mod words;
 
@@ -18,4 +19,5 @@ fn main() {
     longest::rows(&mut space);
     given::rows(&mut space);
     targets::rows(&mut space);
+    slashes::rows(&mut space);
 }
