@@ -149,7 +149,7 @@ fn row(name: &str, rounds: &Rounds) {
 }
 
 /// Times the check of named books and prints their table.
-fn books(title: &str, books: &[(&str, Vec<u8>)]) {
+fn books(title: &str, books: &[(String, Vec<u8>)]) {
     head(title);
     for (name, book) in books {
         assert_eq!(
@@ -260,6 +260,7 @@ pub fn tables() {
     batch("32 typical lines", &samples::batch());
     lines("Hard lines", &samples::hard());
     lines("Full books", &samples::full());
+    lines("Slash notation", &samples::slashed());
     for kind in samples::growth() {
         growth(&kind);
     }

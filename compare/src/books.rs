@@ -20,6 +20,10 @@ impl Records {
         self.list.push(entry(word, simple_types));
     }
 
+    pub fn slashed_entry(&mut self, word: &[u8], text: &[u8]) {
+        self.list.push(slashed_entry(word, text));
+    }
+
     pub fn target(&mut self, target: u8) {
         self.list.push(record(4, &[target]));
     }
@@ -47,8 +51,18 @@ pub fn entry(word: &[u8], simple_types: &[(u8, i8)]) -> Vec<u8> {
     record(3, &body)
 }
 
+/// The record of an entry with its type in slash notation.
+pub fn slashed_entry(word: &[u8], text: &[u8]) -> Vec<u8> {
+    record(5, &[&[word.len() as u8], word, text].concat())
+}
+
+/// The kind of a record.
+pub fn kind_of(record: &[u8]) -> u16 {
+    u16::from_le_bytes([record[2], record[3]])
+}
+
 /// Where the records of a book stand, heads included, as far as they are whole.
-fn record_ranges(book: &[u8]) -> Vec<Range<usize>> {
+pub fn record_ranges(book: &[u8]) -> Vec<Range<usize>> {
     let mut ranges = vec![];
     let mut at = 0;
     while let Some(head) = book.get(at..at + 4) {
@@ -62,10 +76,13 @@ fn record_ranges(book: &[u8]) -> Vec<Range<usize>> {
     ranges
 }
 
-/// The same for the records of one kind.
-fn ranges_of_kind(book: &[u8], kind: u16) -> impl Iterator<Item = Range<usize>> + '_ {
-    let of_kind = move |range: &Range<usize>| book[range.start + 2..][..2] == kind.to_le_bytes();
-    record_ranges(book).into_iter().filter(of_kind)
+/// The same for the records of some kinds.
+fn ranges_of_kinds<'a>(
+    book: &'a [u8],
+    kinds: &'a [u16],
+) -> impl Iterator<Item = Range<usize>> + 'a {
+    let of_kinds = |range: &Range<usize>| kinds.contains(&kind_of(&book[range.clone()]));
+    record_ranges(book).into_iter().filter(of_kinds)
 }
 
 /// Where the words of a book's entries stand, as far as its records are whole.
@@ -75,13 +92,13 @@ pub fn word_ranges(book: &[u8]) -> Vec<Range<usize>> {
         let word = record.start + 5..record.start + 5 + length;
         Some(word).filter(|word| word.end <= record.end)
     };
-    ranges_of_kind(book, 3).filter_map(word).collect()
+    ranges_of_kinds(book, &[3, 5]).filter_map(word).collect()
 }
 
 /// Where the targets of a book stand, heads included, as far as its records are whole.
 #[cfg(test)]
 pub fn target_ranges(book: &[u8]) -> Vec<Range<usize>> {
-    ranges_of_kind(book, 4).collect()
+    ranges_of_kinds(book, &[4]).collect()
 }
 
 /// A book written with names: entries as ("fetch", "o p^l").

@@ -9,6 +9,7 @@ type TypeString = Vec<(u8, i8)>;
 
 /// An accepted book, taken apart without any check.
 struct Book {
+    names: Vec<Vec<u8>>,
     pairs: Vec<(u8, u8)>,
     entries: Vec<(Vec<u8>, TypeString)>,
     targets: Vec<u8>,
@@ -16,6 +17,7 @@ struct Book {
 
 fn take_apart(bytes: &[u8]) -> Book {
     let mut book = Book {
+        names: vec![],
         pairs: vec![],
         entries: vec![],
         targets: vec![],
@@ -23,8 +25,9 @@ fn take_apart(bytes: &[u8]) -> Book {
     let mut rest = bytes;
     while !rest.is_empty() {
         let (head, behind) = rest.split_at(4);
-        let (body, behind) = behind.split_at(head[0] as usize);
+        let (body, behind) = behind.split_at(body_length(head));
         match head[2] {
+            1 => book.names.push(body.to_vec()),
             2 => book.pairs.push((body[0], body[1])),
             3 => {
                 let (word, simple_types) = body[1..].split_at(body[0] as usize);
@@ -33,11 +36,67 @@ fn take_apart(bytes: &[u8]) -> Book {
                 book.entries.push((word.to_vec(), simple_types));
             }
             4 => book.targets.push(body[0]),
+            5 => {
+                let (word, text) = body[1..].split_at(body[0] as usize);
+                let simple_types = type_of(&book.names, text);
+                book.entries.push((word.to_vec(), simple_types));
+            }
             _ => {}
         }
         rest = behind;
     }
     book
+}
+
+fn body_length(head: &[u8]) -> usize {
+    head[0] as usize + 256 * head[1] as usize
+}
+
+/// A part of a text in slash notation.
+#[derive(Clone, PartialEq)]
+enum Part {
+    Sign(u8),
+    Type(TypeString),
+}
+
+/// The type of a text, from the inside out: names become types, and what stands
+/// in innermost brackets becomes one type, until one is left.
+fn type_of(names: &[Vec<u8>], text: &[u8]) -> TypeString {
+    let mut parts: Vec<Part> = vec![Part::Sign(b'(')];
+    let mut name = vec![];
+    for byte in [text, b")"].concat() {
+        if byte.is_ascii_alphanumeric() {
+            name.push(byte);
+            continue;
+        }
+        if !name.is_empty() {
+            let number = names.iter().position(|other| *other == name).unwrap();
+            parts.push(Part::Type(vec![(number as u8, 0)]));
+            name.clear();
+        }
+        parts.push(Part::Sign(byte));
+    }
+    while parts.len() > 1 {
+        let is = |sign: u8| move |part: &Part| *part == Part::Sign(sign);
+        let close = parts.iter().position(is(b')')).unwrap();
+        let open = parts[..close].iter().rposition(is(b'(')).unwrap();
+        let inside = joined(&parts[open + 1..close]);
+        parts.splice(open..=close, [Part::Type(inside)]);
+    }
+    joined(&parts)
+}
+
+/// The type of one part, or of two with a slash between.
+fn joined(parts: &[Part]) -> TypeString {
+    let adjoint = |string: &TypeString, by: i8| -> TypeString {
+        string.iter().rev().map(|(a, z)| (*a, z + by)).collect()
+    };
+    match parts {
+        [Part::Type(one)] => one.clone(),
+        [Part::Type(a), Part::Sign(b'/'), Part::Type(b)] => [a.clone(), adjoint(b, -1)].concat(),
+        [Part::Type(b), Part::Sign(b'\\'), Part::Type(a)] => [adjoint(b, 1), a.clone()].concat(),
+        _ => panic!("the text is no type"),
+    }
 }
 
 /// a ≤ b: b is found by walking up from a.
@@ -190,7 +249,7 @@ fn ninth_target(book: &[u8]) -> Option<u64> {
         if book[offset + 2] == 4 {
             offsets.push(offset as u64);
         }
-        offset += 4 + book[offset] as usize;
+        offset += 4 + body_length(&book[offset..]);
     }
     offsets.get(8).copied()
 }

@@ -7,6 +7,7 @@ mod borders;
 mod damaged_books;
 mod damaged_lines;
 mod papers;
+mod slashes;
 mod spellings;
 mod targets;
 
@@ -21,6 +22,8 @@ pub struct Case {
     pub book: Vec<u8>,
     pub line: Vec<u8>,
     pub lent: usize,
+    /// The book before types of its entries were written as texts, where that must change no outcome.
+    pub plain: Option<Vec<u8>>,
 }
 
 /// More values than any answer takes: 3 + 24 words + 24 times 12 simple types.
@@ -29,13 +32,14 @@ pub const AMPLE: usize = 320;
 type Maker = fn(&mut Random) -> Case;
 
 /// The makers with their shares of 2,000 cases.
-const MAKERS: [(usize, Maker); 8] = [
-    (750, ambiguous),
+const MAKERS: [(usize, Maker); 9] = [
+    (600, ambiguous),
+    (240, slashes::slashes),
     (200, spellings),
     (150, alike_words::alike_words),
-    (230, papers::papers),
-    (340, damaged_books::damaged_books),
-    (298, damaged_lines::damaged_lines),
+    (200, papers::papers),
+    (320, damaged_books::damaged_books),
+    (258, damaged_lines::damaged_lines),
     (30, borders::small_borders),
     (2, borders::big_borders),
 ];
@@ -52,12 +56,17 @@ pub fn any(random: &mut Random) -> Case {
     unreachable!("the shares make 2,000")
 }
 
-/// The case of a kind: with its words respelt in every second case, and with a
-/// number of values lent that is often just enough or just too small.
+/// The case of a kind: with its words respelt in every second case, with types
+/// written as texts in every second one, and with a number of values lent that
+/// is often just enough or just too small.
 fn lend(random: &mut Random, kind: &'static str, mut book: Vec<u8>, mut line: Vec<u8>) -> Case {
     if random.chance(1, 2) {
         spellings::respell(random, &mut book, &mut line);
     }
+    let plain = match random.chance(1, 2) {
+        true => slashes::rewrite(random, &mut book),
+        false => None,
+    };
     let lent = match random.below(10) {
         0..=4 => AMPLE,
         5 | 6 => needed(&book, &line),
@@ -69,6 +78,7 @@ fn lend(random: &mut Random, kind: &'static str, mut book: Vec<u8>, mut line: Ve
         book,
         line,
         lent,
+        plain,
     }
 }
 

@@ -154,8 +154,8 @@ fn add<T: Tally>(tallies: &mut ByKind<T>, others: &ByKind<T>) {
 fn print_tallies(tallies: &Tallies, time: Duration) {
     let lines = print_by_kind(&tallies.lines);
     let batches = print_by_kind(&tallies.batches);
-    print_missing("lines", &lines.all, &[1..=16]);
-    print_missing("batches", &batches.all, &[1..=10, 17..=18]);
+    print_missing("lines", &lines.all, &[1..=16, 19..=21]);
+    print_missing("batches", &batches.all, &[1..=10, 17..=21]);
     print_missing("lines of batches", &batches.lines, &[11..=15]);
     print_missing_targets("lines", &lines.targets);
     print_missing_targets("lines of batches", &batches.targets);
@@ -214,9 +214,9 @@ fn hex(bytes: &[u8]) -> String {
 #[cfg(test)]
 mod tests {
     use super::*;
-    use crate::books::{first_book, target_ranges, word_ranges};
-    use crate::cases::Batch;
-    use crate::readers::{ReadBatch, TWIN};
+    use crate::books::{first_book, kind_of, record_ranges, target_ranges, word_ranges};
+    use crate::cases::{Batch, Case};
+    use crate::readers::{CheckBook, ReadBatch, TWIN};
     use crate::types::{Counts, Refusal};
 
     /// The independent reader, but with one bit set in every byte from 64 to 94 of words on both sides, so that `[` is `{`.
@@ -337,6 +337,104 @@ mod tests {
             own[0] = targets.len() as u16 - 1 - own[0];
             Ok(())
         })
+    }
+
+    /// The book with its texts changed.
+    fn with_texts(book: &[u8], change: impl Fn(&mut u8)) -> Vec<u8> {
+        let mut changed = book.to_vec();
+        for range in record_ranges(book) {
+            if kind_of(&book[range.clone()]) == 5 && range.len() > 4 {
+                let text = range.start + 5 + book[range.start + 4] as usize;
+                changed[text.min(range.end)..range.end]
+                    .iter_mut()
+                    .for_each(&change);
+            }
+        }
+        changed
+    }
+
+    #[test]
+    fn differences_in_slashes_are_found() {
+        // Kind 5 is not listed.
+        assert!(!alike(Reader {
+            check_book: |book| {
+                let mut records = record_ranges(book).into_iter();
+                match records.find(|range| kind_of(&book[range.clone()]) == 5) {
+                    Some(first) => Err((3, first.start as u64)),
+                    None => (INDEPENDENT.check_book)(book),
+                }
+            },
+            ..INDEPENDENT
+        }));
+        // Either slash is taken for the other.
+        assert!(!alike(Reader {
+            read_line: |book, line, answer| {
+                let turned = with_texts(book, |byte| match *byte {
+                    b'/' => *byte = b'\\',
+                    b'\\' => *byte = b'/',
+                    _ => {}
+                });
+                (INDEPENDENT.read_line)(&turned, line, answer)
+            },
+            ..INDEPENDENT
+        }));
+        // Capitals in texts count as small letters.
+        assert!(!run(
+            20_000,
+            3,
+            &[Reader {
+                check_book: |book| {
+                    let small = with_texts(book, |byte| byte.make_ascii_lowercase());
+                    (INDEPENDENT.check_book)(&small)
+                },
+                ..INDEPENDENT
+            }]
+        ));
+        // One of the new refusals is given for another.
+        let swapped: [CheckBook; 3] = [
+            |book| swap(book, 19, 20),
+            |book| swap(book, 20, 5),
+            |book| swap(book, 21, 9),
+        ];
+        for check_book in swapped {
+            assert!(!run(
+                4_000,
+                3,
+                &[Reader {
+                    check_book,
+                    ..INDEPENDENT
+                }]
+            ));
+        }
+    }
+
+    /// The independent reader's book check, with one refusal in the place of another.
+    fn swap(book: &[u8], one: u32, other: u32) -> Result<Counts, Refusal> {
+        (INDEPENDENT.check_book)(book).map_err(|(number, value)| match number == one {
+            true => (other, value),
+            false => (number, value),
+        })
+    }
+
+    /// Where a text must change nothing, the line is read against the plain book too.
+    #[test]
+    fn plain_books_are_compared() {
+        let case = |text: &[u8]| {
+            let (mut book, mut plain) = (first_book(), first_book());
+            book.slashed_entry(b"hurry", text);
+            plain.entry(b"hurry", &[(0, 0), (0, -1)]);
+            Case {
+                kind: "",
+                book: book.bytes(),
+                line: b"hurry go".to_vec(),
+                lent: 20,
+                plain: Some(plain.bytes()),
+            }
+        };
+        let consistent = |case: Case| case.consistent(&case.outcome(&INDEPENDENT));
+        assert!(consistent(case(b"(o/o)")));
+        assert!(!consistent(case(b"o\\o")));
+        assert!(!consistent(case(b"o/o/o")));
     }
 
     #[test]

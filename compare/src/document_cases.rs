@@ -163,7 +163,7 @@ fn with_record(added: Vec<u8>) -> u32 {
 fn smallest_number_within_a_record() {
     assert_eq!(with_record(vec![0, 0, 1]), 2);
     assert_eq!(with_record(vec![9, 0, 77, 0]), 2);
-    assert_eq!(with_record(record(5, &[])), 3);
+    assert_eq!(with_record(record(6, &[])), 3);
     assert_eq!(with_record(record(257, b"x")), 3);
     assert_eq!(with_record(record(1, b"1x")), 4);
     assert_eq!(with_record(entry(b"x", &[(200, 9); 13])), 4);

@@ -1,6 +1,8 @@
-//! The book check and the line reader of document 01 with requests 2.1, 2.2 and
-//! 2.4 of document 02, straight from their definitions: a second
+//! The book check and the line reader of document 01 with requests 2.1, 2.2,
+//! 2.4 and 2.5 of document 02, straight from their definitions: a second
 //! implementation, to be compared with the first.
+
+mod slashes;
 
 use crate::types::{Counts, Refusal};
 
@@ -178,6 +180,7 @@ impl<'a> Draft<'a> {
             2 => self.add_pair(body)?,
             3 => self.add_entry(body)?,
             4 => self.add_target(body)?,
+            5 => self.add_slashed_entry(body)?,
             _ => return Err(3),
         }
         Ok(4 + body_length)
@@ -214,9 +217,31 @@ impl<'a> Draft<'a> {
         if simple_types.iter().any(|s| !self.declared(s.basic)) {
             return Err(5);
         }
-        if simple_types.iter().any(|s| !(-8..=8).contains(&s.exponent)) {
+        if !exponents_within(&simple_types) {
             return Err(6);
         }
+        self.number_entry(word, simple_types)
+    }
+
+    fn add_slashed_entry(&mut self, body: &'a [u8]) -> Result<(), u32> {
+        let (word, text) = word_and_rest(body).ok_or(4u32)?;
+        if slashes::too_deep(text) {
+            return Err(19);
+        }
+        let written = slashes::parse(text).ok_or(20u32)?;
+        let number = |name: &[u8]| self.names.iter().position(|declared| *declared == name);
+        let simple_types = written.simple_types(&number).ok_or(5u32)?;
+        if !exponents_within(&simple_types) {
+            return Err(6);
+        }
+        if simple_types.len() > MOST_ENTRY_TYPES {
+            return Err(21);
+        }
+        self.number_entry(word, simple_types)
+    }
+
+    /// Adds an entry of either kind, with the next number.
+    fn number_entry(&mut self, word: &'a [u8], simple_types: Vec<SimpleType>) -> Result<(), u32> {
         if self.entries.len() == MOST_ENTRIES {
             return Err(9);
         }
@@ -254,16 +279,25 @@ fn is_type_name(name: &[u8]) -> bool {
     (1..=15).contains(&name.len()) && letter(&name[0]) && name.iter().all(letter_or_digit)
 }
 
-/// An entry's word and simple types, if the body has an entry's layout.
-fn entry_layout(body: &[u8]) -> Option<(&[u8], Vec<SimpleType>)> {
+fn exponents_within(simple_types: &[SimpleType]) -> bool {
+    simple_types.iter().all(|s| (-8..=8).contains(&s.exponent))
+}
+
+/// An entry's word and what stands behind it, if the body begins with a word.
+fn word_and_rest(body: &[u8]) -> Option<(&[u8], &[u8])> {
     let length = *body.first()? as usize;
     if !(1..=MOST_WORD_BYTES).contains(&length) {
         return None;
     }
     let word = body.get(1..1 + length)?;
-    let rest = &body[1 + length..];
     let word_bytes = word.iter().all(|byte| (33..=126).contains(byte));
-    if !word_bytes || !rest.len().is_multiple_of(2) || rest.len() / 2 > MOST_ENTRY_TYPES {
+    word_bytes.then(|| (word, &body[1 + length..]))
+}
+
+/// An entry's word and simple types, if the body has the layout of kind 3.
+fn entry_layout(body: &[u8]) -> Option<(&[u8], Vec<SimpleType>)> {
+    let (word, rest) = word_and_rest(body)?;
+    if !rest.len().is_multiple_of(2) || rest.len() / 2 > MOST_ENTRY_TYPES {
         return None;
     }
     let simple = |bytes: &[u8]| SimpleType {

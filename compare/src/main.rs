@@ -20,6 +20,8 @@ mod document_batches;
 #[cfg(test)]
 mod document_cases;
 #[cfg(test)]
+mod document_slashes;
+#[cfg(test)]
 mod document_targets;
 mod independent;
 mod progress;
@@ -27,6 +29,7 @@ mod random;
 mod readers;
 mod samples;
 mod search;
+mod slashes;
 mod twin;
 mod types;
 

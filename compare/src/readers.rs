@@ -3,7 +3,7 @@ use crate::types::{Counts, Refusal};
 use crate::{independent, twin};
 
 /// Checks a book alone.
-type CheckBook = fn(&[u8]) -> Result<Counts, Refusal>;
+pub type CheckBook = fn(&[u8]) -> Result<Counts, Refusal>;
 
 /// Reads a line against a book: the number of values written to the answer, or a refusal with the answer untouched.
 type ReadLine = fn(&[u8], &[u8], &mut [u16]) -> Result<u64, Refusal>;

@@ -1,13 +1,15 @@
 //! Books and lines to time: a typical book with its lines and a batch of such, lines at the bounds where much contracts with much,
-//! books full of entries of one word or of words alike, and the dearest line that a search has found. Lines have one target, some of them
-//! again eight. A sample's name ends with whether its line reads.
+//! books full of entries of one word or of words alike, the dearest line that a search has found, and books and lines in slash notation
+//! beside the same by numbers. Lines have one target, some of them again eight. A sample's name ends with whether its line reads.
 mod dearest;
 mod full;
 mod hard;
+mod slashed;
 mod typical;
 
 pub use full::full;
 pub use hard::{growth, hard};
+pub use slashed::slashed;
 pub use typical::{batch, typical};
 
 /// A simple type: a basic type's number and an exponent.
@@ -45,28 +47,39 @@ pub fn all() -> Vec<Sample> {
     let mut samples = typical();
     samples.extend(hard());
     samples.extend(full());
+    samples.extend(slashed());
     let steps = growth().into_iter().flat_map(|growth| growth.steps);
     samples.extend(steps.map(|(_, sample)| sample));
     samples
 }
 
-/// Books to check alone, by name.
-pub fn books() -> [(&'static str, Vec<u8>); 4] {
-    let (typical, hard, full) = (typical(), hard(), full());
+/// Books to check alone, by name. A book in slash notation stands right behind the same by numbers.
+pub fn books() -> Vec<(String, Vec<u8>)> {
+    let (hard, full) = (hard(), full());
     let alike = |sample: &&Sample| sample.name.starts_with("1024 words alike");
     let alike = full.iter().find(alike).expect("a sample of that name");
-    [
-        ("typical, 1000 entries", typical[0].book.clone()),
-        ("64 types in a cycle", hard[1].book.clone()),
-        ("1024 empty entries, 1 byte", full[0].book.clone()),
-        ("1024 words alike, 31 bytes", alike.book.clone()),
-    ]
+    let mut books = Vec::new();
+    for twofold in slashed::twofold_books() {
+        let name = format!("{}, in slashes", twofold.name);
+        books.push((twofold.name.to_string(), twofold.by_numbers));
+        books.push((name, twofold.in_slashes));
+    }
+    books.extend([
+        ("64 types in a cycle".to_string(), hard[1].book.clone()),
+        (
+            "1024 empty entries, 1 byte".to_string(),
+            full[0].book.clone(),
+        ),
+        ("1024 words alike, 31 bytes".to_string(), alike.book.clone()),
+    ]);
+    books
 }
 
 #[cfg(test)]
 mod tests {
     use super::typical::typical_book;
     use super::*;
+    use crate::books::{kind_of, record_ranges};
     use crate::random::Random;
     use crate::readers::TWIN;
 
@@ -95,6 +108,53 @@ mod tests {
         assert_eq!(batch.lines.len(), 32);
         let read = |line: &&Vec<u8>| (TWIN.read_line)(&batch.book, line, &mut [0; 512]).is_ok();
         assert_eq!(batch.lines.iter().filter(read).count(), 24);
+    }
+
+    /// How many records of a kind a book has.
+    fn count_of_kind(book: &[u8], kind: u16) -> usize {
+        let mut records = record_ranges(book);
+        records.retain(|range| kind_of(&book[range.clone()]) == kind);
+        records.len()
+    }
+
+    #[test]
+    fn books_in_slashes_are_checked_as_those_by_numbers() {
+        for twofold in slashed::twofold_books() {
+            let [by_numbers, in_slashes] = [twofold.by_numbers, twofold.in_slashes];
+            let counts = (TWIN.check_book)(&by_numbers).expect(twofold.name);
+            assert_eq!(
+                (TWIN.check_book)(&in_slashes),
+                Ok(counts),
+                "{}",
+                twofold.name
+            );
+            let entries = counts.entries as usize;
+            assert_eq!(count_of_kind(&by_numbers, 3), entries);
+            assert_eq!(count_of_kind(&in_slashes, 5), entries, "{}", twofold.name);
+        }
+    }
+
+    #[test]
+    fn lines_are_read_alike_in_slashes() {
+        let all = all();
+        let mut pairs = 0;
+        for sample in &all {
+            let plain = [", by numbers", ""].map(|by| sample.name.replace(", in slashes", by));
+            let is_plain = |other: &&Sample| plain.contains(&other.name);
+            let other = all.iter().find(is_plain).expect("the same by numbers");
+            if other.name == sample.name {
+                continue;
+            }
+            let read = |sample: &Sample| {
+                let mut answer = [0; 512];
+                let read = (TWIN.read_line)(&sample.book, &sample.line, &mut answer);
+                (read, answer)
+            };
+            assert_eq!(read(sample), read(other), "{}", sample.name);
+            assert_eq!(count_of_kind(&sample.book, 3), 0, "{}", sample.name);
+            pairs += 1;
+        }
+        assert_eq!(pairs, 4);
     }
 
     #[test]

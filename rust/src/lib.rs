@@ -91,7 +91,7 @@ pub struct Counts {
 /// Why a book, a line or a batch is refused.
 #[derive(Clone, Copy, Debug, PartialEq, Eq)]
 pub struct Refusal {
-    /// The number of the cause, 1 to 18, as listed in [`refusals`].
+    /// The number of the cause, 1 to 21, as listed in [`refusals`].
     pub number: u32,
     /// The value returned with it: an offset, a length, a number of values, or 0.
     pub value: u64,
@@ -270,6 +270,58 @@ mod tests {
         let offset = with_targets(MAX_TARGETS - 1).len() as u64;
         let ninth = refused(refusals::TOO_MANY_TARGETS, offset);
         assert_eq!(check_book(&with_targets(MAX_TARGETS)), ninth);
+    }
+
+    /// The book with one entry more, of the word `x`, whose type is a text.
+    fn with_text(text: &[u8]) -> Vec<u8> {
+        let length = (2 + text.len()) as u8;
+        [BOOK, &[length, 0, 5, 0, 1], b"x", text].concat()
+    }
+
+    #[test]
+    fn line_is_read_through_a_text() {
+        let book = with_text(b"(o/w)/p");
+        let counts = Counts {
+            types: 4,
+            entries: 10,
+            pairs: 5,
+        };
+        assert_eq!(check_book(&book), Ok(counts));
+        let mut answer = [7; MAX_VALUES];
+        assert_eq!(read_line(&book, b"x bed4 ward7", &mut answer), Ok(11));
+        assert_eq!(answer[..11], [0, 3, 9, 2, 3, 5, 1, 5, 4, 3, 2]);
+        let mut answers = [7; MAX_BATCH_VALUES];
+        assert_eq!(read_batch(&book, b"x bed4 site\nx\n", &mut answers), Ok(2));
+        let parts: Vec<_> = parts(&answers, 2).collect();
+        let none = refused(refusals::NO_READING, 0);
+        assert_eq!(parts, [Ok(&[0, 3, 9, 2, 6, 5, 1, 5, 4, 3, 2][..]), none]);
+    }
+
+    #[test]
+    fn texts_are_refused() {
+        let long = b"((o/o)/(o/o))/((((o/o)/(o/o))/(o/o))/((o/o)/o))";
+        let offset = BOOK.len() as u64;
+        let texts: [(&[u8], u32); 5] = [
+            (b"(((((((o)))))))", refusals::BRACKETS_TOO_DEEP),
+            (b")(((((((", refusals::NOT_A_TYPE),
+            (b"o/p/w", refusals::NOT_A_TYPE),
+            (b"o/nobody", refusals::UNDECLARED_TYPE),
+            (long, refusals::TYPE_TOO_LONG),
+        ];
+        for (text, number) in texts {
+            let book = with_text(text);
+            assert_eq!(check_book(&book), refused(number, offset));
+            let mut answer = [7; 7];
+            assert_eq!(
+                read_line(&book, b"go", &mut answer),
+                refused(number, offset)
+            );
+            assert_eq!(
+                read_batch(&book, b"go\n", &mut answer),
+                refused(number, offset)
+            );
+            assert_eq!(answer, [7; 7]);
+        }
     }
 
     #[test]

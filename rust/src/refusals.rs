@@ -9,7 +9,7 @@ macro_rules! refusals {
         )*
 
         /// Each refusal by number, name and cause.
-        pub(crate) const LIST: [(u32, &str, &str); 18] = [$(($number, stringify!($name), $cause)),*];
+        pub(crate) const LIST: [(u32, &str, &str); 21] = [$(($number, stringify!($name), $cause)),*];
     };
 }
 
@@ -18,7 +18,7 @@ refusals! {
     CUT_SHORT = 2, "head or body of a record cut short", "the record's offset";
     KIND_NOT_LISTED = 3, "kind not listed", "the record's offset";
     BAD_LAYOUT = 4, "body not of its kind's layout", "the record's offset";
-    UNDECLARED_TYPE = 5, "type number not declared by an earlier record", "the record's offset";
+    UNDECLARED_TYPE = 5, "type number or name not declared by an earlier record", "the record's offset";
     EXPONENT_OUTSIDE = 6, "exponent outside -8 to 8", "the record's offset";
     NAME_USED = 7, "type name used before", "the record's offset";
     TOO_MANY_TARGETS = 8, "ninth target", "the record's offset";
@@ -32,6 +32,9 @@ refusals! {
     BUFFER_TOO_SHORT = 16, "answer buffer too short", "the number of values needed";
     BAD_BATCH = 17, "over 32 lines, over 65,535 bytes, or a last line not closed", "0";
     ANSWERS_TOO_LONG = 18, "the answers of a batch do not fit", "the number of values needed";
+    BRACKETS_TOO_DEEP = 19, "over six brackets open at once in the text of a type", "the record's offset";
+    NOT_A_TYPE = 20, "text that is no type", "the record's offset";
+    TYPE_TOO_LONG = 21, "text of a type of over 12 simple types", "the record's offset";
 }
 
 /// The cause of a refusal in words.

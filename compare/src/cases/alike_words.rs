@@ -319,7 +319,7 @@ mod tests {
     /// What a line reaches, where its book is accepted and its words may be looked up; with what it is answered.
     fn reached(book: &[u8], line: &[u8]) -> Vec<Reached> {
         let outcome = independent::read_line(book, line, &mut [0; crate::cases::AMPLE]);
-        if matches!(outcome, Err((1..=12, _))) {
+        if matches!(outcome, Err((1..=12 | 19..=21, _))) {
             return vec![];
         }
         let ranges = word_ranges(book).into_iter();

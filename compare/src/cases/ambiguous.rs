@@ -237,6 +237,11 @@ impl Small {
     /// The book: basic types first, the other records in any order, but targets
     /// in their own, and sometimes one more basic type among them.
     pub fn records(&self, random: &mut Random) -> Records {
+        self.records_with(random, &NAMES)
+    }
+
+    /// The same with other names for the basic types, seven of them.
+    pub fn records_with(&self, random: &mut Random, names: &[&str]) -> Records {
         let mut others = Records::default();
         for (lower, upper) in &self.types.pairs {
             others.pair(*lower, *upper);
@@ -245,11 +250,11 @@ impl Small {
             others.target(*target);
         }
         if random.chance(1, 4) {
-            others.basic_type(NAMES[6].as_bytes());
+            others.basic_type(names[6].as_bytes());
         }
         random.shuffle(&mut others.list);
         let mut records = Records::default();
-        for name in &NAMES[..self.types.count] {
+        for name in &names[..self.types.count] {
             records.basic_type(name.as_bytes());
         }
         let basic_types = records.list.len();

@@ -39,6 +39,7 @@ pub fn big_borders(random: &mut Random) -> Case {
         simple_types_of_line,
         one_dense_type,
         long_line,
+        long_text,
     ];
     let (book, line) = random.pick(&makers)(random);
     lend(random, "big border", book, line)
@@ -191,6 +192,7 @@ fn values_lent(random: &mut Random) -> Case {
         book: first_book().bytes(),
         line: line.as_bytes().to_vec(),
         lent,
+        plain: None,
     }
 }
 
@@ -226,9 +228,16 @@ fn entries_of_book(random: &mut Random) -> Made {
     for number in 0..1_024 {
         records.entry(&numbered(number % words), &types.shaped(random));
     }
-    if random.chance(1, 2) {
-        let more: [&[(u8, i8)]; 4] = [&[(0, 8)], &[], &[(0, 9)], &[(200, 9)]];
-        records.entry(b"w0", more[random.below(4)]);
+    match random.below(4) {
+        0 => {
+            let more: [&[(u8, i8)]; 4] = [&[(0, 8)], &[], &[(0, 9)], &[(200, 9)]];
+            records.entry(b"w0", more[random.below(4)]);
+        }
+        1 => {
+            let more = ["t0", "t0/t0", "t0/t0/t0", "nobody", "(((((((t0"];
+            records.slashed_entry(b"w0", random.pick(&more).as_bytes());
+        }
+        _ => {}
     }
     add_targets(&mut records, &types.targets);
     let line: Vec<Vec<u8>> = (0..random.below(20))
@@ -345,6 +354,21 @@ fn one_dense_type(random: &mut Random) -> Made {
     let line: Vec<Vec<u8>> = (0..words).map(numbered).collect();
     let line = joined(random, &line);
     (records.bytes(), line)
+}
+
+/// A text of many thousand bytes, of which the last brackets, if any, decide between 19 and 20.
+fn long_text(random: &mut Random) -> Made {
+    let mut records = try_book(random);
+    let length = 10_000 + random.below(20_000);
+    let text = match random.below(5) {
+        0 => vec![b'o'; length],
+        1 => b"o/".repeat(length),
+        2 => b"()".repeat(length),
+        3 => [b")".repeat(length), b"(".repeat(length + 6)].concat(),
+        _ => [b")".repeat(length), b"(".repeat(length + 7)].concat(),
+    };
+    records.slashed_entry(b"long", &text);
+    (records.bytes(), b"go".to_vec())
 }
 
 /// A line with so many spaces that offsets pass 65,535.

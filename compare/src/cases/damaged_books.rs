@@ -3,7 +3,7 @@
 use super::ambiguous::Small;
 use super::damaged_lines::damage_bytes as damage_line;
 use super::papers::book_and_words;
-use super::{joined, lend, Case};
+use super::{joined, lend, slashes, Case};
 use crate::books::{entry, record, Records};
 use crate::random::Random;
 
@@ -25,7 +25,7 @@ fn byte(random: &mut Random) -> u8 {
         0 => random.below(256) as u8,
         1 => random.below(8) as u8,
         2 => *random.pick(&[247, 248, 255, 8, 9, 128, 64, 63]),
-        _ => *random.pick(b"az09AZ ~`{/:\x7f\x20\x21"),
+        _ => *random.pick(b"az09AZ ~`{/:\\()\x7f\x20\x21"),
     }
 }
 
@@ -100,17 +100,18 @@ fn faulty_target(random: &mut Random) -> Vec<u8> {
 
 /// A record that is often not in order.
 fn faulty_record(random: &mut Random) -> Vec<u8> {
-    match random.below(10) {
+    match random.below(12) {
         0..=2 => faulty_entry(random),
         3 | 4 => record(1, &name(random)),
         5 => record(2, &[number(random), number(random)]),
         6 => faulty_target(random),
-        7 => {
-            let kind = random.below(5) as u16;
+        7 | 8 => slashes::faulty_entry(random, &["s", "n", "o", "np"]),
+        9 => {
+            let kind = random.below(6) as u16;
             record(kind, &bytes(random, 5))
         }
-        8 => {
-            let kind = *random.pick(&[0, 5, 6, 8, 255, 256, 257, 513, 65_535]);
+        10 => {
+            let kind = *random.pick(&[0, 6, 7, 8, 255, 256, 257, 261, 513, 65_535]);
             record(kind, &bytes(random, 5))
         }
         _ => {

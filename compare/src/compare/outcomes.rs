@@ -3,7 +3,7 @@ use crate::types::Refusal;
 use std::time::Duration;
 
 /// The greatest number of a refusal.
-pub const LAST_REFUSAL: usize = 18;
+pub const LAST_REFUSAL: usize = 21;
 
 /// How many targets a book has at most.
 const MOST_TARGETS: usize = 8;

@@ -9,10 +9,15 @@ use super::figures::refusals::{
     BAD_LAYOUT, BOOK_TOO_LONG, CUT_SHORT, EXPONENT_OUTSIDE, KIND_NOT_LISTED, NAME_USED, NO_TARGET,
     TOO_MANY_RECORDS, TOO_MANY_TARGETS, UNDECLARED_TYPE,
 };
+use super::names::{no_names, Names};
 use super::order;
+use super::slashes::{count_names, text_fault, write_type, Simple};
 
 /// The bytes of a record's head: the body's length and the kind.
 const HEAD: usize = 4;
+
+/// The kind of an entry with its type in slash notation.
+const SLASHED: usize = 5;
 
 /// The byte of the least exponent.
 const LEAST_EXPONENT: u8 = 255 - (MAX_EXPONENT - 1);
@@ -84,11 +89,11 @@ pub fn body_at(book: &[u8], at: usize) -> &[u8] {
     &book[start..end]
 }
 
-fn is_letter(byte: u8) -> bool {
+pub fn is_letter(byte: u8) -> bool {
     byte.is_ascii_lowercase()
 }
 
-fn is_name_byte(byte: u8) -> bool {
+pub fn is_name_byte(byte: u8) -> bool {
     matches!(byte, b'a'..=b'z' | b'0'..=b'9')
 }
 
@@ -117,8 +122,8 @@ fn is_name(body: &[u8]) -> bool {
     is_letter(body[0]) && all_name_bytes(body)
 }
 
-/// Whether a body is an entry's: the word's length, the word, then pairs of a type number and an exponent.
-fn is_entry(body: &[u8]) -> bool {
+/// Whether a body begins with the length of a word and the word.
+fn has_word(body: &[u8]) -> bool {
     if body.is_empty() {
         return false;
     }
@@ -126,15 +131,20 @@ fn is_entry(body: &[u8]) -> bool {
     if !(1..=MAX_WORD).contains(&length) || body.len() <= length {
         return false;
     }
-    if !all_word_bytes(&body[1..1 + length]) {
+    all_word_bytes(&body[1..1 + length])
+}
+
+/// Whether a body is an entry's: the word's length, the word, then pairs of a type number and an exponent.
+fn is_entry(body: &[u8]) -> bool {
+    if !has_word(body) {
         return false;
     }
-    let rest = body.len() - 1 - length;
+    let rest = type_part(body).len();
     rest.is_multiple_of(2) && rest <= 2 * MAX_ENTRY_SIMPLES
 }
 
-/// The part of an entry's body that holds its type.
-pub fn type_part(body: &[u8]) -> &[u8] {
+/// The part of an entry's body that holds its type, as pairs or as text.
+fn type_part(body: &[u8]) -> &[u8] {
     let start = 1 + wide_byte(body[0]);
     &body[start..]
 }
@@ -143,6 +153,37 @@ pub fn type_part(body: &[u8]) -> &[u8] {
 pub fn word_part(body: &[u8]) -> &[u8] {
     let end = 1 + wide_byte(body[0]);
     &body[1..end]
+}
+
+/// The kind of the record at an offset.
+fn kind_at(book: &[u8], at: usize) -> usize {
+    two_bytes(book, at + 2)
+}
+
+/// How many simple types the entry at an offset has.
+pub fn count_simples(book: &[u8], at: usize) -> usize {
+    let part = type_part(body_at(book, at));
+    match kind_at(book, at) {
+        SLASHED => count_names(part),
+        _ => part.len() / 2,
+    }
+}
+
+/// The type of the entry at an offset as pairs of a type number and an exponent: where it stands in the book, or written out.
+pub fn entry_type<'a>(
+    book: &'a [u8],
+    names: &Names,
+    at: usize,
+    simples: &'a mut [Simple],
+) -> &'a [u8] {
+    let part = type_part(body_at(book, at));
+    match kind_at(book, at) {
+        SLASHED => {
+            let count = write_type(book, names, part, simples);
+            simples[..count].as_flattened()
+        }
+        _ => part,
+    }
 }
 
 /// Whether all type numbers of a type are below the number of basic types.
@@ -156,14 +197,14 @@ fn all_exponents(part: &[u8]) -> bool {
 }
 
 /// Whether a body is the name of one of the basic types whose records start at the kept offsets.
-fn name_used(book: &[u8], names: &[u16], types: usize, body: &[u8]) -> bool {
-    names[..types]
+fn name_used(book: &[u8], names: &Names, types: usize, body: &[u8]) -> bool {
+    names.offsets[..types]
         .iter()
         .any(|&at| compare::same(body, body_at(book, wide_number(at))))
 }
 
 /// The rules for a basic type: its layout, a name used before, one too many.
-fn name_fault(book: &[u8], names: &[u16], types: usize, body: &[u8]) -> u32 {
+fn name_fault(book: &[u8], names: &Names, types: usize, body: &[u8]) -> u32 {
     if !is_name(body) {
         return BAD_LAYOUT;
     }
@@ -208,6 +249,21 @@ fn entry_fault(body: &[u8], types: usize, entries: usize) -> u32 {
     0
 }
 
+/// The rules for an entry with its type in slash notation: its word, its text, one too many.
+fn slashed_fault(book: &[u8], names: &Names, body: &[u8], entries: usize) -> u32 {
+    if !has_word(body) {
+        return BAD_LAYOUT;
+    }
+    let fault = text_fault(book, names, type_part(body));
+    if fault != 0 {
+        return fault;
+    }
+    if MAX_ENTRIES <= entries {
+        return TOO_MANY_RECORDS;
+    }
+    0
+}
+
 /// The rules for a target: its layout, a declared type number, one too many.
 fn target_fault(body: &[u8], types: usize, targets: usize) -> u32 {
     if body.len() != 1 {
@@ -226,7 +282,7 @@ fn target_fault(body: &[u8], types: usize, targets: usize) -> u32 {
 fn record_fault(
     book: &[u8],
     at: usize,
-    names: &[u16],
+    names: &Names,
     types: usize,
     entries: usize,
     targets: usize,
@@ -239,11 +295,12 @@ fn record_fault(
         return CUT_SHORT;
     }
     let body = body_at(book, at);
-    match two_bytes(book, at + 2) {
+    match kind_at(book, at) {
         1 => name_fault(book, names, types, body),
         2 => pair_fault(body, types),
         3 => entry_fault(body, types, entries),
         4 => target_fault(body, types, targets),
+        SLASHED => slashed_fault(book, names, body, entries),
         _ => KIND_NOT_LISTED,
     }
 }
@@ -254,7 +311,7 @@ fn reader_at(book: &[u8], at: usize) -> RecordReader<'_> {
 }
 
 /// The smallest number that the next record is refused with, or 0.
-fn next_fault(r: RecordReader, names: &[u16], types: usize, entries: usize, targets: usize) -> u32 {
+fn next_fault(r: RecordReader, names: &Names, types: usize, entries: usize, targets: usize) -> u32 {
     record_fault(r.book, r.at, names, types, entries, targets)
 }
 
@@ -262,7 +319,7 @@ fn next_fault(r: RecordReader, names: &[u16], types: usize, entries: usize, targ
 fn fault_at(
     book: &[u8],
     at: usize,
-    names: &[u16],
+    names: &Names,
     types: usize,
     entries: usize,
     targets: usize,
@@ -273,7 +330,7 @@ fn fault_at(
 /// Takes the next record in: its offset, its pair or its target is kept, or it is refused with a number.
 fn take_record(
     book: &[u8],
-    names: &mut [u16],
+    names: &mut Names,
     entries: &mut [u16],
     direct: &mut [u64],
     targets: &mut [u8],
@@ -286,16 +343,16 @@ fn take_record(
     let body = body_at(book, p.at);
     let mut next = p;
     next.at = p.at + HEAD + body.len();
-    match two_bytes(book, p.at + 2) {
+    match kind_at(book, p.at) {
         1 => {
-            names[p.types] = p.at as u16;
+            names.keep(book, p.at, p.types);
             next.types += 1;
         }
         2 => {
             let lower = wide_byte(body[0]);
             direct[lower] = bits::with(direct[lower], body[1]);
         }
-        3 => {
+        3 | SLASHED => {
             entries[p.entries] = p.at as u16;
             next.entries += 1;
         }
@@ -311,7 +368,7 @@ fn take_record(
 /// numbers of its targets.
 pub fn scan_book(
     book: &[u8],
-    names: &mut [u16],
+    names: &mut Names,
     entries: &mut [u16],
     direct: &mut [u64],
     targets: &mut [u8],
@@ -355,7 +412,7 @@ pub fn scan_book(
 /// Checks a book alone: any bytes, of any length.
 #[inline(never)]
 pub fn check_book(book: &[u8]) -> BookCheck {
-    let mut names = [0u16; MAX_TYPES];
+    let mut names = no_names();
     let mut entries = [0u16; MAX_ENTRIES];
     let mut direct = [0u64; MAX_TYPES];
     let mut targets = [0u8; MAX_TARGETS];

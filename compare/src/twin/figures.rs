@@ -14,6 +14,9 @@ pub mod limits {
     pub const MAX_WORD: usize = 31;
     pub const MAX_ENTRY_SIMPLES: usize = 12;
 
+    /// How many brackets may be open at once in the text of a type.
+    pub const MAX_OPEN: isize = 6;
+
     /// The greatest exponent of a book; its negative is the least.
     pub const MAX_EXPONENT: u8 = 8;
 
@@ -60,7 +63,7 @@ pub mod refusals {
     /// Body not of its kind's layout.
     pub const BAD_LAYOUT: u32 = 4;
 
-    /// Type number not declared by an earlier record.
+    /// Type number or name not declared by an earlier record.
     pub const UNDECLARED_TYPE: u32 = 5;
 
     /// Exponent outside -8 to 8.
@@ -101,4 +104,13 @@ pub mod refusals {
 
     /// The answers of a batch do not fit.
     pub const ANSWERS_TOO_LONG: u32 = 18;
+
+    /// Over six brackets open in the text of a type.
+    pub const BRACKETS_TOO_DEEP: u32 = 19;
+
+    /// Text that is no type.
+    pub const NOT_A_TYPE: u32 = 20;
+
+    /// Text of a type of over 12 simple types.
+    pub const TYPE_TOO_LONG: u32 = 21;
 }

@@ -1,5 +1,5 @@
 //! A word found in a book: the thread of its entries, and how many simple types these have.
-use super::book::{body_at, type_part, wide_number};
+use super::book::{count_simples, wide_number};
 use super::figures::limits::MAX_ENTRIES;
 use super::keys::{entry_word, key_of};
 use super::letters::same_word;
@@ -64,7 +64,7 @@ pub fn tally(book: &[u8], offsets: &[u16], count: usize, same: &[u16], first: us
     let mut sum = 0;
     let mut i = first;
     while i < count {
-        sum += type_part(body_at(book, wide_number(offsets[i]))).len() / 2;
+        sum += count_simples(book, wide_number(offsets[i]));
         i = wide_number(same[i]);
     }
     sum

@@ -1,7 +1,9 @@
 //! Lays a checked line out as a graph, in lent lists of nodes and slots: each word a boundary, then the simple types of its entries,
 //! and behind the last word the targets.
-use super::book::{body_at, type_part, wide_number};
+use super::book::{entry_type, wide_number};
+use super::figures::limits::MAX_ENTRY_SIMPLES;
 use super::find::tally;
+use super::names::Names;
 use super::pregroup::{hold, EXPONENT_BIAS};
 
 /// How far the lists are filled: the next node, the next slot, and whether the word at hand has a slot with an empty type.
@@ -76,6 +78,7 @@ fn lay_slot(
 /// Lays the entries of a thread, in its order, before the boundary behind the word.
 fn lay_entries(
     book: &[u8],
+    names: &Names,
     offsets: &[u16],
     count: usize,
     same: &[u16],
@@ -90,7 +93,8 @@ fn lay_entries(
     let mut place = p;
     let mut i = first;
     while i < count {
-        let part = type_part(body_at(book, wide_number(offsets[i])));
+        let mut written = [[0; 2]; MAX_ENTRY_SIMPLES];
+        let part = entry_type(book, names, wide_number(offsets[i]), &mut written);
         place = lay_slot(part, i, boundary, place, simples, nexts, enters, numbers);
         i = wide_number(same[i]);
     }
@@ -101,6 +105,7 @@ fn lay_entries(
 /// at the next boundary, which is known beforehand from the number of simple types.
 fn lay_word(
     book: &[u8],
+    names: &Names,
     offsets: &[u16],
     count: usize,
     same: &[u16],
@@ -120,7 +125,7 @@ fn lay_word(
         seen: false,
     };
     let last = lay_entries(
-        book, offsets, count, same, first, boundary, start, simples, nexts, enters, numbers,
+        book, names, offsets, count, same, first, boundary, start, simples, nexts, enters, numbers,
     );
     froms[p.node] = p.slot as u16;
     tos[p.node] = last.slot as u16;
@@ -134,6 +139,7 @@ fn lay_word(
 /// Lays all words of a line, each from its boundary to the next.
 fn lay_words(
     book: &[u8],
+    names: &Names,
     offsets: &[u16],
     count: usize,
     same: &[u16],
@@ -151,6 +157,7 @@ fn lay_words(
     for &first in &firsts[..words] {
         place = lay_word(
             book,
+            names,
             offsets,
             count,
             same,
@@ -201,6 +208,7 @@ pub fn count_nodes(last: usize, targets: usize) -> usize {
 /// line's words and each target, to that target's end.
 pub fn lay_out(
     book: &[u8],
+    names: &Names,
     offsets: &[u16],
     count: usize,
     same: &[u16],
@@ -220,8 +228,8 @@ pub fn lay_out(
         seen: false,
     };
     let last = lay_words(
-        book, offsets, count, same, firsts, words, first, simples, nexts, froms, tos, enters,
-        numbers,
+        book, names, offsets, count, same, firsts, words, first, simples, nexts, froms, tos,
+        enters, numbers,
     );
     lay_goals(targets, last, simples, nexts, froms, tos, enters);
     last.node

@@ -1,4 +1,5 @@
-//! The twin: the reader's algorithm in plain Rust, with the same functions, layouts and loops, and no contracts.
+//! The twin: the reader's algorithm in plain Rust, with the same functions, layouts and loops, and no contracts. For types in slash
+//! notation it has functions of its own.
 #![allow(clippy::too_many_arguments)]
 
 mod answer;
@@ -15,11 +16,13 @@ pub mod keys;
 mod letters;
 mod line;
 mod links;
+mod names;
 mod order;
 mod pregroup;
 mod reader;
 pub mod rows;
 mod search;
+mod slashes;
 mod table;
 
 use crate::types::{Counts, Refusal};

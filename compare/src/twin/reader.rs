@@ -12,6 +12,7 @@ use super::figures::refusals::{BUFFER_TOO_SHORT, NO_READING};
 use super::graph::{count_nodes, end_of, lay_out};
 use super::keys::{thread_entries, NO_ENTRY, PLACES};
 use super::line::{check_line, CheckedLine};
+use super::names::{no_names, Names};
 use super::order::{close, Order};
 use super::rows::member;
 
@@ -20,10 +21,11 @@ use super::rows::member;
 pub type Answer = Result<usize, (u32, usize)>;
 
 /// What is kept of an accepted book beside where its entries stand, how they are threaded and which targets it has: how many entries and
-/// targets there are, and the order.
+/// targets there are, the names of its basic types, and the order.
 pub struct Open {
     entries: usize,
     pub targets: usize,
+    names: Names,
     order: Order,
 }
 
@@ -61,6 +63,7 @@ pub fn read_open(
     let mut numbers = [0u16; MAX_NODES];
     let last = lay_out(
         book,
+        &open.names,
         offsets,
         count,
         &same,
@@ -121,7 +124,7 @@ pub fn open(
     alike: &mut [u16],
     targets: &mut [u8],
 ) -> Result<Open, (u32, usize)> {
-    let mut names = [0u16; MAX_TYPES];
+    let mut names = no_names();
     let mut direct = [0u64; MAX_TYPES];
     match scan_book(book, &mut names, offsets, &mut direct, targets) {
         Scan::Refused { number, value } => Err((number, value)),
@@ -134,6 +137,7 @@ pub fn open(
             Ok(Open {
                 entries,
                 targets,
+                names,
                 order: close(&direct, types),
             })
         }
