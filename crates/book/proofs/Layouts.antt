@@ -1,24 +1,15 @@
--- How long a name is; and the layouts of a word and of an entry, by the tests in their order: the first that fails decides, and the last is the answer.
+-- The layouts of a word and of an entry, by the tests in their order: the first that fails decides, and the last is the answer.
 use Prim.Native.Nat.{ℕ, _+_, _-_, _*_, _%_, _≤_, _<_}
 use native.Mathlib.Omega.{arith}
 use mathlib.Core.Path.{_≡_, ap, _∙_}
-use mathlib.Core.Bool.{Bool, true, false, _&&_}
+use mathlib.Core.Bool.{Bool, true, false}
 use lib.Dec.{leb}
-use lib.ListN.{length, getD, take, drop, List·getD-eq-default}
+use lib.ListN.{length, take, drop, List·getD-eq-default}
 use borrow.Author.Tests.{lt-ltb, le-ltb, eq-eqb, ne-eqb, leb-true, ltb-true, eqb-true}
-use Rattle.figures.specs.Limits.{maxName, maxWord, maxEntrySimples}
+use Rattle.figures.specs.Limits.{maxWord, maxEntrySimples}
 use Rattle.format.specs.Records.{Bytes, every, between}
-use Rattle.format.specs.Names.{nameByte, isName}
 use Rattle.book.specs.Format.{wordLength, wordOf, typePart, isWorded, isEntry}
 use Rattle.format.proofs.Bools.{inside, outside, both}
-
-pub name-length : (body : Bytes) → isName body ≡ true → (1 ≤ length body) × (length body ≤ maxName)
-unfolding isName
-name-length body h =
-    let front = both (between 1 maxName (length body) && between 97 122 (getD {A = ℕ} body 0 0)) (every nameByte body) h in
-    let size = both (between 1 maxName (length body)) (between 97 122 (getD {A = ℕ} body 0 0)) (front .0) in
-    let each = both (leb 1 (length body)) (leb (length body) maxName) (size .0) in
-    (leb-true _ _ (each .0), leb-true _ _ (each .1))
 
 module _ (body : Bytes) where
   pub worded-length-no : (1 ≤ wordLength body → wordLength body ≤ maxWord → ⊥) → false ≡ isWorded body

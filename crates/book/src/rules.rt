@@ -26,8 +26,8 @@ use figures::refusals::TYPE_TOO_LONG;
 use figures::refusals::UNDECLARED_TYPE;
 use format::layout::HEAD;
 use format::layout::body_at;
-use format::names::find_name;
 use format::names::is_name;
+use format::names::search_name;
 use slash::brackets::is_too_deep;
 use slash::parser::read_text;
 ghost use mathlib.Core.Path.{_≡_};
@@ -97,7 +97,7 @@ fn name_fault(book: &[u8], names: &[u16], types: usize, body: &[u8]) -> u32
     if !is_name(body) {
         return BAD_LAYOUT;
     }
-    if find_name(book, names, types, body) < types {
+    if search_name(book, names, types, body) < types {
         return NAME_USED;
     }
     if MAX_TYPES <= types {

@@ -11,6 +11,10 @@ pub and-true : (b : Bool) → b && true ≡ b
 and-true true = refl
 and-true false = refl
 
+pub and-false : (b : Bool) → b && false ≡ false
+and-false true = refl
+and-false false = refl
+
 pub both : (a b : Bool) → a && b ≡ true → (a ≡ true) × (b ≡ true)
 both true b h = (refl, h)
 both false b h = (h, absurd (false≢true h))

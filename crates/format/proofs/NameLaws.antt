@@ -13,7 +13,7 @@ use Rattle.figures.specs.Limits.{maxName}
 use Rattle.format.specs.Names.{nameByte, isName, numberOf}
 use Rattle.format.specs.Records.{between, Bytes, every, sameBytes, bodyAt}
 use Rattle.format.specs.Records.{bodiesAt}
-use Rattle.format.proofs.Bools.{inside, outside, both}
+use Rattle.format.proofs.Bools.{inside, outside, and-false, both}
 
 pub same-equal : (xs ys : Bytes) → sameBytes xs ys ≡ true → xs ≡ ys
 unfolding sameBytes
@@ -99,9 +99,9 @@ module _ (body : Bytes) where
   unfolding isName
   name-length-no h = rw (outside 1 maxName (length body) h)
 
-  pub name-first-no : (1 ≤ length body) × (length body ≤ maxName) → between 97 122 (getD {A = ℕ} body 0 0) ≡ false → false ≡ isName body
+  pub name-first-no : between 97 122 (getD {A = ℕ} body 0 0) ≡ false → false ≡ isName body
   unfolding isName
-  name-first-no h e = rw (inside 1 maxName (length body) h, e)
+  name-first-no e = rw (e, and-false (between 1 maxName (length body)))
 
   pub name-rest : (1 ≤ length body) × (length body ≤ maxName) → between 97 122 (getD {A = ℕ} body 0 0) ≡ true → every nameByte body ≡ isName body
   unfolding isName

@@ -81,7 +81,7 @@ fn key_of(name: &[u8]) -> usize
 }
 
 // The number of a name among the basic types whose records start at the kept offsets, tried one by one; or how many there are.
-fn search_name(book: &[u8], names: &[u16], types: usize, name: &[u8]) -> usize
+pub fn search_name(book: &[u8], names: &[u16], types: usize, name: &[u8]) -> usize
     requires { ⌜ Whole (now book) (now names) types ⌝ }
     ensures { λ r. ⌜ r ≡ numberOf (bodiesAt (now (book .entry)) (now (names .entry)) types) (now (name .entry)) ⌝ }
 {

@@ -7,7 +7,7 @@ use mathlib.Core.Bool.{true, false}
 use mathlib.Core.List.{[], _∷_, _++_, append-nil, append-assoc}
 use lib.ListN.{length, getD, take, drop, length-drop, drop-of-length-le}
 use lib.Seq.{take-suc, getD-drop, drop-cons}
-use Rattle.format.specs.Records.{Bytes}
+use Rattle.format.specs.Records.{Bytes, between}
 use Rattle.format.specs.Names.{nameByte}
 use Rattle.slash.specs.Trees.{nameFront, nameBehind}
 use Rattle.slash.specs.Places.{NameEnds}
@@ -68,3 +68,16 @@ module _ {text : Bytes} {at i : ℕ} (p : NamePassed text at i) where
   pub name-end : length text ≤ i → NameEnds text at i
   unfolding nameFront nameBehind
   name-end h = ended (rw (drop-of-length-le text h)) (rw (drop-of-length-le text h))
+
+-- A name that begins with a letter goes as far as the bytes behind the letter do.
+pub name-begins :
+    {text : Bytes} {at behind : ℕ} → at < length text → between 97 122 (getD {A = ℕ} text at 0) ≡ true → NameEnds text (at + 1) behind → NameEnds text at behind
+unfolding nameFront nameBehind nameByte
+name-begins {text} {at} {behind} h letter e =
+    let n : behind - at ≡ suc (behind - suc at) = omega (arith, e .forth) in
+    record {
+      forth = omega (arith, e .forth);
+      inside = e .inside;
+      name = rw (n, drop-cons text at 0 h, letter) (ap (λ (l : Bytes). getD {A = ℕ} text at 0 ∷ l) (rw (add-one at) at (e .name)));
+      left = rw (drop-cons text at 0 h, letter) (rw (add-one at) at (e .left));
+    }

@@ -7,7 +7,7 @@ use mathlib.Core.Bool.{Bool, true, false, cond}
 use mathlib.Core.Option.{none, some}
 use mathlib.Core.List.{List, [], _∷_}
 use lib.ListN.{length, getD, set, take, drop, length-drop}
-use lib.Seq.{length-take-le, getD-take, getD-drop, getD-set-same, getD-set-other}
+use lib.Seq.{length-take-le, getD-take, getD-drop, drop-cons, getD-set-same, getD-set-other}
 use Rattle.figures.specs.Limits.{maxName}
 use Rattle.pregroup.specs.Types.{Simple, plain}
 use Rattle.pregroup.specs.Held.{bias, lowered, held}
@@ -36,6 +36,21 @@ pub number-small :
 number-small {bytes} {offsets} {count} name n is =
     omega (arith, number-bound (bodiesAt bytes offsets count) name, bodies-length bytes offsets count (n .whole .room), n .few)
 
+-- Without a letter first there is no name.
+pub name-other : (text : Bytes) (at : ℕ) → at < length text → between 97 122 (getD {A = ℕ} text at 0) ≡ false → nameAt (drop at text) ≡ none
+unfolding nameAt nameFront
+name-other text at h other = rw (drop-cons text at 0 h) (go (nameByte byte) refl)
+  where
+    byte : ℕ
+    byte = getD {A = ℕ} text at 0
+
+    front-no : (t : Bool) → isName (cond t (byte ∷ nameFront (drop (suc at) text)) []) ≡ false
+    front-no true = sym (name-first-no _ other)
+    front-no false = sym (name-first-no [] refl)
+
+    go : (t : Bool) → nameByte byte ≡ t → nameAt (byte ∷ drop (suc at) text) ≡ none
+    go t e = rw (front-no (nameByte byte))
+
 module _ {text : Bytes} {at behind : ℕ} (e : NameEnds text at behind) where
   abbrev name : Bytes
   name = take (behind - at) (drop at text)
@@ -43,33 +58,24 @@ module _ {text : Bytes} {at behind : ℕ} (e : NameEnds text at behind) where
   name-size : length name ≡ behind - at
   name-size = length-take-le (behind - at) (drop at text) (omega (arith, length-drop at text, e .inside))
 
-  first-byte : at < behind → getD {A = ℕ} name 0 0 ≡ getD {A = ℕ} text at 0
-  first-byte h =
-      getD-take (behind - at) (drop at text) 0 0 (omega arith) ∙ getD-drop at text 0 0 ∙ ap (λ (k : ℕ). getD {A = ℕ} text k 0) (add-zero at)
-
-  no-name : false ≡ isName name → nameAt (drop at text) ≡ none
-  unfolding nameAt
-  no-name h =
-      let k : isName (nameFront (drop at text)) ≡ false = ap isName (sym (e .name)) ∙ sym h in
-      rw k
-
-  pub name-empty : behind ≡ at → nameAt (drop at text) ≡ none
-  name-empty h = no-name (name-length-no name (λ l m. omega (arith, name-size)))
-
   pub name-long : maxName < behind - at → nameAt (drop at text) ≡ none
-  name-long h = no-name (name-length-no name (λ l m. omega (arith, name-size)))
+  unfolding nameAt
+  name-long h =
+      let k : isName (nameFront (drop at text)) ≡ false = ap isName (sym (e .name)) ∙ sym (name-length-no name (λ l m. omega (arith, name-size))) in
+      rw k
 
   module _ (size : (at < behind) × (behind - at ≤ maxName)) where
     sized : (1 ≤ length name) × (length name ≤ maxName)
     sized = (omega (arith, name-size, size .0), omega (arith, name-size, size .1))
 
-    pub name-other : between 97 122 (getD {A = ℕ} text at 0) ≡ false → nameAt (drop at text) ≡ none
-    name-other h = no-name (name-first-no name sized (ap (between 97 122) (first-byte (size .0)) ∙ h))
+    first-byte : getD {A = ℕ} name 0 0 ≡ getD {A = ℕ} text at 0
+    first-byte =
+        getD-take (behind - at) (drop at text) 0 0 (omega (arith, size .0)) ∙ getD-drop at text 0 0 ∙ ap (λ (k : ℕ). getD {A = ℕ} text k 0) (add-zero at)
 
     pub name-there : between 97 122 (getD {A = ℕ} text at 0) ≡ true → nameAt (drop at text) ≡ some (front (named name) (drop behind text))
     unfolding nameAt
     name-there h =
-        let letter : between 97 122 (getD {A = ℕ} name 0 0) ≡ true = ap (between 97 122) (first-byte (size .0)) ∙ h in
+        let letter : between 97 122 (getD {A = ℕ} name 0 0) ≡ true = ap (between 97 122) first-byte ∙ h in
         let k : isName (nameFront (drop at text)) ≡ true
         = ap isName (sym (e .name)) ∙ sym (name-rest name sized letter) ∙ ap (every nameByte) (e .name) ∙ front-bytes (drop at text) in
         rw (k, e .name, e .left)

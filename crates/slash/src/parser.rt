@@ -9,7 +9,7 @@ use format::names::is_letter;
 use format::names::is_name_byte;
 use pregroup::EXPONENT_BIAS;
 use pregroup::hold;
-ghost use Prim.Native.Nat.{suc, _≤_};
+ghost use Prim.Native.Nat.{suc, _≤_, _<_};
 ghost use lib.ListN.{length, drop};
 ghost use Rattle.figures.specs.Limits.{maxDepth};
 ghost use Rattle.format.specs.Records.{bodiesAt};
@@ -62,18 +62,15 @@ fn read_name(
     places: &mut [u16],
     from: usize,
 ) -> Found
-    requires { ⌜ Fits (now book) (now names) types (now text) at 0 0 from (now places) ⌝ }
+    requires { ⌜ Fits (now book) (now names) types (now text) at 0 0 from (now places) × (at < length (now text)) ⌝ }
     ensures { λ r. ⌜ Says (meaning (bodiesAt (now (book .entry)) (now (names .entry)) types)) (now (text .entry))
         (nameAt (drop at (now (text .entry)))) 0 0 from (now (places .entry)) (now (places .exit)) r ⌝ }
 {
-    let behind = name_end(text, at);
-    if behind == at {
-        return Found { behind, end: 0 };
-    }
-    if MAX_NAME < behind - at {
-        return Found { behind, end: 0 };
-    }
     if !is_letter(text[at]) {
+        return Found { behind: at, end: 0 };
+    }
+    let behind = name_end(text, at + 1);
+    if MAX_NAME < behind - at {
         return Found { behind, end: 0 };
     }
     let number = find_name(book, names, types, &text[at..behind]);

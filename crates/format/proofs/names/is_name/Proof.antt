@@ -20,7 +20,7 @@ is-letter-requires : tie.Need-is-letter-requires
 is-letter-requires c κs = search needs
 
 returns-3 : tie.Need-returns-3
-returns-3 c = name-first-no _ (omega arith) (sym (c .before .is-letter .ensures) ∙ not-true _ (c .if3 .taken))
+returns-3 c = name-first-no _ (sym (c .before .is-letter .ensures) ∙ not-true _ (c .if3 .taken))
 
 all-name-bytes-requires : tie.Need-all-name-bytes-requires
 all-name-bytes-requires c κs = search needs

@@ -167,8 +167,10 @@ read-unit-shared-slice-read-if2 t c = omega arith
 
 read-unit-read-name-requires : (t : ℕ) → read-unit-lts.Need-read-name-requires (unit-claims t) (read-unit-at t) read-unit.Post
 read-unit-read-name-requires t c κs =
-    let f = c .before .before .before .before .before .before .before .before .pre .1 in
-    record { named = f .named; inside = f .inside; shallow = omega arith; space = omega (arith, f .space, room-none, room-some (c .before .before .before .before .before .before .before .before .args .depth)) }
+    let f = c .before .before .before .before .before .before .before .before .pre .1 in (
+      record { named = f .named; inside = f .inside; shallow = omega arith; space = omega (arith, f .space, room-none, room-some (c .before .before .before .before .before .before .before .before .args .depth)) },
+      omega (arith, c .before .before .before .if1 .left),
+    )
 
 read-unit-same-length : (t : ℕ) → read-unit-lts.Need-same-length (unit-claims t) (read-unit-at t) read-unit.Post
 read-unit-same-length t c = c .before .before .read-name .kept .1 .1 .1 .1 .1 .0
