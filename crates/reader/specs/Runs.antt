@@ -14,7 +14,7 @@ use Rattle.format.specs.Names.{Named}
 use Rattle.book.specs.Format.{Book, accepted, refused, parse}
 use Rattle.book.specs.declared.Scan.{Scan}
 use Rattle.book.specs.declared.Scan.the-variants.{Accepted, Refused}
-use Rattle.linking.specs.Reading.{Words, targetAt}
+use Rattle.linking.specs.Reading.{Words, targetAt, firstReading}
 use Rattle.lookup.specs.Entries.{KeptOf}
 use Rattle.lookup.specs.Threads.{Alike}
 use Rattle.line.specs.Passing.{AllKnown, AllBrief}
@@ -22,6 +22,8 @@ use Rattle.graph.specs.Graph.{Graph, Upward}
 use Rattle.graph.specs.Layout.{End, Laid}
 use Rattle.graph.specs.Lists.{endAt, nodesWith}
 use Rattle.bits.specs.Rows.{HasRow, InRow}
+use Rattle.reader.specs.declared.LineAnswer.{LineAnswer}
+use Rattle.reader.specs.Outcome.{given, Gives}
 
 -- The book is B, its basic types and its entries are kept at these offsets, the entries threaded by their keys, the rows hold its order, and these are
 -- its targets.
@@ -60,6 +62,15 @@ pub record Drawn (le : Test) (Le : Relation) (g : Graph) (numbers : List ℕ) (t
   pub known-words : AllKnown words
   pub brief-words : AllBrief words
   pub count : length words ≡ n
+
+-- It is the graph of some words, with some test that decides the order.
+abbrev pub IsDrawn : Relation → Graph → List ℕ → List Basic → ℕ → ℕ → Type 0
+IsDrawn Le g numbers targets last n = (le : Test) × (words : Words) × Drawn le Le g numbers targets last n words
+
+-- What reading a graph gives: what the first reading of its words comes to.
+abbrev pub GraphGives : Relation → Graph → List ℕ → List Basic → ℕ → ℕ → List ℕ → LineAnswer → List ℕ → Type 0
+GraphGives Le g numbers targets last n before answer after =
+    (le : Test) (words : Words) → Drawn le Le g numbers targets last n words → Gives (given (firstReading le targets words) before) answer after
 
 -- What the search for the first target asks: the chart has a row for node 0, and the ends are nodes.
 pub record EndsThere (chart : List ℕ) (last count : ℕ) : Type 0 where

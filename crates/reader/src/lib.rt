@@ -28,10 +28,13 @@ ghost use Prim.Native.Nat.{_≤_};
 ghost use lib.ListN.{length};
 ghost use Rattle.figures.specs.Limits.{maxEntries};
 ghost use Rattle.format.specs.Names.{namePlaces};
+ghost use Rattle.pregroup.specs.Held.{InRows};
 ghost use Rattle.lookup.specs.Threads.{NoneAlike};
+ghost use Rattle.graph.specs.Graph.{graph};
+ghost use Rattle.graph.specs.Lists.{nodesWith};
 ghost use Rattle.reader.specs.Outcome.{outcome, Gives};
 ghost use Rattle.reader.specs.Demands.{Promised};
-ghost use Rattle.reader.specs.Runs.{IsOpen, OpeningSays, EndsThere, FirstEnd};
+ghost use Rattle.reader.specs.Runs.{IsOpen, OpeningSays, EndsThere, FirstEnd, IsDrawn, GraphGives};
 
 // What reading a line answers. `Read`: the buffer holds the answer, and `values` of its values are the answer's. `Refused`: the number
 // of the refusal and the value returned with it; the buffer is as it was.
@@ -100,6 +103,79 @@ fn first_target(chart: &[u64], last: usize, count: usize) -> usize
     first
 }
 
+// Reads a line's graph: its chart is filled, and for the first target whose end it reaches the first choice is found and its first linking written.
+fn read_graph(
+    order: &[u64],
+    simples: &[u16],
+    nexts: &[u16],
+    froms: &[u16],
+    tos: &[u16],
+    enters: &[u16],
+    numbers: &[u16],
+    targets: &[u8],
+    last: usize,
+    words: usize,
+    answer: &mut [u16],
+) -> LineAnswer
+    requires { ⌜ IsDrawn (InRows (now order)) (graph (nodesWith last (length (now targets))) (now simples) (now nexts) (now froms) (now tos) (now enters))
+        (now numbers) (now targets) last words ⌝ }
+    ensures { λ r. ⌜ GraphGives (InRows (now (order .entry)))
+        (graph (nodesWith last (length (now (targets .entry)))) (now (simples .entry)) (now (nexts .entry)) (now (froms .entry)) (now (tos .entry)) (now (enters .entry)))
+        (now (numbers .entry)) (now (targets .entry)) last words (now (answer .entry)) r (now (answer .exit)) ⌝ }
+{
+    let nodes = last + 1 + 2 * targets.len();
+    let mut chart = [0u64; CHART_WORDS];
+    fill(order, nodes, simples, nexts, froms, tos, enters, &mut chart);
+    let t = first_target(&chart, last, targets.len());
+    if t == targets.len() {
+        return LineAnswer::Refused {
+            number: NO_READING,
+            value: 0,
+        };
+    }
+    let end = last + 2 + 2 * t;
+    let mut string = [0u16; MAX_PLACES];
+    let mut slots = [0u16; MAX_NODES];
+    let mut table = [0u64; TABLE_WORDS];
+    let mut leaving = [0u64; TABLE_WORDS];
+    let chosen = choose(
+        order,
+        nodes,
+        simples,
+        nexts,
+        froms,
+        tos,
+        enters,
+        &chart,
+        end,
+        &mut string,
+        &mut slots,
+        &mut table,
+        &mut leaving,
+    );
+    let m = chosen.places - 1;
+    let needed = 3 + words + m;
+    if answer.len() < needed {
+        return LineAnswer::Refused {
+            number: BUFFER_TOO_SHORT,
+            value: needed,
+        };
+    }
+    write_answer(
+        order,
+        &string,
+        &table,
+        m,
+        targets[t],
+        t,
+        numbers,
+        &slots,
+        words,
+        answer,
+    );
+    LineAnswer::Read { values: needed }
+}
+
 // Reads a line against an open book.
 pub fn read_open(
     book: &[u8],
@@ -146,66 +222,19 @@ pub fn read_open(
         &mut enters,
         &mut numbers,
     );
-    let nodes = last + 1 + 2 * targets.len();
-    let mut chart = [0u64; CHART_WORDS];
-    fill(
+    read_graph(
         order,
-        nodes,
         &simples,
         &nexts,
         &froms,
         &tos,
         &enters,
-        &mut chart,
-    );
-    let t = first_target(&chart, last, targets.len());
-    if t == targets.len() {
-        return LineAnswer::Refused {
-            number: NO_READING,
-            value: 0,
-        };
-    }
-    let end = last + 2 + 2 * t;
-    let mut string = [0u16; MAX_PLACES];
-    let mut slots = [0u16; MAX_NODES];
-    let mut table = [0u64; TABLE_WORDS];
-    let mut leaving = [0u64; TABLE_WORDS];
-    let chosen = choose(
-        order,
-        nodes,
-        &simples,
-        &nexts,
-        &froms,
-        &tos,
-        &enters,
-        &chart,
-        end,
-        &mut string,
-        &mut slots,
-        &mut table,
-        &mut leaving,
-    );
-    let m = chosen.places - 1;
-    let needed = 3 + words + m;
-    if answer.len() < needed {
-        return LineAnswer::Refused {
-            number: BUFFER_TOO_SHORT,
-            value: needed,
-        };
-    }
-    write_answer(
-        order,
-        &string,
-        &table,
-        m,
-        targets[t],
-        t,
         &numbers,
-        &slots,
+        targets,
+        last,
         words,
         answer,
-    );
-    LineAnswer::Read { values: needed }
+    )
 }
 
 // Reads a line against a book: any bytes, of any length, and any lent buffer. Book and line are not written to.
