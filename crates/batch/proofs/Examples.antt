@@ -15,7 +15,9 @@ use Rattle.linking.specs.Linking.{firstSome, linkedTo, firstWithin, unlinkedAt,
 use Rattle.linking.specs.Reading.{firstEntry, firstBehind, firstTarget, firstReading}
 use Rattle.format.specs.Records.{Bytes, every, twoBytes, sameBytes}
 use Rattle.format.specs.Names.{nameByte, isName, numberOf}
-use Rattle.book.specs.Format.{exponentOf, simplesOf, isWorded, isEntry, exponentListed, bodyRules, recordRules, firstBroken, add, ended, recordsFrom, parse}
+use Rattle.rules.specs.Layouts.{exponentOf, simplesOf, isWorded, isEntry}
+use Rattle.rules.specs.Rules.{exponentListed, bodyRules, recordRules, firstBroken}
+use Rattle.book.specs.Format.{add, ended, recordsFrom, parse}
 use Rattle.book.proofs.PaperBooks.{fetch, bed4, admit, site, go, firstBook}
 use Rattle.line.specs.LineWords.{wordsFrom}
 use Rattle.lookup.specs.Capitals.{small, sameWord}

@@ -10,11 +10,12 @@ use lib.ListN.{length, getD, length-append}
 use Rattle.order.specs.Closed.{DeclaredPairs}
 use Rattle.figures.specs.Limits.{maxEntries, maxTargets, maxName, maxEntrySimples}
 use Rattle.format.specs.Records.{Bytes, kindAt, bodyAt, every}
-use Rattle.book.specs.Format.{Book, Entry, accepted, parse, exponents, exponentListed, bodyRules, firstBroken, add, entryOf}
+use Rattle.rules.specs.Rules.{exponents, exponentListed, bodyRules, firstBroken}
+use Rattle.book.specs.Format.{Book, Entry, accepted, parse, add, entryOf}
 use Rattle.book.specs.Check.{GoodUpTo, start, next}
-use Rattle.book.proofs.NoFault.{Kind, basic-type, order-pair, entry, target, slashed-entry, no-fault-kind, no-fault-body, name-no-fault, pair-no-fault, target-no-fault}
+use Rattle.rules.proofs.NoFault.{Kind, basic-type, order-pair, entry, target, slashed-entry, no-fault-kind, no-fault-body, name-no-fault, pair-no-fault, target-no-fault}
 use Rattle.format.proofs.NameLaws.{name-short}
-use Rattle.book.specs.Format.{EntryKind, of-simples, of-text}
+use Rattle.rules.specs.Layouts.{EntryKind, of-simples, of-text}
 use Rattle.book.proofs.GoodEntries.{good-entry, add-entry}
 use Rattle.book.proofs.Keeping.{listed-more}
 use Rattle.book.proofs.FirstBroken.{fault-clean}

@@ -12,10 +12,11 @@ use Rattle.format.specs.Records.{Bytes, every, kindAt, bodyAt}
 use Rattle.slash.specs.Brackets.{tooDeep}
 use Rattle.slash.specs.Trees.{hasTree, textType, slashes}
 use Rattle.book.specs.declared.EntryType.{EntryType}
-use Rattle.book.specs.Format.{typePart, simplesOf, exponents, exponentListed, slashed}
+use Rattle.rules.specs.Layouts.{typePart, simplesOf, slashed}
+use Rattle.rules.specs.Rules.{exponents, exponentListed}
 use Rattle.book.specs.Kept.{entryFrom, Shaped, as-simples, as-text, Formed, HeldType}
 use Rattle.book.proofs.HeldTypes.{simples-length}
-use Rattle.book.proofs.Texts.{text-length}
+use Rattle.rules.proofs.Texts.{text-length}
 
 shaped-text : {kind : ℕ} {part : Bytes} → Shaped kind part → kind ≡ slashed → (tooDeep part ≡ false) × (hasTree part ≡ true)
 shaped-text (as-simples pairs) e = absurd (omega arith)

@@ -14,7 +14,9 @@ use Rattle.format.specs.Names.{nameByte, isName, numberOf}
 use Rattle.slash.specs.Grammar.{meaning}
 use Rattle.slash.specs.Brackets.{deepBehind}
 use Rattle.slash.specs.Trees.{nameFront, nameBehind, nameAt, closedBy, closed, unitBy, joined, secondBy, behindFirst, unitAt, wholeBy, whole, treeOf, isSome, meaningOf}
-use Rattle.book.specs.Format.{Entry, accepted, nothingYet, entryBody, exponentOf, simplesOf, isWorded, isEntry, exponentListed, bodyRules, recordRules, firstBroken, add, ended, recordsFrom, parse}
+use Rattle.rules.specs.Layouts.{entryBody, exponentOf, simplesOf, isWorded, isEntry}
+use Rattle.rules.specs.Rules.{exponentListed, bodyRules, recordRules, firstBroken}
+use Rattle.book.specs.Format.{Entry, accepted, nothingYet, add, ended, recordsFrom, parse}
 use Rattle.book.specs.Notation.{DifferInNotation, same-rest, same-record, in-slashes}
 use Rattle.book.specs.Check.{bookCheck, AcceptedCounts, Cause}
 use Rattle.book.specs.declared.BookCheck.{BookCheck}

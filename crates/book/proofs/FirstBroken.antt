@@ -8,7 +8,8 @@ use mathlib.Core.List.{List, [], _∷_, List·Memᴰ, List·Memᴰ·head, List·
 use lib.ListN.{getD}
 use Rattle.figures.specs.Refusals.{cutShort, kindNotListed, badLayout, bracketsTooDeep, notAType, undeclaredType, exponentOutside, typeTooLong, nameUsed, tooManyTargets, tooManyRecords}
 use Rattle.format.specs.Records.{Bytes}
-use Rattle.book.specs.Format.{Book, bodyRules, recordRules, firstBroken, nextRules}
+use Rattle.rules.specs.Rules.{bodyRules, recordRules, firstBroken}
+use Rattle.book.specs.Format.{Book, nextRules}
 use Rattle.book.specs.Kept.{nextFault}
 use Rattle.book.specs.Check.{Breaks, ruleOrder, placeIn}
 

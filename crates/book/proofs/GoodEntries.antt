@@ -17,10 +17,12 @@ use Rattle.format.proofs.Bools.{both}
 use Rattle.slash.specs.Grammar.{Tree}
 use Rattle.slash.specs.Trees.{treeOf, meaningOf, textType}
 use Rattle.slash.proofs.MeaningLaws.{meaning-more}
-use Rattle.book.specs.Format.{EntryKind, of-simples, of-text, Book, Entry, simplesOf, slashed, typeBy, typePart, isWorded, entryOf, bases, exponents, declaredAmong, exponentListed, bodyRules, firstBroken, add}
+use Rattle.rules.specs.Layouts.{EntryKind, of-simples, of-text, simplesOf, slashed, typePart, isWorded}
+use Rattle.rules.specs.Rules.{bases, exponents, declaredAmong, exponentListed, bodyRules, firstBroken}
+use Rattle.book.specs.Format.{Book, Entry, typeBy, entryOf, add}
 use Rattle.book.specs.Kept.{entryFrom, entriesAt, Shaped, as-simples, as-text, Formed, AllFormed}
-use Rattle.book.proofs.Layouts.{entry-worded, entry-pairs}
-use Rattle.book.proofs.NoFault.{entry-no-fault, slashed-no-fault}
+use Rattle.rules.proofs.Layouts.{entry-worded, entry-pairs}
+use Rattle.rules.proofs.NoFault.{entry-no-fault, slashed-no-fault}
 
 -- What `Formed` says, of a kind and a body.
 pub record GoodEntry (kind : ℕ) (names : List Bytes) (body : Bytes) : Type 0 where

@@ -19,12 +19,13 @@ use Rattle.format.specs.Records.{Bytes, sameBytes, twoBytes, bodyAt, nextAt, ki
 use Rattle.format.specs.Names.{numberOf, isAmong, Named, Keeping}
 use Rattle.format.proofs.NameLaws.{equal-same, bodies-length, bodies-at, name-short}
 use Rattle.slash.proofs.Counting.{name-form}
-use Rattle.book.specs.Format.{Book, Entry, bodyRules, recordRules, firstBroken, add}
+use Rattle.rules.specs.Rules.{bodyRules, recordRules, firstBroken}
+use Rattle.book.specs.Format.{Book, Entry, add}
 use Rattle.book.specs.Kept.{entryFrom, entriesAt, Formed, AllFormed, TargetsDeclared, Store, store, Sound, Keeps, Taking, nextFault}
 use Rattle.book.specs.declared.Progress.{Progress}
-use Rattle.book.specs.Format.{EntryKind}
+use Rattle.rules.specs.Layouts.{EntryKind}
 use Rattle.book.proofs.GoodEntries.{good-entry, add-entry, formed-more, entries-more}
-use Rattle.book.proofs.NoFault.{no-fault-whole, no-fault-body, name-no-fault, pair-no-fault, target-no-fault, Kind, basic-type, order-pair, entry, target, slashed-entry, no-fault-kind}
+use Rattle.rules.proofs.NoFault.{no-fault-whole, no-fault-body, name-no-fault, pair-no-fault, target-no-fault, Kind, basic-type, order-pair, entry, target, slashed-entry, no-fault-kind}
 
 -- One offset more.
 whole-more : (bytes : Bytes) (offsets : List ℕ) (n at : ℕ) → n < length offsets → nextAt bytes at ≤ length bytes → Whole bytes offsets n → Whole bytes (set offsets n at) (n + 1)

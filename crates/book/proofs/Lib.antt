@@ -1,15 +1,7 @@
 -- Laws that the proofs of several functions cite.
-pub mod Bools
-pub mod Layouts
-pub mod Simples
 pub mod RaiseLaws
 pub mod HeldTypes
-pub mod Faults
-pub mod Texts
 pub mod EntryTypes
-pub mod EntryLaws
-pub mod WholeRecords
-pub mod NoFault
 pub mod FirstBroken
 pub mod GoodEntries
 pub mod Parsing
@@ -21,6 +13,4 @@ pub mod Promises
 pub mod TargetAdded
 pub mod Notation
 pub mod PaperBooks
-pub mod Slashed
-pub mod TextRules
 pub mod Examples

@@ -17,15 +17,17 @@ use Rattle.pregroup.specs.Types.{PregroupType}
 use Rattle.format.specs.Records.{Bytes, every, headLength, twoBytes, nextAt, recordOf}
 use Rattle.slash.specs.Brackets.{tooDeep}
 use Rattle.slash.specs.Trees.{hasTree, textType}
-use Rattle.book.specs.Format.{Book, Entry, Parsed, accepted, refused, entryBody, isWorded, isEntry, simplesOf, typePart, slashed, of-simples, of-text, entryOf, bases, exponents, declaredAmong, exponentListed, bodyRules, recordRules, firstBroken, add, withNext, ended, recordsFrom, parse, nothingYet}
+use Rattle.rules.specs.Layouts.{entryBody, isWorded, isEntry, simplesOf, typePart, slashed, of-simples, of-text}
+use Rattle.rules.specs.Rules.{bases, exponents, declaredAmong, exponentListed, bodyRules, recordRules, firstBroken}
+use Rattle.book.specs.Format.{Book, Entry, Parsed, accepted, refused, entryOf, add, withNext, ended, recordsFrom, parse, nothingYet}
 use Rattle.book.specs.Kept.{nextFault}
 use Rattle.book.specs.Notation.{DifferInNotation, same-rest, same-record, in-slashes, AlikeParsed, both-accepted, both-refused}
 use Rattle.format.proofs.Bools.{and-true}
 use Rattle.format.proofs.RecordLaws.{size-first, kind-first, body-first, rest-first, size-at, kind-at, body-at, rest-at}
-use Rattle.book.proofs.EntryLaws.{word-part, type-part}
-use Rattle.book.proofs.WholeRecords.{isCut, record-whole}
-use Rattle.book.proofs.Faults.{entry-faults, slashed-faults}
-use Rattle.book.proofs.Texts.{text-exponents-listed}
+use Rattle.rules.proofs.EntryLaws.{word-part, type-part}
+use Rattle.rules.proofs.WholeRecords.{isCut, record-whole}
+use Rattle.rules.proofs.Faults.{entry-faults, slashed-faults}
+use Rattle.rules.proofs.Texts.{text-exponents-listed}
 use Rattle.book.proofs.GoodEntries.{simples-few, add-entry}
 use Rattle.book.proofs.Parsing.{records-end, records-next, records-bad, parse-short}
 

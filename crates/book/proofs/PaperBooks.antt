@@ -2,7 +2,7 @@
 use Prim.Native.Nat.{ℕ}
 use mathlib.Core.List.{List, [], _∷_, _++_}
 use Rattle.format.specs.Records.{Bytes, recordOf}
-use Rattle.book.specs.Format.{entryBody}
+use Rattle.rules.specs.Layouts.{entryBody}
 
 -- The records of each kind.
 abbrev pub typeRecord : Bytes → Bytes

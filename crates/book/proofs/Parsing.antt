@@ -16,7 +16,7 @@ use Rattle.format.specs.Records.{Bytes, nextAt}
 use Rattle.book.specs.Format.{Book, Parsed, accepted, refused, parse, nothingYet, recordsFrom, ended, nextRules, withNext}
 use Rattle.book.specs.Kept.{nextFault}
 use Rattle.book.specs.Check.{GoodUpTo, start, next, Cause, too-long, bad-record, no-target}
-use Rattle.book.proofs.NoFault.{no-fault-whole}
+use Rattle.rules.proofs.NoFault.{no-fault-whole}
 use Rattle.book.proofs.FirstBroken.{Decided, clean, broken, fault-decided, fault-clean, fault-first, breaks-within}
 
 module _ (bytes : Bytes) where

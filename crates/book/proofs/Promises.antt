@@ -12,7 +12,8 @@ use Rattle.pregroup.specs.Types.{Basic}
 use Rattle.order.specs.Closed.{Closed, Listed, HasPairs, closedCount}
 use Rattle.order.proofs.PairCount.{closed-has-pairs, pairs-unique}
 use Rattle.format.specs.Records.{Bytes}
-use Rattle.book.specs.Format.{Book, Parsed, accepted, refused, parse, bodyRules, recordRules, nextRules}
+use Rattle.rules.specs.Rules.{bodyRules, recordRules}
+use Rattle.book.specs.Format.{Book, Parsed, accepted, refused, parse, nextRules}
 use Rattle.book.specs.Check.{answerFor, bookCheck, checkReply, Cause, too-long, bad-record, no-target, BookPromised, BookNumber}
 use Rattle.book.proofs.Parsing.{end-parse, ended-some, cause-refuses, Comes, whole, stopped, parse-comes}
 use Rattle.book.proofs.Accepted.{good-declares}

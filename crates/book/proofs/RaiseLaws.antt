@@ -11,8 +11,9 @@ use borrow.Author.Tests.{lt-ltb, le-ltb, ltb-true}
 use Rattle.pregroup.specs.Types.{Simple}
 use Rattle.pregroup.specs.Held.{bias}
 use Rattle.format.specs.Records.{Bytes, every}
-use Rattle.book.specs.Format.{exponents, exponentOf, exponentListed, simplesOf}
-use Rattle.book.proofs.Simples.{simpleFrom, simples-stop, simples-pass}
+use Rattle.rules.specs.Layouts.{exponentOf, simplesOf}
+use Rattle.rules.specs.Rules.{exponents, exponentListed}
+use Rattle.rules.proofs.Simples.{simpleFrom, simples-stop, simples-pass}
 
 plain : (e : ℕ) → pos (e + 8) -ℤ pos bias ≡ pos e
 plain e =

@@ -10,13 +10,14 @@ use borrow.Author.Tests.{lt-leb}
 use Rattle.figures.specs.Limits.{maxBook, maxTargets}
 use Rattle.pregroup.specs.Types.{Basic}
 use Rattle.format.specs.Records.{Bytes, twoBytes, headLength, recordOf, kindAt, bodyAt, nextAt}
-use Rattle.book.specs.Format.{Book, accepted, parse, bodyRules, firstBroken, add, withNext}
+use Rattle.rules.specs.Rules.{bodyRules, firstBroken}
+use Rattle.book.specs.Format.{Book, accepted, parse, add, withNext}
 use Rattle.book.specs.Kept.{nextFault}
 use Rattle.book.specs.Check.{GoodUpTo, start, next}
 use Rattle.format.proofs.RecordLaws.{size-first, kind-first, body-first, size-at, kind-at, body-at}
-use Rattle.book.proofs.WholeRecords.{record-whole}
-use Rattle.book.proofs.Faults.{one-yes, target-faults}
-use Rattle.book.proofs.NoFault.{no-fault-whole}
+use Rattle.rules.proofs.WholeRecords.{record-whole}
+use Rattle.rules.proofs.Faults.{one-yes, target-faults}
+use Rattle.rules.proofs.NoFault.{no-fault-whole}
 use Rattle.book.proofs.FirstBroken.{fault-none, fault-clean}
 use Rattle.book.proofs.Parsing.{end-parse, ended-some, accepted-good}
 

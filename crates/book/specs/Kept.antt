@@ -15,7 +15,9 @@ use Rattle.slash.specs.Brackets.{tooDeep}
 use Rattle.slash.specs.Trees.{hasTree}
 use Rattle.slash.specs.Places.{Holds}
 use Rattle.pregroup.specs.Types.{PregroupType}
-use Rattle.book.specs.Format.{Book, Entry, accepted, refused, parse, declaredAmong, bases, exponents, exponentListed, typePart, isWorded, entryOf, firstBroken, nextRules, withNext}
+use Rattle.rules.specs.Layouts.{typePart, isWorded}
+use Rattle.rules.specs.Rules.{declaredAmong, bases, exponents, exponentListed, firstBroken}
+use Rattle.book.specs.Format.{Book, Entry, accepted, refused, parse, entryOf, nextRules, withNext}
 use Rattle.book.specs.declared.EntryType.{EntryType}
 use Rattle.book.specs.declared.Progress.{Progress}
 use Rattle.book.specs.declared.Taken.{Taken}

@@ -8,7 +8,8 @@ use Rattle.figures.specs.Limits.{maxEntrySimples}
 use Rattle.format.specs.Records.{Bytes, recordOf}
 use Rattle.slash.specs.Brackets.{tooDeep}
 use Rattle.slash.specs.Trees.{hasTree, textType}
-use Rattle.book.specs.Format.{Book, Parsed, accepted, refused, entryBody, simplesOf, slashed, add}
+use Rattle.rules.specs.Layouts.{entryBody, simplesOf, slashed}
+use Rattle.book.specs.Format.{Book, Parsed, accepted, refused, add}
 
 -- Two books, behind records that hold B, that differ only in notation: record by record they have the same bytes, or the first has an entry of
 -- simple types (kind 3) and the second a slashed entry (kind 5) with the same word and the same type. What stands behind these records, a faulty

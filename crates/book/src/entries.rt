@@ -1,15 +1,16 @@
 // An entry of a book, whatever its kind: its word, its type, and how many simple types that has. Nothing above this file knows the kinds of
 // entries.
 use crate::EntryType;
-use crate::layout::LEAST_EXPONENT;
-use crate::layout::type_part;
-use crate::layout::word_part;
 use bytewise::widths::two_bytes;
 use figures::limits::MAX_ENTRY_SIMPLES;
 use figures::limits::MAX_TEXT_SIMPLES;
 use format::layout::body_at;
 use pregroup::EXPONENT_BIAS;
 use pregroup::hold;
+use rules::layout::LEAST_EXPONENT;
+use rules::layout::SLASHED;
+use rules::layout::type_part;
+use rules::layout::word_part;
 use slash::brackets::count_simples;
 use slash::parser::read_text;
 ghost use mathlib.Core.Path.{_≡_};
@@ -25,11 +26,9 @@ ghost use Rattle.format.specs.Records.{Bytes, every, bodyAt, nextAt, bodiesAt};
 ghost use Rattle.format.specs.Names.{Named};
 ghost use Rattle.slash.specs.Brackets.{tooDeep};
 ghost use Rattle.slash.specs.Trees.{textType};
-ghost use Rattle.book.specs.Format.{exponents, exponentOf, exponentListed, simplesOf, isWorded, wordOf};
+ghost use Rattle.rules.specs.Layouts.{exponentOf, simplesOf, isWorded, wordOf};
+ghost use Rattle.rules.specs.Rules.{exponents, exponentListed};
 ghost use Rattle.book.specs.Kept.{entryFrom, Formed, HeldType};
-
-// The kind of an entry whose type is a text.
-pub const SLASHED: usize = 5;
 
 // An exponent of the book, a byte in two's complement, as it is held: raised, so that it is never negative.
 fn raise(exponent: u8) -> u8

@@ -8,10 +8,8 @@ use figures::limits::MAX_TYPES;
 use format::names::NAME_PLACES;
 
 pub mod entries;
-pub mod layout;
 pub mod record_reader;
 pub mod records;
-pub mod rules;
 
 // A reader of a book's records: the book and the offset of the next record (document 01, "The earliest bad record decides").
 pub struct RecordReader<'a> {

@@ -1,11 +1,11 @@
 // The record reader: made at an offset of a book, it says what the next record is refused with. A function over a struct that holds a
 // slice is proved by a walk, so the work is left to `record_fault`, on the book and the number, and callers use `fault_at`.
 use crate::RecordReader;
-use crate::rules::record_fault;
+use rules::record_fault;
 ghost use mathlib.Core.Path.{_≡_};
 ghost use Prim.Native.Nat.{_≤_};
 ghost use lib.ListN.{length};
-ghost use Rattle.book.specs.Format.{recordRules, firstBroken};
+ghost use Rattle.rules.specs.Rules.{recordRules, firstBroken};
 ghost use Rattle.format.specs.Records.{bodiesAt};
 ghost use Rattle.format.specs.Names.{Named};
 

@@ -2,7 +2,6 @@
 use crate::Progress;
 use crate::Scan;
 use crate::Taken;
-use crate::entries::SLASHED;
 use crate::record_reader::fault_at;
 use bytewise::widths::two_bytes;
 use bytewise::widths::wide_byte;
@@ -12,6 +11,7 @@ use figures::refusals::NO_TARGET;
 use format::layout::HEAD;
 use format::layout::body_at;
 use format::names::keep_name;
+use rules::layout::SLASHED;
 ghost use Prim.Native.Nat.{_+_, _<_};
 ghost use Rattle.book.specs.Kept.{store, Roomy, NoPairs, Sound, TakenSays, ScanSays};
 

@@ -9,9 +9,11 @@ use lib.ListN.{length, getD, drop, length-append, length-map}
 use Rattle.figures.specs.Limits.{maxBook}
 use Rattle.figures.specs.Refusals.{bookTooLong, cutShort, noTarget}
 use Rattle.format.specs.Records.{Bytes, every, between, headLength, twoBytes, kindAt, bodyAt, nextAt, recordOf}
-use Rattle.book.specs.Format.{Book, Entry, Parsed, accepted, refused, byKind, entryBody, isWorded, isEntry, EntryKind, of-simples, of-text, entryOf, bodyRules, recordRules, firstBroken, add, nextRules, withNext, ended, recordsFrom, parse}
+use Rattle.rules.specs.Layouts.{byKind, entryBody, isWorded, isEntry, EntryKind, of-simples, of-text}
+use Rattle.rules.specs.Rules.{bodyRules, recordRules, firstBroken}
+use Rattle.book.specs.Format.{Book, Entry, Parsed, accepted, refused, entryOf, add, nextRules, withNext, ended, recordsFrom, parse}
 use Rattle.format.proofs.RecordLaws.{size-first, kind-first, body-first, rest-first, size-at, kind-at, body-at, rest-at}
-use Rattle.book.proofs.EntryLaws.{word-part, type-part}
+use Rattle.rules.proofs.EntryLaws.{word-part, type-part}
 use Rattle.book.proofs.GoodEntries.{add-entry}
 use Rattle.lookup.specs.Capitals.{smallBytes, DifferInCase, same-rest, same-record, respelt}
 use Rattle.lookup.proofs.CapitalLaws.{small-every, same-exactly, same-length}

@@ -5,7 +5,9 @@ use mathlib.Core.List.{List, [], _∷_, _++_}
 use lib.IntN.{negsuc}
 use Rattle.format.specs.Records.{every, twoBytes, sameBytes}
 use Rattle.format.specs.Names.{nameByte, isName, numberOf}
-use Rattle.book.specs.Format.{exponentOf, simplesOf, isWorded, isEntry, exponentListed, bodyRules, recordRules, firstBroken, add, ended, recordsFrom, parse}
+use Rattle.rules.specs.Layouts.{exponentOf, simplesOf, isWorded, isEntry}
+use Rattle.rules.specs.Rules.{exponentListed, bodyRules, recordRules, firstBroken}
+use Rattle.book.specs.Format.{add, ended, recordsFrom, parse}
 use Rattle.book.proofs.PaperBooks.{firstBook}
 use Rattle.line.specs.LineWords.{wordsFrom}
 use Rattle.line.specs.LineFaults.{byteFault, wordFault}

@@ -16,7 +16,8 @@ use Rattle.figures.specs.Limits.{maxEntrySimples}
 use Rattle.pregroup.specs.Types.{Simple, PregroupType}
 use Rattle.format.specs.Records.{Bytes, every}
 use Rattle.format.proofs.Bools.{both}
-use Rattle.book.specs.Format.{Entry, exponents, exponentListed}
+use Rattle.rules.specs.Rules.{exponents, exponentListed}
+use Rattle.book.specs.Format.{Entry}
 use Rattle.line.specs.LineWords.{Word}
 use Rattle.line.specs.LineFaults.{wordFault}
 use Rattle.line.proofs.Passed.{word-fine}

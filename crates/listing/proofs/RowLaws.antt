@@ -13,7 +13,7 @@ use Rattle.format.specs.Records.{Bytes}
 use Rattle.book.specs.Format.{Entry}
 use Rattle.book.specs.declared.EntryType.{EntryType}
 use Rattle.book.specs.Kept.{HeldType}
-use Rattle.book.proofs.HeldTypes.{holds-at}
+use Rattle.rules.proofs.HeldDeclared.{holds-at}
 use Rattle.line.specs.LineWords.{wordsOf}
 use Rattle.line.specs.Split.{wordAt, SplitInto}
 use Rattle.line.proofs.LineLaws.{words-at, none-left}

@@ -10,8 +10,8 @@ use lib.ListN.{length, getD, set, drop, length-set, length-drop}
 use lib.Seq.{getD-set-same, getD-set-other, length-take-le}
 use Rattle.figures.specs.Limits.{maxEntries, maxWord}
 use Rattle.format.specs.Records.{Bytes, bodyAt}
-use Rattle.book.specs.Format.{wordLength}
-use Rattle.book.proofs.Layouts.{word-shape}
+use Rattle.rules.specs.Layouts.{wordLength}
+use Rattle.rules.proofs.Layouts.{word-shape}
 use Rattle.lookup.specs.Capitals.{sameWord}
 use Rattle.lookup.specs.Entries.{Entries}
 use Rattle.bytewise.specs.First.{First}

@@ -4,7 +4,7 @@ use mathlib.Core.Path.{_≡_}
 use mathlib.Core.Bool.{Bool, true, cond}
 use mathlib.Core.List.{_++_, map}
 use Rattle.format.specs.Records.{Bytes, between, sameBytes, recordOf}
-use Rattle.book.specs.Format.{EntryKind, entryBody}
+use Rattle.rules.specs.Layouts.{EntryKind, entryBody}
 
 -- A–Z are 65 to 90, and a–z stand 32 behind them.
 abbrev pub isCapital : ℕ → Bool

@@ -7,7 +7,8 @@ use lib.ListN.{length, getD}
 use Rattle.figures.specs.Limits.{maxEntries}
 use Rattle.linking.specs.Reading.{NumberedEntry, Words}
 use Rattle.format.specs.Records.{Bytes, bodyAt, Whole}
-use Rattle.book.specs.Format.{Entry, Book, isWorded}
+use Rattle.rules.specs.Layouts.{isWorded}
+use Rattle.book.specs.Format.{Entry, Book}
 use Rattle.book.specs.Kept.{entryFrom, entriesAt, AllFormed}
 use Rattle.lookup.specs.Capitals.{sameWord}
 

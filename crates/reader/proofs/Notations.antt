@@ -12,7 +12,8 @@ use Rattle.pregroup.specs.Types.{adjointBy}
 use Rattle.slash.specs.Grammar.{opening, closing, slash, backslash, meaning}
 use Rattle.slash.specs.Brackets.{deepBehind}
 use Rattle.slash.specs.Trees.{nameFront, nameBehind, nameAt, closedBy, closed, unitBy, joined, secondBy, behindFirst, unitAt, wholeBy, whole, treeOf, isSome, meaningOf}
-use Rattle.book.specs.Format.{Parsed, refused, parse, nothingYet, exponentOf, simplesOf, add}
+use Rattle.rules.specs.Layouts.{exponentOf, simplesOf}
+use Rattle.book.specs.Format.{Parsed, refused, parse, nothingYet, add}
 use Rattle.book.specs.Notation.{DifferInNotation, same-rest, same-record, in-slashes, AlikeParsed, both-accepted, both-refused}
 use Rattle.book.proofs.Notation.{notation-alike}
 use Rattle.book.proofs.PaperBooks.{join, types, slashedRecord, targetRecord, firstBook, fetch, bed4, ward7, urgently, admit, site, go, please}

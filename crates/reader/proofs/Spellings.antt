@@ -14,7 +14,9 @@ use Rattle.linking.specs.Linking.{firstSome, linkedTo, firstWithin, unlinkedAt,
 use Rattle.linking.specs.Reading.{NumberedEntry, answer, firstEntry, firstBehind, firstTarget, firstReading}
 use Rattle.format.specs.Records.{Bytes, every, twoBytes, sameBytes}
 use Rattle.format.specs.Names.{nameByte, isName, numberOf}
-use Rattle.book.specs.Format.{of-simples, Entry, exponentOf, simplesOf, isWorded, isEntry, exponentListed, bodyRules, recordRules, firstBroken, add, ended, recordsFrom, parse}
+use Rattle.rules.specs.Layouts.{of-simples, exponentOf, simplesOf, isWorded, isEntry}
+use Rattle.rules.specs.Rules.{exponentListed, bodyRules, recordRules, firstBroken}
+use Rattle.book.specs.Format.{Entry, add, ended, recordsFrom, parse}
 use Rattle.book.proofs.PaperBooks.{typeRecord, entryRecord, targetRecord, join, types, entries, fetch, bed4, ward7, firstBook}
 use Rattle.line.specs.LineWords.{wordsFrom}
 use Rattle.lookup.specs.Capitals.{small, sameWord, DifferInCase, same-rest, same-record, respelt}

@@ -33,13 +33,15 @@ use Rattle.slash.specs.Brackets.{TooDeep, tooDeep}
 use Rattle.slash.specs.Trees.{treeOf}
 use Rattle.slash.proofs.BracketLaws.{deep-exactly}
 use Rattle.slash.proofs.TreeLaws.{tree-sound, tree-complete, one-tree}
-use Rattle.book.specs.Format.{Book, accepted, parse, nothingYet, recordsFrom, slashed, typePart, bodyRules, firstBroken}
-use Rattle.book.specs.TextRules.{TextRuled}
+use Rattle.rules.specs.Layouts.{slashed, typePart}
+use Rattle.rules.specs.Rules.{bodyRules, firstBroken}
+use Rattle.book.specs.Format.{Book, accepted, parse, nothingYet, recordsFrom}
+use Rattle.rules.specs.TextRules.{TextRuled}
 use Rattle.book.specs.Check.{bookCheck, checkReply, BookPromised}
 use Rattle.book.proofs.Parsing.{bound-never-ends}
 use Rattle.book.proofs.Promises.{check-promised, one-answer}
-use Rattle.book.proofs.Slashed.{no-exponent-fault}
-use Rattle.book.proofs.TextRules.{text-ruled}
+use Rattle.rules.proofs.Slashed.{no-exponent-fault}
+use Rattle.rules.proofs.TextRules.{text-ruled}
 use Rattle.lookup.specs.Capitals.{small, smallBytes, sameWord, DifferInCase}
 use Rattle.lookup.proofs.CapitalLaws.{CapitalOf, NoCapital, alike-exactly, same-reflexive, same-symmetric, same-transitive, equal-words, same-without-capitals}
 use Rattle.line.specs.LineFaults.{entriesOfLine}

@@ -3,7 +3,7 @@ use borrow.Author.Needs.{needs}
 use mathlib.Core.Path.{sym, ap, _∙_}
 use Rattle.format.specs.Records.{Bytes}
 use Rattle.format.proofs.RecordLaws.{two-bytes-read}
-use Rattle.book.specs.Format.{typePart}
+use Rattle.rules.specs.Layouts.{typePart}
 use Rattle.book.proofs.EntryTypes.{text-entry-length, pairs-entry-length}
 use Rattle.book.proofs.entries.entry_length.Statement.{statement}
 use Rattle.book.proofs.entries.entry_length.Tie as tie

@@ -2,7 +2,7 @@
 use borrow.Author.Needs.{needs}
 use mathlib.Core.Path.{ap, _∙_}
 use Rattle.format.specs.Records.{Bytes}
-use Rattle.book.specs.Format.{wordOf}
+use Rattle.rules.specs.Layouts.{wordOf}
 use Rattle.book.proofs.entries.entry_word.Statement.{statement}
 use Rattle.book.proofs.entries.entry_word.Tie as tie
 

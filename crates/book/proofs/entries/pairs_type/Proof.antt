@@ -5,7 +5,7 @@ use mathlib.Core.Path.{_≡_, refl, _∙_}
 use lib.ListN.{length, getD, length-set}
 use Rattle.figures.specs.Limits.{maxEntrySimples}
 use Rattle.pregroup.specs.Held.{held}
-use Rattle.book.proofs.Simples.{simpleFrom}
+use Rattle.rules.proofs.Simples.{simpleFrom}
 use Rattle.book.proofs.RaiseLaws.{listed-at}
 use Rattle.book.proofs.HeldTypes.{filled-next, pairs-held}
 use Rattle.book.proofs.entries.pairs_type.Statement.{statement}

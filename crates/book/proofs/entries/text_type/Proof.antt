@@ -6,7 +6,7 @@ use lib.ListN.{length, getD, length-set}
 use Rattle.figures.specs.Limits.{maxEntrySimples}
 use Rattle.format.specs.Records.{bodiesAt}
 use Rattle.book.proofs.HeldTypes.{filled-next, copied-held}
-use Rattle.book.proofs.Texts.{room-all, shallow-shown}
+use Rattle.rules.proofs.Texts.{room-all, shallow-shown}
 use Rattle.book.proofs.entries.text_type.Statement.{statement}
 use Rattle.book.proofs.entries.text_type.Tie as tie
 

@@ -36,7 +36,7 @@ use denote.Triple.Table.{entered, cited}
 use denote.Triple.Walked.{says, needs, Stays, stay-none, stay-none-slice, walkOf, goes-none, goes-none-slice, Walks, ends-at, walked, walk-meets}
 use denote.Exit.{yes}
 use denote.Triple.Clauses.{ensured, lasts}
-use Rattle.book.specs.Format.{recordRules, firstBroken}
+use Rattle.rules.specs.Rules.{recordRules, firstBroken}
 use Rattle.format.specs.Records.{bodiesAt}
 use Rattle.format.specs.Names.{Named}
 use Rattle.book.specs.declared.RecordReader.{RecordReader}

@@ -41,16 +41,16 @@ use denote.Triple.Table.{entered, cited}
 use denote.Triple.Walked.{says, needs, Stays, stay-none, stay-none-slice, walkOf, goes-none, goes-none-slice, Walks, ends-at, walked, walk-meets}
 use denote.Exit.{yes}
 use denote.Triple.Clauses.{ensured, lasts}
-use Rattle.book.specs.Format.{recordRules, firstBroken}
+use Rattle.rules.specs.Rules.{recordRules, firstBroken}
 use Rattle.format.specs.Records.{bodiesAt}
 use Rattle.format.specs.Names.{Named}
 use Rattle.book.specs.declared.RecordReader.{RecordReader}
 use Rattle.book.proofs.RecordReader as T
 use Rattle.book.proofs.RecordReader.Laws as T′
-use Rattle.book.proofs.rules.record_fault as record-fault
-use Rattle.book.proofs.rules.record_fault.Symbol as record-fault-def
-use Rattle.book.proofs.rules.record_fault.Symbol.{name as #record-fault}
-use Rattle.book.proofs.rules.record_fault.Met as record-fault-thm
+use Rattle.rules.proofs.record_fault as record-fault
+use Rattle.rules.proofs.record_fault.Symbol as record-fault-def
+use Rattle.rules.proofs.record_fault.Symbol.{name as #record-fault}
+use Rattle.rules.proofs.record_fault.Met as record-fault-thm
 use Rattle.book.proofs.record_reader.next_fault.Key.{name as #next-fault}
 use Rattle.book.proofs.record_reader.next_fault as next-fault
 use Rattle.book.proofs.record_reader.next_fault.Statement as stated
@@ -218,4 +218,4 @@ next-fault-spec 𝓤 H 𝓜 𝓖 𝓡 =
     entered 𝓤 H (tripleOf 𝓤 H (𝓖 .A) next-fault.signature (next-fault.spec 𝓤 H (𝓖 .A) (𝓜 .mem) (𝓡 .run)))
     (tables 𝓤 H 𝓜 𝓡 code.env .C) (tables 𝓤 H 𝓜 𝓡 code.env .Λ) #next-fault code.function (code.unfolded 𝓤 H 𝓜 𝓡)
     (next-fault-meets 𝓤 H (𝓖 .A) (givenOf 𝓤 H 𝓜 𝓖) (𝓜 .mem) (𝓡 .run) (tablesOf 𝓤 H 𝓜 (tables 𝓤 H 𝓜 𝓡 code.env))
-    (cited 𝓤 H (RecordFault 𝓤 H (𝓖 .A) (𝓜 .mem) (𝓡 .run)) 𝓜 𝓡 code.env #record-fault record-fault-def.routine code.calls-book·rules·record-fault (record-fault-thm.met 𝓤 H 𝓜 𝓖 𝓡)))
+    (cited 𝓤 H (RecordFault 𝓤 H (𝓖 .A) (𝓜 .mem) (𝓡 .run)) 𝓜 𝓡 code.env #record-fault record-fault-def.routine code.calls-rules·record-fault (record-fault-thm.met 𝓤 H 𝓜 𝓖 𝓡)))

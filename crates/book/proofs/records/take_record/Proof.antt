@@ -10,7 +10,7 @@ use Rattle.format.specs.Records.{Bytes, bodyAt, headLength, nextAt, kindAt}
 use Rattle.book.specs.Kept.{Store, store, Sound}
 use Rattle.book.specs.declared.Progress.{Progress}
 use Rattle.format.proofs.RecordLaws.{two-bytes-read, whole-length}
-use Rattle.book.specs.Format.{EntryKind, of-simples, of-text}
+use Rattle.rules.specs.Layouts.{EntryKind, of-simples, of-text}
 use Rattle.book.proofs.Keeping.{Found, fault-kept, whole, name-place, entry-place, pair-place, target-place, kind-left, name-taken, entry-taken, pair-taken, target-taken}
 use Rattle.book.proofs.records.take_record.Statement.{statement}
 use Rattle.book.proofs.records.take_record.Tie as tie
