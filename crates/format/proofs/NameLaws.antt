@@ -94,6 +94,11 @@ pub name-byte-no : (byte : ℕ) → (97 ≤ byte → byte ≤ 122 → ⊥) → (
 unfolding nameByte
 name-byte-no byte h k = rw (outside 97 122 byte h, outside 48 57 byte k)
 
+-- Below the letters a byte of a name is a digit, and from the first letter on it goes up to the last.
+pub name-below : (byte : ℕ) → byte < 97 → nameByte byte ≡ between 48 57 byte
+unfolding nameByte
+name-below byte h = rw (outside 97 122 byte (omega arith))
+
 module _ (body : Bytes) where
   pub name-length-no : (1 ≤ length body → length body ≤ maxName → ⊥) → false ≡ isName body
   unfolding isName

@@ -28,7 +28,16 @@ pub fn is_letter(byte: u8) -> bool
     }
 }
 
-pub fn is_name_byte(byte: u8) -> bool
+pub fn is_digit(byte: u8) -> bool
+    ensures { λ r. ⌜ r ≡ between 48 57 byte ⌝ }
+{
+    match byte {
+        b'0'..=b'9' => true,
+        _ => false,
+    }
+}
+
+fn is_name_byte(byte: u8) -> bool
     ensures { λ r. ⌜ r ≡ nameByte byte ⌝ }
 {
     match byte {
@@ -66,18 +75,18 @@ pub fn is_name(body: &[u8]) -> bool
     all_name_bytes(body)
 }
 
-// The key of a name: its length, its first byte and its last two, mixed so that names that end in two digits have different keys.
+// The key of a name: its byte, or its length, its first byte and its last two, mixed so that names that end in two digits have different keys.
 fn key_of(name: &[u8]) -> usize
     requires { ⌜ (1 ≤ length (now name)) × (length (now name) ≤ maxName) ⌝ }
     ensures { λ r. ⌜ r < nameKeys ⌝ }
 {
     let first = wide_byte(name[0]);
     if name.len() < 2 {
-        return (7 * first) % KEYS;
+        return first;
     }
     let last = wide_byte(name[name.len() - 1]);
     let before = wide_byte(name[name.len() - 2]);
-    (name.len() + 7 * first + 151 * before + 37 * last) % KEYS
+    (name.len() + 4 * first + 9 * before + 16 * last) % KEYS
 }
 
 // The number of a name among the basic types whose records start at the kept offsets, tried one by one; or how many there are.
@@ -95,7 +104,8 @@ pub fn search_name(book: &[u8], names: &[u16], types: usize, name: &[u8]) -> usi
     i
 }
 
-// The same, where the last name of the key is tried first.
+// The same, where the last name of the key is tried first. The search is lent `[..]` of two lists: a list that is handed on as it came is put in
+// memory for every name, also where no search follows.
 pub fn find_name(book: &[u8], names: &[u16], types: usize, name: &[u8]) -> usize
     requires { ⌜ Named (now book) (now names) types × (1 ≤ length (now name)) × (length (now name) ≤ maxName) ⌝ }
     ensures { λ r. ⌜ r ≡ numberOf (bodiesAt (now (book .entry)) (now (names .entry)) types) (now (name .entry)) ⌝ }
@@ -106,7 +116,7 @@ pub fn find_name(book: &[u8], names: &[u16], types: usize, name: &[u8]) -> usize
             return guess;
         }
     }
-    search_name(book, names, types, name)
+    search_name(&book[..], names, types, &name[..])
 }
 
 // Keeps the offset of a name's record as the next, and its number with its key.

@@ -17,6 +17,22 @@ use Rattle.slash.specs.Places.{Holds, one, Movable, moved, Turnable, Tur
 pub still-inside : (l : List ℕ) (i x : ℕ) {k : ℕ} → k < length l → k < length (set l i x)
 still-inside l i x h = omega (arith, length-set l i x)
 
+-- One place alone is turned where it stands.
+pub turned-alone :
+    {left : Bool} {places : List ℕ} {from end x : ℕ} → Turnable places from end → end - from ≡ 1 → x ≡ moved left (getD {A = ℕ} places from 0)
+    → Turned left places from end (set places from x)
+turned-alone {left} {places} {from} {end} {x} able alone is-x =
+    record {
+      turned = λ k l m.
+          let here : k ≡ from = omega (arith, able .ordered) in
+          let there : from ≡ from + end - suc k = omega (arith, able .ordered) in
+          ap (λ (n : ℕ). getD {A = ℕ} (set places from x) n 0) here
+          ∙ getD-set-same places from x 0 (omega (arith, able .inside, able .ordered))
+          ∙ is-x
+          ∙ ap (λ (n : ℕ). moved left (getD {A = ℕ} places n 0)) there;
+      before = λ k l. getD-set-other places from k x 0 (omega arith);
+    }
+
 -- The places before i and from j on are turned, those between are not yet.
 pub record Turning (left : Bool) (places : List ℕ) (from end : ℕ) (places′ : List ℕ) (i j : ℕ) : Type 0 where
   pub size : length places′ ≡ length places

@@ -13,11 +13,15 @@ fn shift(simple: u16, left: bool) -> u16
     if left { simple - ONE } else { simple + ONE }
 }
 
-// Turns the type at the places from `from` up to `end` into its left or right adjoint.
+// Turns the type at the places from `from` up to `end` into its left or right adjoint. Most have one simple type, and are moved where they stand.
 pub(crate) fn turn(places: &mut [u16], from: usize, end: usize, left: bool)
     requires { ⌜ Turnable (now places) from end ⌝ }
     ensures { λ _. ⌜ Turned left (now (places .entry)) from end (now (places .exit)) ⌝ }
 {
+    if end - from == 1 {
+        places[from] = shift(places[from], left);
+        return;
+    }
     let mut i = from;
     let mut j = end;
     while i < j {

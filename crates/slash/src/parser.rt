@@ -5,8 +5,8 @@ use crate::adjoint::turn;
 use figures::limits::MAX_DEPTH;
 use figures::limits::MAX_NAME;
 use format::names::find_name;
+use format::names::is_digit;
 use format::names::is_letter;
-use format::names::is_name_byte;
 use pregroup::EXPONENT_BIAS;
 use pregroup::hold;
 ghost use Prim.Native.Nat.{suc, _≤_, _<_};
@@ -18,15 +18,22 @@ ghost use Rattle.slash.specs.Grammar.{meaning};
 ghost use Rattle.slash.specs.Trees.{nameAt, unitAt, typeAt};
 ghost use Rattle.slash.specs.Places.{room, Fits, NameEnds, SignAt, Says, TextSays};
 
-// Where the bytes of a name end that stand from a place on.
+// Where the bytes of a name end that stand from a place on. Most are letters, so these take the shortest way.
 fn name_end(text: &[u8], at: usize) -> usize
     requires { ⌜ at ≤ length (now text) ⌝ }
     ensures { λ r. ⌜ NameEnds (now (text .entry)) at r ⌝ }
 {
     let mut i = at;
     while i < text.len() {
-        if !is_name_byte(text[i]) {
-            return i;
+        let byte = text[i];
+        if byte < b'a' {
+            if !is_digit(byte) {
+                return i;
+            }
+        } else {
+            if b'z' < byte {
+                return i;
+            }
         }
         i += 1;
     }
@@ -81,7 +88,8 @@ fn read_name(
     }
 }
 
-// Reads a unit: a name, or a type in brackets.
+// Reads a unit: a name, or a type in brackets. For brackets `[..]` of the lists is lent, as in `find_name`: lists that are handed on as they came
+// are put in memory for a name too.
 fn read_unit(
     text: &[u8],
     at: usize,
@@ -105,7 +113,16 @@ fn read_unit(
     if depth == 0 {
         return Found { behind: at, end: 0 };
     }
-    let inside = read_type(text, at + 1, depth - 1, book, names, types, places, from);
+    let inside = read_type(
+        &text[..],
+        at + 1,
+        depth - 1,
+        &book[..],
+        &names[..],
+        types,
+        places,
+        from,
+    );
     let behind = inside.behind;
     let end = inside.end;
     if end == 0 {
