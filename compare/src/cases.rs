@@ -7,6 +7,8 @@ mod borders;
 mod damaged_books;
 mod damaged_lines;
 mod papers;
+#[cfg(test)]
+mod reached;
 mod slashes;
 mod spellings;
 mod targets;

@@ -180,6 +180,7 @@ mod tests {
     use super::*;
     use crate::books::word_ranges;
     use crate::cases::batches;
+    use crate::cases::reached::{assert_reached, note, Times};
     use crate::independent;
     use crate::twin::keys::key_of;
     use std::collections::BTreeMap;
@@ -346,38 +347,30 @@ mod tests {
     }
 
     /// Counts the lines that reach each thing.
-    fn count(times: &mut BTreeMap<&'static str, usize>, book: &[u8], line: &[u8]) {
+    fn count(times: &mut Times, book: &[u8], line: &[u8]) {
         let all = reached(book, line);
         let by_name: BTreeMap<_, bool> = all.iter().fold(BTreeMap::new(), |mut by_name, one| {
             *by_name.entry(one.0).or_default() |= one.1;
             by_name
         });
         for (what, reached) in by_name {
-            *times.entry(what).or_insert(0) += usize::from(reached);
-        }
-    }
-
-    fn assert_reached(what: &str, times: &BTreeMap<&'static str, usize>) {
-        assert_eq!(times.len(), 20);
-        for (name, times) in times {
-            println!("{what}, {name}: {times}");
-            assert!(*times >= 5, "{what}, {name}: {times}");
+            note(times, what, reached);
         }
     }
 
     #[test]
     fn every_corner_of_the_look_up_is_reached_by_lines() {
-        let mut times = BTreeMap::new();
+        let mut times = Times::new();
         for number in 0..5_000 {
             let case = alike_words(&mut Random::for_case(6, number));
             count(&mut times, &case.book, &case.line);
         }
-        assert_reached("lines", &times);
+        assert_reached("lines", &times, 20);
     }
 
     #[test]
     fn every_corner_of_the_look_up_is_reached_by_batches() {
-        let mut times = BTreeMap::new();
+        let mut times = Times::new();
         for number in 0..2_000 {
             let random = &mut Random::for_case(7, number);
             let case = alike_words(random);
@@ -386,6 +379,6 @@ mod tests {
                 count(&mut times, &batch.book, line);
             }
         }
-        assert_reached("lines of batches", &times);
+        assert_reached("lines of batches", &times, 20);
     }
 }

@@ -180,7 +180,7 @@ fn needed(book: &[u8], lines: &[u8]) -> Result<usize, Refusal> {
 #[cfg(test)]
 mod tests {
     use super::*;
-    use std::collections::BTreeMap;
+    use crate::cases::reached::{assert_reached, note, Times};
 
     /// Something that batches are to reach, with whether one does.
     type Reached = (&'static str, bool);
@@ -247,18 +247,15 @@ mod tests {
 
     #[test]
     fn every_cause_is_reached() {
-        let mut times = BTreeMap::new();
+        let mut times = Times::new();
         for number in 0..5_000 {
             let batch = &batch(&mut Random::for_case(5, number));
             let faults = bad_batch(batch).into_iter().chain(bad_book(batch));
             let others = values(batch).into_iter().chain(answered(batch));
             for (what, reached) in faults.chain(others) {
-                *times.entry(what).or_insert(0) += usize::from(reached);
+                note(&mut times, what, reached);
             }
         }
-        for (what, times) in times {
-            println!("{what}: {times}");
-            assert!(times >= 5, "{what}: {times}");
-        }
+        assert_reached("batches", &times, 17);
     }
 }

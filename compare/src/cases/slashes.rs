@@ -294,25 +294,10 @@ fn insert(random: &mut Random, records: &mut Records, basic_types: usize, record
 mod tests {
     use super::*;
     use crate::books::word_ranges;
+    use crate::cases::reached::{assert_reached, note, Times};
     use crate::cases::{self, AMPLE};
     use crate::independent::{check_book, read_line};
     use crate::types::Refusal;
-    use std::collections::BTreeMap;
-
-    /// How often each thing is reached, by its name.
-    type Times = BTreeMap<String, usize>;
-
-    fn note(times: &mut Times, what: impl Into<String>, reached: bool) {
-        *times.entry(what.into()).or_insert(0) += usize::from(reached);
-    }
-
-    fn assert_reached(what: &str, times: &Times, names: usize) {
-        assert_eq!(times.len(), names);
-        for (name, times) in times {
-            println!("{what}, {name}: {times}");
-            assert!(*times >= 5, "{what}, {name}: {times}");
-        }
-    }
 
     /// The text of a record in slash notation.
     fn text_of(record: &[u8]) -> Option<&[u8]> {

@@ -46,28 +46,13 @@ pub fn add_some(random: &mut Random, records: &mut Records, more: usize) {
 mod tests {
     use super::*;
     use crate::books::{target_ranges, word_ranges};
+    use crate::cases::reached::{assert_reached, note, Times};
     use crate::cases::{self, AMPLE};
     use crate::independent::{check_book, read_line};
     use crate::types::Refusal;
     use std::cmp::Ordering::{Equal, Greater, Less};
-    use std::collections::BTreeMap;
 
     const MOST_TARGETS: usize = 8;
-
-    /// How often each thing is reached, by its name.
-    type Times = BTreeMap<String, usize>;
-
-    fn note(times: &mut Times, what: impl Into<String>, reached: bool) {
-        *times.entry(what.into()).or_insert(0) += usize::from(reached);
-    }
-
-    fn assert_reached(what: &str, times: &Times, names: usize) {
-        assert_eq!(times.len(), names);
-        for (name, times) in times {
-            println!("{what}, {name}: {times}");
-            assert!(*times >= 5, "{what}, {name}: {times}");
-        }
-    }
 
     /// The answer of a line with ample buffer.
     fn read(book: &[u8], line: &[u8]) -> Result<Vec<u16>, Refusal> {

@@ -1,4 +1,6 @@
 //! A type in slash notation: the rules for its text, how many simple types it has, and these written out.
+//! The rules walk over a text and write nothing: reading it for them as for its type takes a fifth more instructions, and a twin is to be
+//! a good measure.
 use super::book::{is_letter, is_name_byte};
 use super::figures::limits::{MAX_ENTRY_SIMPLES, MAX_NAME, MAX_OPEN};
 use super::figures::refusals::{BRACKETS_TOO_DEEP, NOT_A_TYPE, TYPE_TOO_LONG, UNDECLARED_TYPE};
