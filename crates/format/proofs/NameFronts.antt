@@ -2,15 +2,17 @@
 use Prim.Native.Nat.{ℕ, suc, _+_, _-_, _≤_, _<_}
 use native.Mathlib.Numerals.{add-one}
 use native.Mathlib.Omega.{arith}
+use native.Mathlib.Decide.{ℕ-discrete}
 use mathlib.Core.Path.{_≡_, refl, sym, ap, _∙_}
-use mathlib.Core.Bool.{true, false}
+use mathlib.Core.Bool.{Bool, true, false, cond}
 use mathlib.Core.List.{[], _∷_, _++_, append-nil, append-assoc}
 use lib.ListN.{length, getD, take, drop, length-drop, drop-of-length-le}
-use lib.Seq.{take-suc, getD-drop, drop-cons}
-use Rattle.format.specs.Records.{Bytes, between}
-use Rattle.format.specs.Names.{nameByte}
-use Rattle.slash.specs.Trees.{nameFront, nameBehind}
-use Rattle.slash.specs.Places.{NameEnds}
+use lib.Seq.{take-suc, take-all, getD-drop, drop-cons}
+use lib.Dec.{eqb}
+use borrow.Author.Tests.{eq-eqb, ne-eqb}
+use Rattle.format.specs.Records.{Bytes, every, between}
+use Rattle.format.specs.Names.{nameByte, nameFront, nameBehind, NameEnds}
+use Rattle.format.proofs.Bools.{both}
 
 -- So far the name has gone on.
 pub record NamePassed (text : Bytes) (at i : ℕ) : Type 0 where
@@ -81,3 +83,35 @@ name-begins {text} {at} {behind} h letter e =
       name = rw (n, drop-cons text at 0 h, letter) (ap (λ (l : Bytes). getD {A = ℕ} text at 0 ∷ l) (rw (add-one at) at (e .name)));
       left = rw (drop-cons text at 0 h, letter) (rw (add-one at) at (e .left));
     }
+
+-- All bytes of the name at the front are bytes of names.
+pub front-bytes : (text : Bytes) → every nameByte (nameFront text) ≡ true
+unfolding nameFront every
+front-bytes [] = refl
+front-bytes (b ∷ text) = go (nameByte b) refl (front-bytes text)
+  where
+    go : (t : Bool) → nameByte b ≡ t → every nameByte (nameFront text) ≡ true → every nameByte (cond t (b ∷ nameFront text) []) ≡ true
+    go true e rest = rw (e, rest)
+    go false e rest = refl
+
+-- Where all bytes are those of a name, none stand behind it.
+none-behind : (text : Bytes) → every nameByte text ≡ true → nameBehind text ≡ []
+unfolding nameBehind every
+none-behind [] h = refl
+none-behind (b ∷ text) h =
+    let t = both (nameByte b) (every nameByte text) h in
+    rw (t .0) (none-behind text (t .1))
+
+-- So the bytes of a name go to the end exactly where all are.
+pub name-whole : {text : Bytes} {end : ℕ} → NameEnds text 0 end → eqb end (length text) ≡ every nameByte text
+name-whole {text} {end} e = go (ℕ-discrete end (length text))
+  where
+    fails : (end ≡ length text → ⊥) → (t : Bool) → every nameByte text ≡ t → t ≡ false
+    fails ends true h = absurd (ends (omega (arith, ap (λ (l : Bytes). length l) (e .left ∙ none-behind text h), length-drop end text, e .inside)))
+    fails ends false h = refl
+
+    go : Dec (end ≡ length text) → eqb end (length text) ≡ every nameByte text
+    go (yes whole) =
+        let name : nameFront text ≡ text = sym (e .name) ∙ take-all (end - 0) text (omega arith) in
+        eq-eqb end (length text) whole ∙ sym (ap (λ (l : Bytes). every nameByte l) (sym name) ∙ front-bytes text)
+    go (no ends) = ne-eqb end (length text) ends ∙ sym (fails ends (every nameByte text) refl)

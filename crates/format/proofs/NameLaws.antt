@@ -86,10 +86,6 @@ pub name-letter : (byte : ℕ) → (97 ≤ byte) × (byte ≤ 122) → true ≡ 
 unfolding nameByte
 name-letter byte h = rw (inside 97 122 byte h)
 
-pub name-digit : (byte : ℕ) → (48 ≤ byte) × (byte ≤ 57) → true ≡ nameByte byte
-unfolding nameByte
-name-digit byte h = rw (outside 97 122 byte (omega arith), inside 48 57 byte h)
-
 pub name-byte-no : (byte : ℕ) → (97 ≤ byte → byte ≤ 122 → ⊥) → (48 ≤ byte → byte ≤ 57 → ⊥) → false ≡ nameByte byte
 unfolding nameByte
 name-byte-no byte h k = rw (outside 97 122 byte h, outside 48 57 byte k)

@@ -1,10 +1,10 @@
 -- The names of basic types: their form, their numbers, and how the code keeps them.
-use Prim.Native.Nat.{ℕ, suc, _+_, _≤_, _<_}
+use Prim.Native.Nat.{ℕ, suc, _+_, _-_, _≤_, _<_}
 use mathlib.Core.Path.{_≡_}
 use mathlib.Core.Bool.{Bool, cond, _&&_, _||_}
 use mathlib.Core.List.{List, [], _∷_}
 use lib.Dec.{ltb}
-use lib.ListN.{length, getD, set}
+use lib.ListN.{length, getD, set, take, drop}
 use Rattle.figures.specs.Limits.{maxName, maxTypes}
 use Rattle.format.specs.Records.{Bytes, every, between, sameBytes, bodyAt, Whole}
 
@@ -15,6 +15,22 @@ nameByte byte = between 97 122 byte || between 48 57 byte
 
 unfoldable pub isName : Bytes → Bool
 isName body = between 1 maxName (length body) && between 97 122 (getD {A = ℕ} body 0 0) && every nameByte body
+
+-- The bytes of a name at the front of a text, and what stands behind them.
+unfoldable pub nameFront : Bytes → Bytes
+nameFront [] = []
+nameFront (b ∷ text) = cond (nameByte b) (b ∷ nameFront text) []
+
+unfoldable pub nameBehind : Bytes → Bytes
+nameBehind [] = []
+nameBehind (b ∷ text) = cond (nameByte b) (nameBehind text) (b ∷ text)
+
+-- The bytes of a name that stand from an offset on, and where they end.
+pub record NameEnds (text : Bytes) (at behind : ℕ) : Type 0 where
+  pub forth : at ≤ behind
+  pub inside : behind ≤ length text
+  pub name : take (behind - at) (drop at text) ≡ nameFront (drop at text)
+  pub left : drop behind text ≡ nameBehind (drop at text)
 
 -- The number of a name, counted from 0; for one that is not among them, how many there are.
 unfoldable pub numberOf : List Bytes → Bytes → ℕ

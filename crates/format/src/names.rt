@@ -6,11 +6,11 @@ use bytewise::widths::wide_number;
 use figures::limits::MAX_NAME;
 use figures::limits::MAX_TYPES;
 ghost use mathlib.Core.Path.{_≡_};
-ghost use Rattle.format.specs.Records.{between, every, bodiesAt, Whole};
+ghost use Rattle.format.specs.Records.{between, bodiesAt, Whole};
 ghost use Prim.Native.Nat.{_≤_, _<_};
 ghost use lib.ListN.{length};
 ghost use Rattle.figures.specs.Limits.{maxName, maxTypes};
-ghost use Rattle.format.specs.Names.{nameByte, isName, numberOf, nameKeys, namePlaces, Named, Keeping};
+ghost use Rattle.format.specs.Names.{isName, NameEnds, numberOf, nameKeys, namePlaces, Named, Keeping};
 
 // How many keys names have.
 const KEYS: usize = 256;
@@ -28,7 +28,7 @@ pub fn is_letter(byte: u8) -> bool
     }
 }
 
-pub fn is_digit(byte: u8) -> bool
+fn is_digit(byte: u8) -> bool
     ensures { λ r. ⌜ r ≡ between 48 57 byte ⌝ }
 {
     match byte {
@@ -37,26 +37,26 @@ pub fn is_digit(byte: u8) -> bool
     }
 }
 
-fn is_name_byte(byte: u8) -> bool
-    ensures { λ r. ⌜ r ≡ nameByte byte ⌝ }
+// Where the bytes of a name end that stand from a place on. Most are letters, so these take the shortest way.
+pub fn name_end(text: &[u8], at: usize) -> usize
+    requires { ⌜ at ≤ length (now text) ⌝ }
+    ensures { λ r. ⌜ NameEnds (now (text .entry)) at r ⌝ }
 {
-    match byte {
-        b'a'..=b'z' | b'0'..=b'9' => true,
-        _ => false,
-    }
-}
-
-fn all_name_bytes(bytes: &[u8]) -> bool
-    ensures { λ r. ⌜ r ≡ every nameByte (now (bytes .entry)) ⌝ }
-{
-    let mut i = 0;
-    while i < bytes.len() {
-        if !is_name_byte(bytes[i]) {
-            return false;
+    let mut i = at;
+    while i < text.len() {
+        let byte = text[i];
+        if byte < b'a' {
+            if !is_digit(byte) {
+                return i;
+            }
+        } else {
+            if b'z' < byte {
+                return i;
+            }
         }
         i += 1;
     }
-    true
+    i
 }
 
 // Whether a body is a basic type's: 1 to 15 bytes, a letter first.
@@ -72,7 +72,7 @@ pub fn is_name(body: &[u8]) -> bool
     if !is_letter(body[0]) {
         return false;
     }
-    all_name_bytes(body)
+    name_end(body, 0) == body.len()
 }
 
 // The key of a name: its byte, or its length, its first byte and its last two, mixed so that names that end in two digits have different keys.

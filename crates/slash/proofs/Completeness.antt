@@ -8,10 +8,10 @@ use mathlib.Core.List.{[], _∷_, _++_, append-assoc}
 use lib.Dec.{eqb, leb}
 use borrow.Author.Tests.{ne-eqb, leb-true}
 use Rattle.format.specs.Records.{Bytes, every}
-use Rattle.format.specs.Names.{nameByte, isName}
+use Rattle.format.specs.Names.{nameByte, isName, nameFront, nameBehind}
 use Rattle.format.proofs.Bools.{both}
 use Rattle.slash.specs.Grammar.{opening, closing, slash, backslash, Tree, named, over, under, IsType}
-use Rattle.slash.specs.Trees.{Front, front, nameFront, nameBehind, nameAt, closedBy, closed, unitBy, joined, secondBy, behindFirst, typeBy, unitAt, typeAt}
+use Rattle.slash.specs.Trees.{Front, front, nameAt, closedBy, closed, unitBy, joined, secondBy, behindFirst, typeBy, unitAt, typeAt}
 use Rattle.slash.proofs.Induction.{Inductive, all-types}
 use Rattle.slash.proofs.Counting.{NameForm, name-form, Balanced, unit-balanced, Shallow, shallow-first, shallow-second, shallow-behind, shallow-inside, not-shallow}
 

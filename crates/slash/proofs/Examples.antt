@@ -9,10 +9,10 @@ use lib.IntN.{pos, negsuc}
 use Rattle.figures.specs.Limits.{maxDepth}
 use Rattle.pregroup.specs.Types.{PregroupType, _⁽_⁾, plain, adjointBy}
 use Rattle.format.specs.Records.{Bytes, every, sameBytes}
-use Rattle.format.specs.Names.{nameByte, isName, numberOf}
+use Rattle.format.specs.Names.{nameByte, isName, nameFront, nameBehind, numberOf}
 use Rattle.slash.specs.Grammar.{Tree, named, over, IsType, meaning}
 use Rattle.slash.specs.Brackets.{deepBehind, tooDeep}
-use Rattle.slash.specs.Trees.{nameFront, nameBehind, nameAt, closedBy, closed, unitBy, joined, secondBy, behindFirst, unitAt, typeAt, wholeBy, whole, treeOf, meaningOf, textType}
+use Rattle.slash.specs.Trees.{nameAt, closedBy, closed, unitBy, joined, secondBy, behindFirst, unitAt, typeAt, wholeBy, whole, treeOf, meaningOf, textType}
 use Rattle.slash.proofs.TreeLaws.{tree-sound, no-tree}
 
 -- Texts: x / y, x \ y, and ( x ).

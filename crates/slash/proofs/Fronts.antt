@@ -8,10 +8,10 @@ use mathlib.Core.List.{[], _∷_, _++_, append-assoc}
 use lib.Dec.{eqb}
 use borrow.Author.Tests.{eqb-true}
 use Rattle.format.specs.Records.{Bytes}
-use Rattle.format.specs.Names.{nameByte, isName}
+use Rattle.format.specs.Names.{nameByte, isName, nameFront, nameBehind}
 use Rattle.slash.specs.Grammar.{opening, closing, slash, backslash, Tree, named, over, under, IsType, IsUnit, alone, with-slash, with-backslash, a-name, in-brackets}
 use Rattle.slash.specs.Brackets.{oneIf}
-use Rattle.slash.specs.Trees.{Front, front, nameFront, nameBehind, nameAt, closedBy, closed, unitBy, joined, secondBy, behindFirst, typeBy, unitAt, typeAt}
+use Rattle.slash.specs.Trees.{Front, front, nameAt, closedBy, closed, unitBy, joined, secondBy, behindFirst, typeBy, unitAt, typeAt}
 use Rattle.slash.proofs.Counting.{unit-balanced, type-balanced, Shallow, shallow-name, shallow-append, shallow-next, shallow-around}
 
 -- What was read, if anything, is there: the text is one of that tree, with brackets no deeper than d, and then what stands behind.

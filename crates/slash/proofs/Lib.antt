@@ -8,7 +8,6 @@ pub mod TreeLaws
 pub mod MeaningLaws
 pub mod Examples
 pub mod TurnLaws
-pub mod NameFronts
 pub mod PlaceLaws
 pub mod ParserLaws
 pub mod Composing

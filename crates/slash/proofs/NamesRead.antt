@@ -13,22 +13,13 @@ use Rattle.pregroup.specs.Types.{Simple, plain}
 use Rattle.pregroup.specs.Held.{bias, lowered, held}
 use Rattle.pregroup.proofs.HeldLaws.{held-plain}
 use Rattle.format.specs.Records.{Bytes, every, between, bodiesAt}
-use Rattle.format.specs.Names.{nameByte, isName, numberOf, Named}
+use Rattle.format.specs.Names.{nameByte, isName, numberOf, Named, nameFront, NameEnds}
+use Rattle.format.proofs.NameFronts.{front-bytes}
 use Rattle.format.proofs.NameLaws.{bodies-length, name-length-no, name-first-no, name-rest, number-bound}
 use Rattle.slash.specs.Grammar.{named, meaning}
-use Rattle.slash.specs.Trees.{front, nameFront, nameAt}
-use Rattle.slash.specs.Places.{Holds, Tame, NameEnds, Written}
+use Rattle.slash.specs.Trees.{front, nameAt}
+use Rattle.slash.specs.Places.{Holds, Tame, Written}
 use Rattle.slash.proofs.PlaceLaws.{room-some}
-
--- All bytes of the name at the front are bytes of names.
-front-bytes : (text : Bytes) → every nameByte (nameFront text) ≡ true
-unfolding nameFront every
-front-bytes [] = refl
-front-bytes (b ∷ text) = go (nameByte b) refl (front-bytes text)
-  where
-    go : (t : Bool) → nameByte b ≡ t → every nameByte (nameFront text) ≡ true → every nameByte (cond t (b ∷ nameFront text) []) ≡ true
-    go true e rest = rw (e, rest)
-    go false e rest = refl
 
 -- A name's number is small enough for a byte.
 pub number-small :

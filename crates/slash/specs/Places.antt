@@ -4,14 +4,14 @@ use mathlib.Core.Path.{_≡_}
 use mathlib.Core.Bool.{Bool, cond}
 use mathlib.Core.Option.{Option, none, some}
 use mathlib.Core.List.{List}
-use lib.ListN.{length, getD, take, drop}
+use lib.ListN.{length, getD, drop}
 use Rattle.figures.specs.Limits.{maxDepth}
 use Rattle.pregroup.specs.Types.{PregroupType, plain}
 use Rattle.pregroup.specs.Held.{bias, held}
 use Rattle.format.specs.Records.{Bytes}
 use Rattle.format.specs.Names.{Named}
 use Rattle.slash.specs.Grammar.{slash, backslash, Tree}
-use Rattle.slash.specs.Trees.{Front, nameFront, nameBehind, shallowType}
+use Rattle.slash.specs.Trees.{Front, shallowType}
 use Rattle.slash.specs.declared.Found.{Found}
 
 -- The places from a place on hold a type.
@@ -56,13 +56,6 @@ pub record Fits (bytes : Bytes) (offsets : List ℕ) (types : ℕ) (text : Bytes
   pub inside : at ≤ length text
   pub shallow : depth ≤ maxDepth
   pub space : from + room n ≤ length places
-
--- The bytes of a name that stand from an offset on, and where they end.
-pub record NameEnds (text : Bytes) (at behind : ℕ) : Type 0 where
-  pub forth : at ≤ behind
-  pub inside : behind ≤ length text
-  pub name : take (behind - at) (drop at text) ≡ nameFront (drop at text)
-  pub left : drop behind text ≡ nameBehind (drop at text)
 
 -- The slash or backslash at an offset, or 0 where there is none.
 pub data SignAt (text : Bytes) (at sign : ℕ) : Type 0 where

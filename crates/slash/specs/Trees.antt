@@ -7,7 +7,7 @@ use lib.Dec.{eqb}
 use lib.ListN.{length}
 use Rattle.pregroup.specs.Types.{PregroupType}
 use Rattle.format.specs.Records.{Bytes}
-use Rattle.format.specs.Names.{nameByte, isName}
+use Rattle.format.specs.Names.{isName, nameFront, nameBehind}
 use Rattle.slash.specs.Grammar.{opening, closing, slash, backslash, Tree, named, over, under, meaning}
 use Rattle.slash.specs.Brackets.{times, tooDeep}
 
@@ -18,15 +18,6 @@ pub record Front : Type 0 where
 
 abbrev pub front : Tree → Bytes → Front
 front T behind = record { tree = T; behind = behind }
-
--- The bytes of a name at the front, and what stands behind them.
-unfoldable pub nameFront : Bytes → Bytes
-nameFront [] = []
-nameFront (b ∷ text) = cond (nameByte b) (b ∷ nameFront text) []
-
-unfoldable pub nameBehind : Bytes → Bytes
-nameBehind [] = []
-nameBehind (b ∷ text) = cond (nameByte b) (nameBehind text) (b ∷ text)
 
 unfoldable pub nameAt : Bytes → Option Front
 nameAt text = cond (isName (nameFront text)) (some (front (named (nameFront text)) (nameBehind text))) none

@@ -5,8 +5,8 @@ use crate::adjoint::turn;
 use figures::limits::MAX_DEPTH;
 use figures::limits::MAX_NAME;
 use format::names::find_name;
-use format::names::is_digit;
 use format::names::is_letter;
+use format::names::name_end;
 use pregroup::EXPONENT_BIAS;
 use pregroup::hold;
 ghost use Prim.Native.Nat.{suc, _≤_, _<_};
@@ -16,29 +16,7 @@ ghost use Rattle.format.specs.Records.{bodiesAt};
 ghost use Rattle.format.specs.Names.{Named};
 ghost use Rattle.slash.specs.Grammar.{meaning};
 ghost use Rattle.slash.specs.Trees.{nameAt, unitAt, typeAt};
-ghost use Rattle.slash.specs.Places.{room, Fits, NameEnds, SignAt, Says, TextSays};
-
-// Where the bytes of a name end that stand from a place on. Most are letters, so these take the shortest way.
-fn name_end(text: &[u8], at: usize) -> usize
-    requires { ⌜ at ≤ length (now text) ⌝ }
-    ensures { λ r. ⌜ NameEnds (now (text .entry)) at r ⌝ }
-{
-    let mut i = at;
-    while i < text.len() {
-        let byte = text[i];
-        if byte < b'a' {
-            if !is_digit(byte) {
-                return i;
-            }
-        } else {
-            if b'z' < byte {
-                return i;
-            }
-        }
-        i += 1;
-    }
-    i
-}
+ghost use Rattle.slash.specs.Places.{room, Fits, SignAt, Says, TextSays};
 
 // The sign where none stands.
 const NO_SIGN: u8 = 0;

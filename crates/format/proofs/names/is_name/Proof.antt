@@ -3,6 +3,7 @@ use borrow.Author.Needs.{needs}
 use native.Mathlib.Omega.{arith}
 use mathlib.Core.Path.{sym, _∙_}
 use borrow.Author.Tests.{not-true, not-false}
+use Rattle.format.proofs.NameFronts.{name-whole}
 use Rattle.format.proofs.NameLaws.{name-length-no, name-first-no, name-rest}
 use Rattle.format.proofs.names.is_name.Statement.{statement}
 use Rattle.format.proofs.names.is_name.Tie as tie
@@ -22,11 +23,11 @@ is-letter-requires c κs = search needs
 returns-3 : tie.Need-returns-3
 returns-3 c = name-first-no _ (sym (c .before .is-letter .ensures) ∙ not-true _ (c .if3 .taken))
 
-all-name-bytes-requires : tie.Need-all-name-bytes-requires
-all-name-bytes-requires c κs = search needs
+name-end-requires : tie.Need-name-end-requires
+name-end-requires c κs = omega arith
 
 returns-4 : tie.Need-returns-4
-returns-4 c = c .all-name-bytes .ensures ∙ name-rest _ (omega arith) (sym (c .before .before .is-letter .ensures) ∙ not-false _ (c .before .if3 .left))
+returns-4 c = name-whole (c .name-end .ensures) ∙ name-rest _ (omega arith) (sym (c .before .before .is-letter .ensures) ∙ not-false _ (c .before .if3 .left))
 
 pub is-name-spec : {M : Type 1} → statement M
 is-name-spec =
@@ -37,5 +38,5 @@ is-name-spec =
     shared-slice-read-is-letter
     is-letter-requires
     returns-3
-    all-name-bytes-requires
+    name-end-requires
     returns-4)

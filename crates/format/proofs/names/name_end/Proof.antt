@@ -1,14 +1,14 @@
--- `slash::parser::name_end` meets its contract: until a byte is none of a name, the name goes on.
+-- `format::names::name_end` meets its contract: until a byte is none of a name, the name goes on.
 use Prim.Native.Nat.{_-_}
 use native.Mathlib.Omega.{arith}
 use mathlib.Core.Logic.{⊎-elim}
 use mathlib.Core.Path.{sym, _∙_}
 use lib.ListN.{length}
 use borrow.Author.Tests.{not-true, not-false}
 use Rattle.format.proofs.NameLaws.{name-below, name-letter, name-byte-no}
-use Rattle.slash.proofs.NameFronts.{NamePassed, name-start, name-next, name-stop, name-end}
-use Rattle.slash.proofs.parser.name_end.Statement.{statement}
-use Rattle.slash.proofs.parser.name_end.Tie as tie
+use Rattle.format.proofs.NameFronts.{NamePassed, name-start, name-next, name-stop, name-end}
+use Rattle.format.proofs.names.name_end.Statement.{statement}
+use Rattle.format.proofs.names.name_end.Tie as tie
 
 abbrev Inv-loop : tie.InvT-loop
 Inv-loop text at i₀ i = NamePassed text at i

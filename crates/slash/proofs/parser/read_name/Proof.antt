@@ -5,7 +5,7 @@ use mathlib.Core.Path.{refl, sym, _∙_}
 use borrow.Author.Tests.{not-true, not-false}
 use Rattle.slash.proofs.PlaceLaws.{room-some}
 use Rattle.slash.proofs.ParserLaws.{says-nothing, says-front}
-use Rattle.slash.proofs.NameFronts.{name-begins}
+use Rattle.format.proofs.NameFronts.{name-begins}
 use Rattle.slash.proofs.NamesRead.{number-small, name-long, name-other, name-there, name-written}
 use Rattle.slash.proofs.parser.read_name.Statement.{statement}
 use Rattle.slash.proofs.parser.read_name.Tie as tie
