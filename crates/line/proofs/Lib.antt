@@ -7,3 +7,5 @@ pub mod Offsets
 pub mod SmallLines
 pub mod SmallBooks
 pub mod PromiseLaws
+pub mod ByWords
+pub mod Remaining

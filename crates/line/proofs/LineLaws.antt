@@ -177,7 +177,7 @@ module _ (B : Book) (line : Bytes) where
   check-missing e f (no-entry g) = rw (e, f, g)
   check-missing e f (too-many g h) = rw (e, f, g, lt-ltb maxLineSimples (simplesOfWords (entriesOfLine B line)) h)
 
-  check-passed : byteFault 0 line ≡ none → wordFault 0 (wordsOf line) ≡ none → entryFault B (wordsOf line) ≡ none → simplesOfWords (entriesOfLine B line) ≤ maxLineSimples → lineCheck B line ≡ passed (entriesOfLine B line)
+  pub check-passed : byteFault 0 line ≡ none → wordFault 0 (wordsOf line) ≡ none → entryFault B (wordsOf line) ≡ none → simplesOfWords (entriesOfLine B line) ≤ maxLineSimples → lineCheck B line ≡ passed (entriesOfLine B line)
   unfolding lineCheck
   check-passed e f g h = rw (e, f, g, le-ltb maxLineSimples (simplesOfWords (entriesOfLine B line)) h)
 

@@ -53,7 +53,7 @@ unfolding entryFault
 first-unknown B (w ∷ words) value f = fault-here w words (entriesOf B w) (map (entriesOf B) words) value (entryFault B words) (first-unknown B words value) f
 
 -- .. and where all are known there is none.
-known-none : (B : Book) (words : List Word) → AllKnown (map (entriesOf B) words) → entryFault B words ≡ none
+pub known-none : (B : Book) (words : List Word) → AllKnown (map (entriesOf B) words) → entryFault B words ≡ none
 unfolding entryFault
 known-none B [] h = refl
 known-none B (w ∷ words) h = go (entriesOf B w) (known-none B words) h

@@ -5,3 +5,4 @@ pub mod Split
 pub mod LookUp
 pub mod Passing
 pub mod Promise
+pub mod Remaining

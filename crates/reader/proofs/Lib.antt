@@ -2,6 +2,7 @@
 pub mod Table
 pub mod Refusals
 pub mod Promises
+pub mod Unread
 pub mod SeveralTargets
 pub mod TargetCases
 pub mod Ample
@@ -12,5 +13,6 @@ pub mod Selection
 pub mod Brief
 pub mod FirstFound
 pub mod ReadingLaws
+pub mod DrawnLaws
 pub mod OpeningLaws
 pub mod Theorems

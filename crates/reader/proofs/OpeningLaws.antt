@@ -1,11 +1,11 @@
--- From a scanned book and a checked line to a graph that can be read, and from what the graph gives to the outcome.
+-- From a scanned book and a checked line to words that can be read, and from what reading these gives to the outcome.
 use Prim.Native.Nat.{ℕ, _+_, _≤_}
 use native.Mathlib.Omega.{arith}
-use mathlib.Core.Path.{_≡_, refl, sym, subst}
+use mathlib.Core.Path.{_≡_, sym, subst}
 use mathlib.Core.Logic.{Iff·trans, Iff·symm}
 use mathlib.Core.List.{List}
 use lib.ListN.{length, take, length-take, replicate, length-replicate, getD-replicate}
-use Rattle.figures.specs.Limits.{maxWords, maxEntries, maxNodes}
+use Rattle.figures.specs.Limits.{maxWords, maxEntries}
 use Rattle.pregroup.specs.Types.{Basic}
 use Rattle.pregroup.specs.Held.{InRows}
 use Rattle.order.specs.Closed.{Closed, Listed, below}
@@ -24,12 +24,12 @@ use Rattle.line.specs.LineFaults.{passed, stopped, lineCheck, entriesOfLine}
 use Rattle.line.specs.LookUp.{LineSays}
 use Rattle.line.specs.declared.CheckedLine.the-variants.{Found}
 use Rattle.line.proofs.Passed.{line-passing, line-brief}
-use Rattle.graph.specs.Lists.{Lists, graphOf, nodesWith, Room, Empty, LineFits, LaidOut}
 use Rattle.reader.specs.declared.LineAnswer.{LineAnswer}
 use Rattle.reader.specs.declared.LineAnswer.the-variants.{Refused}
 use Rattle.reader.specs.Outcome.{Outcome, given, readAgainst, readParsed, outcome, Gives}
 use Rattle.reader.specs.Demands.{Promised}
-use Rattle.reader.specs.Runs.{Open, Drawn}
+use Rattle.reader.specs.FoundWords.{FoundWords}
+use Rattle.reader.specs.Runs.{Open}
 use Rattle.reader.proofs.Promises.{outcome-promised}
 
 -- Whatever gives the outcome keeps the promises.
@@ -91,47 +91,21 @@ module _ {bytes : Bytes} {names : List ℕ} {types : ℕ} {offsets : List ℕ} {
   threaded : Threads bytes (bodiesAt bytes names types) offsets count same firsts 0 (entriesOfLine B line)
   threaded = subst (λ (ns : List Bytes). Threads bytes ns offsets count same firsts 0 (entriesOfLine B line)) (o .type-names) (says .2 .threads)
 
-  -- A line that passed its check can be laid out ..
-  pub line-fits : {l : Lists} → maxEntries ≤ length same → maxWords ≤ length firsts → Room l → maxNodes ≤ length (l .cells .numbers) → Empty l
-      → LineFits bytes names types offsets count same firsts n (length targets) l
-  line-fits same-room firsts-room room numbers-room empty =
-      record {
-        looked-up = record {
-          vocabulary = record { named = o .named; lexicon = subst (λ (ns : List Bytes). Lexicon bytes ns offsets count) (o .type-names) (o .kept .lexicon) };
-          same-room = omega (arith, o .kept .lexicon .entries .few);
-          firsts-room = omega (arith, says .1);
-          all = entriesOfLine B line;
-          threads = threaded;
-          as-many = says .2 .words;
-        };
-        few = says .1;
-        small = says .2 .small;
-        few-targets = o .few-targets;
-        room = room;
-        numbers-room = numbers-room;
-        empty = empty;
-      }
-
-  -- .. and the graph is that of its words.
-  pub line-drawn : {l : Lists} {last : ℕ}
-      → ((words : Words) → Threads bytes (bodiesAt bytes names types) offsets count same firsts 0 words → length words ≡ n → LaidOut words targets l last)
-      → length (l .cells .enters) ≤ length (l .cells .numbers)
-      → Drawn (below (length (B .names)) (B .pairs)) (InRows rows) (graphOf (nodesWith last (length targets)) l) (l .cells .numbers) targets last n
-      (entriesOfLine B line)
-  line-drawn laid-out room =
-      let out = laid-out (entriesOfLine B line) threaded (says .2 .words) in
+  -- The words of a line that passed its check.
+  pub line-found : maxEntries ≤ length same → maxWords ≤ length firsts
+      → FoundWords bytes names types offsets count same firsts n rows targets (below (length (B .names)) (B .pairs)) (entriesOfLine B line)
+  line-found same-room firsts-room =
       let p = line-passing B line (entriesOfLine B line) (says .0) in
       record {
-        upward = out .upward;
-        nodes = refl;
-        few = out .few;
-        few-targets = o .few-targets;
-        few-words = says .1;
-        numbers-room = room;
-        decides = o .decides;
-        ends = out .ends;
-        laid = out .laid;
+        vocabulary = record { named = o .named; lexicon = subst (λ (ns : List Bytes). Lexicon bytes ns offsets count) (o .type-names) (o .kept .lexicon) };
+        same-room = omega (arith, o .kept .lexicon .entries .few);
+        firsts-room = omega (arith, says .1);
+        threads = threaded;
+        as-many = says .2 .words;
+        few = says .1;
+        small = says .2 .small;
         known-words = p .known-words;
         brief-words = line-brief B line (entriesOfLine B line) (accepted-declares bytes B (o .parsed) .short) p;
-        count = says .2 .words;
+        few-targets = o .few-targets;
+        decides = o .decides;
       }

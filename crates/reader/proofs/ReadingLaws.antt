@@ -3,22 +3,26 @@ use Prim.Native.Nat.{ℕ, zero, suc, _+_, _-_, _*_, _≤_, _<_}
 use native.Mathlib.Omega.{arith}
 use mathlib.Core.Path.{_≡_, refl, sym, ap, subst, _∙_}
 use mathlib.Core.List.{List, _∷_, _++_, map}
+use mathlib.Core.Logic.{_⊎_, inl, inr}
+use mathlib.Core.Bool.{true}
 use mathlib.Core.Option.{Option, none, some}
+use lib.Dec.{ltb}
 use lib.ListN.{getD, length, take, drop, length-append}
 use lib.Seq.{length-take-le, getD-take}
 use borrow.Author.Tests.{lt-ltb, le-ltb}
 use Rattle.figures.specs.Limits.{maxNodes, maxPlaces, rowWords}
 use Rattle.bits.specs.Rows.{HasRow, InRow}
+use Rattle.bits.proofs.Cases.{less-or-not}
 use Rattle.pregroup.specs.Types.{Basic, PregroupType}
 use Rattle.pregroup.specs.Order.{Relation}
 use Rattle.pregroup.specs.Vanish.{Reduces}
 use Rattle.pregroup.specs.Tests.{Test}
 use Rattle.linking.specs.Linking.{firstLinking}
-use Rattle.linking.specs.Reading.{Words, Answer, answer, targetAt, firstFor, firstReading}
+use Rattle.linking.specs.Reading.{Words, Answer, answer, targetAt, Selection, firstFor, firstReading}
 use Rattle.linking.proofs.Reduction.{linking-iff-reduces}
 use Rattle.linking.proofs.Targets.{no-target-reads, first-reading-at}
 use Rattle.linking.proofs.FirstLinking.{first-linking-some, first-linking-none, first-linking-greedy}
-use Rattle.graph.specs.Graph.{Graph, Upward, Path, Boundary, Spells, ended, more}
+use Rattle.graph.specs.Graph.{Graph, Upward, Path, VanishTo, Boundary, Spells, ended, more}
 use Rattle.graph.specs.Layout.{End, Laid, goal, word}
 use Rattle.graph.specs.Lists.{endAt}
 use Rattle.chart.specs.Chart.{FilledFrom}
@@ -33,7 +37,7 @@ use Rattle.answer.specs.Written.{Linkable, Writable, WroteAnswer}
 use Rattle.answer.proofs.ValueLaws.{entry-numbers-length}
 use Rattle.reader.specs.declared.LineAnswer.the-variants.{Read, Refused}
 use Rattle.reader.specs.Outcome.{valuesOf, given, Gives}
-use Rattle.reader.specs.Runs.{Drawn, EndsThere, FirstEnd}
+use Rattle.reader.specs.FoundWords.{Drawn, EndsThere, Charted, reads, isSome}
 use Rattle.reader.proofs.Brief.{laid-brief}
 use Rattle.reader.proofs.FirstFound.{FirstFound, unread-iff, first-found}
 
@@ -90,17 +94,25 @@ module _ {le : Test} {Le : Relation} {g : Graph} {numbers : List ℕ} {targets :
       unread-iff (d .decides) g numbers (targetAt targets t) (endAt last t) (end .boundary) (end .closed) (d .laid t h) (d .known-words) .1
       (λ v. n (filled 0 (omega arith) some-nodes (endAt last t) .1 v))
 
+-- Words that are charted.
+module _ {le : Test} {Le : Relation} {g : Graph} {numbers : List ℕ} {targets : List Basic} {last n : ℕ} {words : Words} {rows : List ℕ} {t : ℕ}
+    (charted : Charted le Le g numbers targets last n words rows t) where
+  abbrev d : Drawn le Le g numbers targets last n words
+  d = charted .drawn
+
+  -- No target before t has a reading.
+  none-before : (u : ℕ) → u < t → firstFor le (targetAt targets u) words ≡ none
+  none-before u h = no-way d (charted .filled) u (omega (arith, charted .first .within)) (charted .first .none u h)
+
+  no-first : t ≡ length targets → firstReading le targets words ≡ none
+  no-first all = no-target-reads le words targets (λ u h. none-before u (omega arith))
+
   -- 15: there is no reading for any target.
-  pub answers-none : {rows : List ℕ} {r : ℕ} → FilledFrom Le g rows 0 → FirstEnd rows last (length targets) r → r ≡ length targets → (before : List ℕ)
-      → Gives (given (firstReading le targets words) before) (Refused 15 0) before
-  answers-none filled f all before =
-      gives-none before (no-target-reads le words targets (λ t h. no-way filled t h (f .none t (omega arith))))
+  pub answers-none : t ≡ length targets → (before : List ℕ) → Gives (given (firstReading le targets words) before) (Refused 15 0) before
+  answers-none all before = gives-none before (no-first all)
 
   -- The first target whose end is reached.
-  module _ {rows : List ℕ} {t : ℕ} (filled : FilledFrom Le g rows 0) (f : FirstEnd rows last (length targets) t) (other : t ≡ length targets → ⊥) where
-    pub target-there : t < length targets
-    target-there = omega (arith, f .within)
-
+  module _ (target-there : t < length targets) where
     abbrev s : Basic
     s = targetAt targets t
 
@@ -121,16 +133,20 @@ module _ {le : Test} {Le : Relation} {g : Graph} {numbers : List ℕ} {targets :
         let short = laid-brief (ends .closed) laid (d .brief-words) (choice-of-path (laid-begins laid) (ends .boundary) p .1) in
         omega (arith, d .few-words, d .count)
 
+    -- There is a way to its end.
+    way : VanishTo Le g 0 end
+    way = charted .filled 0 (omega arith) (some-nodes d) end .0 (charted .first .reached target-there)
+
     -- What the choice asks, of a chart that is filled and reads.
     pub can-choose : length rows ≡ maxNodes * rowWords → Choosable Le g rows end
     can-choose long = record {
       upward = d .upward;
-      filled = filled;
-      rows-there = has-rows rows long;
+      filled = charted .filled;
+      rows-there = has-rows d rows long;
       inside = end-inside;
       begins = laid-begins laid;
       ends = ends;
-      reads = filled 0 (omega arith) some-nodes end .0 (f .reached target-there);
+      reads = way;
       brief = few-simples;
     }
 
@@ -173,7 +189,7 @@ module _ {le : Test} {Le : Relation} {g : Graph} {numbers : List ℕ} {targets :
       first-with : (Q : List ℕ) → firstLinking le s (stringOf string m) ≡ some Q → firstReading le targets words ≡ some (answer t (entryNumbers numbers slots n) Q)
       unfolding entryNumbers
       first-with Q e =
-          first-reading-at le words targets t (entryNumbers numbers slots n, Q) target-there (λ u h. no-way filled u (omega (arith, target-there)) (f .none u h))
+          first-reading-at le words targets t (entryNumbers numbers slots n, Q) target-there none-before
           (found .first Q (ap (λ (k : ℕ). firstLinking le s (stringOf string k)) same ∙ e)
           ∙ ap (λ (k : ℕ). some (map (λ (s : ℕ). getD numbers s 0) (take k slots), Q)) (d .count))
 
@@ -203,7 +219,7 @@ module _ {le : Test} {Le : Relation} {g : Graph} {numbers : List ℕ} {targets :
       numbered i h =
           let long = length-take-le count slots (omega (arith, c .few, d .few, end-inside)) in
           let inside : i < count = omega (arith, found .taken, d .count) in
-          let k = choice-slots (d .upward) some-nodes (c .spelled) i (omega arith) in
+          let k = choice-slots (d .upward) (some-nodes d) (c .spelled) i (omega arith) in
           omega (arith, k, getD-take count slots i 0 inside, d .numbers-room)
 
       pub can-write : (answer : List ℕ) → 3 + n + m ≤ length answer → Writable t numbers slots n m answer
@@ -223,3 +239,17 @@ module _ {le : Test} {Le : Relation} {g : Graph} {numbers : List ℕ} {targets :
       answers-read before after h w =
           let linked = first-linking-greedy (d .decides) s (stringOf string m) (w .whole ∙ sym (length-string string m)) (w .greedy) in
           gives-read before (first-with (w .partners) linked) (count-values (w .partners) (w .whole)) h (values-are w)
+
+  -- Whether there is a reading is whether some end is reached.
+  pub says-whether : ltb t (length targets) ≡ reads le targets words
+  says-whether = go (less-or-not t (length targets))
+    where
+      some-selection : (there : t < length targets) (o : Option Selection) → firstFor le (targetAt targets t) words ≡ o → isSome (firstReading le targets words) ≡ true
+      some-selection there none e =
+          let end = d .ends t there in
+          absurd (unread-iff (d .decides) g numbers (targetAt targets t) (endAt last t) (end .boundary) (end .closed) (d .laid t there) (d .known-words) .0 e (way there))
+      some-selection there (some a) e = ap isSome (first-reading-at le words targets t a there none-before e)
+
+      go : (t < length targets) ⊎ (length targets ≤ t) → ltb t (length targets) ≡ reads le targets words
+      go (inl there) = lt-ltb _ _ there ∙ sym (some-selection there (firstFor le (targetAt targets t) words) refl)
+      go (inr all) = le-ltb _ _ all ∙ sym (ap isSome (no-first (omega (arith, charted .first .within))))
