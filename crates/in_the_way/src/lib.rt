@@ -1,0 +1,58 @@
+// Tells which words are in the way of a line without a reading: those without which it has one. The line is read as ever, and where it gets 15 each word is
+// left out in turn. What is returned for any bytes is defined in specs/Way, and what is promised of it in specs/WayDemands.
+use crate::tries::read_or_try;
+use book::Scan;
+use figures::limits::MAX_ENTRIES;
+use format::names::NAME_PLACES;
+use lookup::keys::NO_ENTRY;
+use lookup::keys::PLACES;
+use reader::LineAnswer;
+use reader::open_book;
+ghost use Rattle.reader.specs.Outcome.{Gives};
+ghost use Rattle.in_the_way.specs.Way.{wayOutcome};
+ghost use Rattle.in_the_way.specs.WayDemands.{WayPromised};
+
+mod tries;
+
+// What is answered of a line. `NoReading`: it is refused with 15, the value is 0, and bit k of `words` is set where the line without word k + 1 has a reading.
+// `Ordinary`: what reading the line gives, for any line that is not refused with 15.
+pub enum WayAnswer {
+    Ordinary(LineAnswer),
+    NoReading { words: u32 },
+}
+
+// Reads a line against a book, and tells which words are in the way where it has no reading: any bytes, of any length, and any lent buffer. Book and line
+// are not written to.
+pub fn words_in_the_way(book: &[u8], line: &[u8], answer: &mut [u16]) -> WayAnswer
+    ensures { λ r. ⌜ Gives (wayOutcome (now (book .entry)) (now (line .entry)) (now (answer .entry))) r (now (answer .exit)) ⌝ }
+    ensures { λ r. ⌜ WayPromised (now (book .entry)) (now (line .entry)) (now (answer .entry)) r (now (answer .exit)) ⌝ }
+{
+    let mut names = [0u16; NAME_PLACES];
+    let mut entries = [0u16; MAX_ENTRIES];
+    let mut alike = [NO_ENTRY; PLACES];
+    let opening = open_book(book, &mut names, &mut entries, &mut alike);
+    let rows = opening.rows;
+    let targets = opening.targets;
+    let scan = opening.scan;
+    match scan {
+        Scan::Refused { number, value } => {
+            WayAnswer::Ordinary(LineAnswer::Refused { number, value })
+        }
+        Scan::Accepted {
+            types,
+            entries: count,
+            targets: goals,
+        } => read_or_try(
+            book,
+            &names,
+            types,
+            &entries,
+            count,
+            &alike,
+            &rows,
+            &targets[..goals],
+            line,
+            answer,
+        ),
+    }
+}
