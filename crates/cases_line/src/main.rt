@@ -12,6 +12,7 @@ mod slashes;
 mod spellings;
 mod targets;
 mod thesis;
+mod ways;
 
 fn main() {
     let mut space = [0u8; cases::buffer::ROOM];
@@ -28,4 +29,5 @@ fn main() {
     lookups::rows(&mut space);
     targets::rows(&mut space);
     slashes::rows(&mut space);
+    ways::rows(&mut space);
 }

@@ -5,6 +5,7 @@
 use cases::buffer::Space;
 use cases::items::put_items;
 use cases::text::find;
+use in_the_way::WayAnswer;
 use reader::LineAnswer;
 
 // How many values there are to lend.
@@ -16,11 +17,13 @@ const MARK: u16 = 9999;
 // How many values the row of a buffer shows.
 const SHOWN: usize = 10;
 
-// What a row says: the answer, whether the line is read, or the answer between the number of values lent and the first values of the buffer.
+// What a row says: the answer, whether the line is read, or the answer between the number of values lent and the first values of the buffer; the last also
+// with the number of the words in the way.
 pub enum Show {
     Answer,
     Whether,
     Buffer,
+    InTheWay,
 }
 
 // Writes a space and a number.
@@ -78,7 +81,7 @@ fn shown(result: LineAnswer, list: &[u16], lent: usize, show: Show) {
     match show {
         Show::Answer => answer(result, list),
         Show::Whether => whether(result),
-        Show::Buffer => {
+        _ => {
             io::write_all(1, b" lent");
             number(lent as u64);
             answer(result, list);
@@ -86,6 +89,21 @@ fn shown(result: LineAnswer, list: &[u16], lent: usize, show: Show) {
             values(list, SHOWN);
         }
     }
+}
+
+// Writes what a row says of the words in the way, and the buffer behind it.
+fn shown_in_the_way(result: WayAnswer, list: &[u16], lent: usize) {
+    io::write_all(1, b" lent");
+    number(lent as u64);
+    match result {
+        WayAnswer::Ordinary(ordinary) => answer(ordinary, list),
+        WayAnswer::NoReading { words } => {
+            io::write_all(1, b" no 15 0 words");
+            number(words as u64);
+        }
+    }
+    io::write_all(1, b" buffer");
+    values(list, SHOWN);
 }
 
 // Writes the row of a line, with so many values lent.
@@ -99,6 +117,17 @@ fn row(book: &[u8], label: &[u8], line: &[u8], lent: usize, show: Show) {
     }
 }
 
+// Writes the row of a line with the words in its way, with so many values lent.
+fn row_in_the_way(book: &[u8], label: &[u8], line: &[u8], lent: usize) {
+    if lent <= VALUES {
+        let mut buffer = [MARK; VALUES];
+        io::write_all(1, label);
+        let result = in_the_way::words_in_the_way(book, line, &mut buffer[..lent]);
+        shown_in_the_way(result, &buffer, lent);
+        io::write_all(1, b"\n");
+    }
+}
+
 // Writes the row of a case.
 fn row_of_case(book: &[u8], case: &[u8], lent: usize, show: Show) {
     let colon = find(case, b':');
@@ -106,7 +135,11 @@ fn row_of_case(book: &[u8], case: &[u8], lent: usize, show: Show) {
         return;
     }
     let line = colon + 1;
-    row(book, &case[0..colon], &case[line..], lent, show);
+    if let Show::InTheWay = show {
+        row_in_the_way(book, &case[0..colon], &case[line..], lent);
+    } else {
+        row(book, &case[0..colon], &case[line..], lent, show);
+    }
 }
 
 // Writes the row of a case against the book that the first bytes of a slice are.
