@@ -3,7 +3,7 @@
  *
  * Lists. A list is passed as a pointer to its values and their number. Any bytes may stand in a book, a line and a batch, of any length.
  * Pointers. None is null, not even that of an empty list: pass the address of any object there. What is written to (value, types, entries,
- * pairs, answer, answers) overlaps nothing else that is passed. Nothing tests this.
+ * pairs, answer, words, answers) overlaps nothing else that is passed. Nothing tests this.
  * Threads. Nothing is kept between calls and nothing is allocated: several threads may call at once.
  * Stack. Reading a line takes up to 129 KiB of the caller's stack where it was measured, reading a batch 149 KiB, checking a book 7 KiB.
  * WARNING: a thread with a small stack overflows. Give one that reads lines 256 KiB or more (pthread_attr_setstacksize). With glibc 132 KiB
@@ -20,7 +20,7 @@ extern "C" {
 
 /* The version of this header. */
 #define VURZHELIK_VERSION_MAJOR 2
-#define VURZHELIK_VERSION_MINOR 1
+#define VURZHELIK_VERSION_MINOR 2
 #define VURZHELIK_VERSION_PATCH 0
 #define VURZHELIK_VERSION (10000 * VURZHELIK_VERSION_MAJOR + 100 * VURZHELIK_VERSION_MINOR + VURZHELIK_VERSION_PATCH)
 
@@ -82,6 +82,13 @@ uint32_t vurzhelik_check_book(const uint8_t *book, size_t book_length, uint64_t 
  * 1 to 16, 19 to 21: book or line is refused; *value is as listed above, and answer is as it was. */
 uint32_t vurzhelik_read_line(const uint8_t *book, size_t book_length, const uint8_t *line, size_t line_length, uint16_t *answer,
                              size_t answer_length, uint64_t *value);
+
+/* Reads a line against a book, as vurzhelik_read_line does, and tells which words are in the way of a line without a reading.
+ * VURZHELIK_NO_READING: bit k of *words, the lowest being bit 0, is set exactly where the line without word k + 1 has a reading. It may be
+ * that none is set. *value holds 0, and answer is as it was.
+ * Otherwise: all is as with vurzhelik_read_line, and *words is as it was. */
+uint32_t vurzhelik_words_in_the_way(const uint8_t *book, size_t book_length, const uint8_t *line, size_t line_length, uint16_t *answer,
+                                    size_t answer_length, uint64_t *value, uint32_t *words);
 
 /* Reads up to 32 lines against a book. They stand one behind another in lines, each closed by byte 10, which is no part of it.
  * VURZHELIK_OK: *value holds how many lines there are, and answers has a part for each, one behind another: how many values follow, the

@@ -2,7 +2,8 @@
 //!
 //! A *book* gives words their types and has up to eight targets, and a *line* is read against it: the first reading comes out, for the
 //! first target that has one, or a refusal. Any bytes may stand in both, of any length. A *batch* is several lines in one buffer, read in
-//! one call. Nothing is kept between calls, so several threads may call at once.
+//! one call. Of a line without a reading it can be told which words are in the way. Nothing is kept between calls, so several threads may
+//! call at once.
 //!
 //! ```
 //! // One basic type, `o`, the word `go` of that type, and `o` as the target.
@@ -47,6 +48,17 @@ mod c {
             answer: *mut u16,
             answer_length: usize,
             value: *mut u64,
+        ) -> u32;
+
+        pub fn vurzhelik_words_in_the_way(
+            book: *const u8,
+            book_length: usize,
+            line: *const u8,
+            line_length: usize,
+            answer: *mut u16,
+            answer_length: usize,
+            value: *mut u64,
+            words: *mut u32,
         ) -> u32;
 
         pub fn vurzhelik_read_batch(
@@ -111,6 +123,32 @@ impl fmt::Display for Refusal {
 
 impl std::error::Error for Refusal {}
 
+/// Why [`words_in_the_way`] refuses a book or a line, and which of the line's words are in the way.
+#[derive(Clone, Copy, Debug, PartialEq, Eq)]
+pub struct InTheWay {
+    /// Why it is refused.
+    pub refusal: Refusal,
+    /// With [`refusals::NO_READING`] and no other number: bit k is set where the line without word k + 1 has a reading.
+    pub words: Option<u32>,
+}
+
+impl fmt::Display for InTheWay {
+    fn fmt(&self, f: &mut fmt::Formatter<'_>) -> fmt::Result {
+        self.refusal.fmt(f)?;
+        let Some(words) = self.words else {
+            return Ok(());
+        };
+        write!(f, ", words in the way:")?;
+        if words == 0 {
+            return write!(f, " none");
+        }
+        let mut in_the_way = (0..u32::BITS).filter(|k| words >> k & 1 == 1);
+        in_the_way.try_for_each(|k| write!(f, " {}", k + 1))
+    }
+}
+
+impl std::error::Error for InTheWay {}
+
 /// The version of the library, 10000 times the major number, 100 times the minor one and the patch.
 pub fn version() -> u32 {
     // Safety: the function has no parameters and asks nothing.
@@ -164,6 +202,42 @@ pub fn read_line(book: &[u8], line: &[u8], answer: &mut [u16]) -> Result<usize, 
     match number {
         0 => Ok(value as usize),
         _ => Err(Refusal { number, value }),
+    }
+}
+
+/// Reads a line against a book, as [`read_line`] does, and tells which words are in the way of a line without a reading: those without
+/// which it has one. There may be none, and each of several words may be such a word.
+///
+/// ```
+/// # let book = b"\x01\0\x01\0o\x05\0\x03\0\x02go\0\0\x01\0\x04\0\0";
+/// let mut answer = [0; vurzhelik::MAX_VALUES];
+/// let refused = vurzhelik::words_in_the_way(book, b"go go", &mut answer).unwrap_err();
+/// assert_eq!(refused.refusal.number, vurzhelik::refusals::NO_READING);
+/// // Without either word the line is "go", which has a reading.
+/// assert_eq!(refused.words, Some(0b11));
+/// ```
+pub fn words_in_the_way(book: &[u8], line: &[u8], answer: &mut [u16]) -> Result<usize, InTheWay> {
+    let mut value = 0;
+    let mut words = 0;
+    // Safety: as in `check_book`.
+    let number = unsafe {
+        c::vurzhelik_words_in_the_way(
+            book.as_ptr(),
+            book.len(),
+            line.as_ptr(),
+            line.len(),
+            answer.as_mut_ptr(),
+            answer.len(),
+            &mut value,
+            &mut words,
+        )
+    };
+    match number {
+        0 => Ok(value as usize),
+        _ => Err(InTheWay {
+            refusal: Refusal { number, value },
+            words: (number == refusals::NO_READING).then_some(words),
+        }),
     }
 }
 
@@ -334,6 +408,75 @@ mod tests {
         assert_eq!(answer, [7; 7]);
     }
 
+    /// The refusal of a line, and which of its words are in the way.
+    fn in_the_way<T>(number: u32, value: u64, words: Option<u32>) -> Result<T, InTheWay> {
+        Err(InTheWay {
+            refusal: Refusal { number, value },
+            words,
+        })
+    }
+
+    #[test]
+    fn words_in_the_way_are_told() {
+        let lines: [(&[u8], u32); 5] = [
+            (b"bed4 go", 1),
+            (b"go GO", 3),
+            (b"fetch bed4 site ward7", 12),
+            (b"admit site", 0),
+            (b"", 0),
+        ];
+        for (line, words) in lines {
+            let mut answer = [7; 7];
+            let told = in_the_way(refusals::NO_READING, 0, Some(words));
+            assert_eq!(words_in_the_way(BOOK, line, &mut answer), told);
+            assert_eq!(words_in_the_way(BOOK, line, &mut []), told);
+            assert_eq!(answer, [7; 7]);
+        }
+    }
+
+    #[test]
+    fn other_lines_get_what_they_get() {
+        let mut answer = [7; 7];
+        let short = in_the_way(refusals::BUFFER_TOO_SHORT, 8, None);
+        assert_eq!(words_in_the_way(BOOK, b"fetch bed4", &mut answer), short);
+        let unknown = in_the_way(refusals::UNKNOWN_WORD, 3, None);
+        assert_eq!(words_in_the_way(BOOK, b"go nobody", &mut answer), unknown);
+        let no_target = in_the_way(refusals::NO_TARGET, 0, None);
+        assert_eq!(words_in_the_way(&[], b"go go", &mut answer), no_target);
+        assert_eq!(answer, [7; 7]);
+        assert_eq!(words_in_the_way(BOOK, b"go", &mut answer), Ok(5));
+        assert_eq!(answer, [0, 1, 7, 1, 1, 7, 7]);
+    }
+
+    /// The number of the words in the way, 9 before, after a line that is read through the library's own function.
+    fn words_after(line: &[u8]) -> u32 {
+        let (mut value, mut words) = (7, 9);
+        let mut answer = [7; 7];
+        // Safety: as in `check_book`.
+        unsafe {
+            c::vurzhelik_words_in_the_way(
+                BOOK.as_ptr(),
+                BOOK.len(),
+                line.as_ptr(),
+                line.len(),
+                answer.as_mut_ptr(),
+                answer.len(),
+                &mut value,
+                &mut words,
+            )
+        };
+        words
+    }
+
+    #[test]
+    fn words_are_written_with_fifteen_alone() {
+        assert_eq!(words_after(b"go go"), 3);
+        assert_eq!(words_after(b"site"), 0);
+        for line in [&b"go"[..], b"fetch bed4", b"go nobody", b"\t"] {
+            assert_eq!(words_after(line), 9);
+        }
+    }
+
     #[test]
     fn batch_is_read() {
         let mut answers = [7; MAX_BATCH_VALUES];
@@ -399,6 +542,19 @@ mod tests {
         let refusal = check_book(&[]).unwrap_err();
         let text = "book ends without a target (refusal 10, value 0)";
         assert_eq!(refusal.to_string(), text);
+    }
+
+    #[test]
+    fn words_in_the_way_are_said_in_words() {
+        let said = |line: &[u8]| {
+            let refused = words_in_the_way(BOOK, line, &mut []).unwrap_err();
+            refused.to_string()
+        };
+        let none = "no reading for any target (refusal 15, value 0), words in the way:";
+        assert_eq!(said(b"fetch bed4 site ward7"), format!("{none} 3 4"));
+        assert_eq!(said(b"admit site"), format!("{none} none"));
+        let short = "answer buffer too short (refusal 16, value 5)";
+        assert_eq!(said(b"go"), short);
     }
 
     /// The number that the header gives a name.

@@ -1,10 +1,11 @@
 -- A refusal handed on as numbers stands for itself: its number is not 0.
 use Prim.Native.Nat.{ℕ}
 use native.Mathlib.Omega.{arith}
-use mathlib.Core.Path.{_≡_, refl, sym, subst}
+use mathlib.Core.Path.{_≡_, refl, sym, ap, subst}
 use mathlib.Core.Logic.{⊎-elim}
 use mathlib.Core.List.{List, [], _∷_}
 use borrow.Author.Tests.{ne-eqb}
+use Rattle.figures.specs.Refusals.{noReading}
 use Rattle.format.specs.Records.{Bytes}
 use Rattle.book.specs.Format.{Parsed, accepted, refused, parse}
 use Rattle.book.specs.Check.{bookCheck, answerFor, checkReply}
@@ -17,7 +18,10 @@ use Rattle.reader.proofs.Promises.{refusals-within}
 use Rattle.batch.specs.declared.BatchAnswer.the-variants.{Refused as RefusedBatch}
 use Rattle.batch.specs.Batch.{batchOutcome}
 use Rattle.batch.proofs.BatchPromises.{batch-refusals}
-use Rattle.vurzhelik.specs.Calls.{Checks, answerOf, batchAnswerOf}
+use Rattle.in_the_way.specs.declared.WayAnswer.the-variants.{Ordinary}
+use Rattle.in_the_way.specs.Way.{wayParsed, wayOutcome}
+use Rattle.in_the_way.proofs.WayPromises.{ordinary-apart}
+use Rattle.vurzhelik.specs.Calls.{Checks, answerOf, batchAnswerOf, wayAnswerOf, WithFifteen}
 
 abbrev NamedCheck : BookCheck → Type 0
 NamedCheck (Accepted types entries pairs) = Unit {0}
@@ -45,6 +49,20 @@ accepted-checks bytes before types entries pairs e =
 
 pub refused-answers : (book line : Bytes) (buffer : List ℕ) (number value : ℕ) → RefusedLine number value ≡ outcome book line buffer .answer → RefusedLine number value ≡ answerOf number value
 refused-answers book line buffer number value e = rw (ne-eqb number 0 (λ z. omega (arith, line-some (refusals-within book line buffer number value (sym e)))))
+
+-- Of the words in the way: 15 with the number, another refusal, an answer.
+module _ (book line : Bytes) (buffer : List ℕ) where
+  another : (number value : ℕ) → Ordinary (RefusedLine number value) ≡ wayOutcome book line buffer .answer → number ≡ noReading → ⊥
+  another number value e = ordinary-apart (wayParsed (parse book) line) (outcome book line buffer .answer) number value (sym e)
+
+  pub ordinary-answers : (number value words : ℕ) → Ordinary (RefusedLine number value) ≡ wayOutcome book line buffer .answer
+      → RefusedLine number value ≡ outcome book line buffer .answer
+      → Ordinary (RefusedLine number value) ≡ wayAnswerOf number value words
+  ordinary-answers number value words e f =
+      rw (ne-eqb number noReading (another number value e)) (ap Ordinary (refused-answers book line buffer number value f))
+
+  pub apart-fifteen : (number value : ℕ) → Ordinary (RefusedLine number value) ≡ wayOutcome book line buffer .answer → (with before : ℕ) → WithFifteen number with before before
+  apart-fifteen number value e with before = record { no-value = λ z. absurd (another number value e z); as-it-was = λ _. refl }
 
 pub refused-batch : (book batch : Bytes) (buffer : List ℕ) (number value : ℕ) → RefusedBatch number value ≡ batchOutcome book batch buffer .answer
     → RefusedBatch number value ≡ batchAnswerOf number value

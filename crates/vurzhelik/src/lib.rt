@@ -4,6 +4,9 @@ use batch::BatchAnswer;
 use batch::read_batch;
 use book::BookCheck;
 use book::check_book;
+use figures::refusals::NO_READING;
+use in_the_way::WayAnswer;
+use in_the_way::words_in_the_way;
 use reader::LineAnswer;
 use reader::read_line;
 ghost use mathlib.Core.Path.{_≡_};
@@ -13,13 +16,15 @@ ghost use Rattle.reader.specs.Outcome.{outcome, Gives};
 ghost use Rattle.reader.specs.Demands.{Promised};
 ghost use Rattle.batch.specs.Batch.{batchOutcome};
 ghost use Rattle.batch.specs.BatchDemands.{BatchPromised};
-ghost use Rattle.vurzhelik.specs.Calls.{answerOf, batchAnswerOf, Checks};
+ghost use Rattle.in_the_way.specs.Way.{wayOutcome};
+ghost use Rattle.in_the_way.specs.WayDemands.{WayPromised};
+ghost use Rattle.vurzhelik.specs.Calls.{answerOf, batchAnswerOf, wayAnswerOf, Checks, WithFifteen};
 ghost use Rattle.vurzhelik.specs.Version.{version};
 
 // The version of the interface. `specs/Version` has the same numbers for the contract, and `include/vurzhelik.h` for callers.
 const MAJOR: u32 = 2;
 
-const MINOR: u32 = 1;
+const MINOR: u32 = 2;
 
 const PATCH: u32 = 0;
 
@@ -92,6 +97,42 @@ pub extern "C" fn vurzhelik_read_line(
             *value = values as u64;
             0
         }
+    }
+}
+
+// Reads a line against a book, as `vurzhelik_read_line` does, and tells which words are in the way of one without a reading. 15: bit k of `words` is set where
+// the line without word k + 1 has a reading, and `value` holds 0. Else all is as with `vurzhelik_read_line`, and `words` is as it was.
+#[no_mangle]
+pub extern "C" fn vurzhelik_words_in_the_way(
+    book: &[u8],
+    line: &[u8],
+    answer: &mut [u16],
+    value: &mut u64,
+    words: &mut u32,
+) -> u32
+    ensures { λ r. ⌜ Gives (wayOutcome (now (book .entry)) (now (line .entry)) (now (answer .entry))) (wayAnswerOf r (now (value .exit)) (now (words .exit))) (now (answer .exit)) ⌝ }
+    ensures { λ r. ⌜ WayPromised (now (book .entry)) (now (line .entry)) (now (answer .entry)) (wayAnswerOf r (now (value .exit)) (now (words .exit))) (now (answer .exit)) ⌝ }
+    ensures { λ r. ⌜ WithFifteen r (now (value .exit)) (now (words .entry)) (now (words .exit)) ⌝ }
+{
+    match words_in_the_way(book, line, answer) {
+        WayAnswer::NoReading { words: in_the_way } => {
+            *value = 0;
+            *words = in_the_way;
+            NO_READING
+        }
+        WayAnswer::Ordinary(ordinary) => match ordinary {
+            LineAnswer::Refused {
+                number,
+                value: with,
+            } => {
+                *value = with as u64;
+                number
+            }
+            LineAnswer::Read { values: written } => {
+                *value = written as u64;
+                0
+            }
+        },
     }
 }
 
