@@ -1,7 +1,7 @@
 -- What is promised leaves one answer: a number is known by its bits, and these by the readings of the line without each of its words.
 use Prim.Native.Nat.{ℕ, zero, suc, _+_, _/_, _%_, _≤_, _<_}
 use native.Mathlib.Omega.{arith}
-use mathlib.Core.Path.{_≡_, refl, sym, ap, subst, _∙_}
+use mathlib.Core.Path.{_≡_, refl, sym, ap, _∙_}
 use mathlib.Core.Logic.{_↔_, _⊎_, inl, inr, ⊎-elim, Iff·trans, Iff·symm}
 use mathlib.Core.List.{List}
 use lib.ListN.{length}
@@ -13,7 +13,6 @@ use Rattle.format.specs.Records.{Bytes}
 use Rattle.book.specs.Format.{Book, parse}
 use Rattle.linking.specs.Reading.{Words}
 use Rattle.reader.specs.Outcome.{outcome, Gives}
-use Rattle.reader.specs.Demands.{Readable}
 use Rattle.reader.specs.declared.LineAnswer.{LineAnswer}
 use Rattle.reader.specs.declared.LineAnswer.the-variants.{Read, Refused}
 use Rattle.reader.proofs.Unread.{unread-line}

@@ -1,5 +1,5 @@
 -- Leaving out each word in turn, from the last to the first: which words the first places have, and the number that has been told so far.
-use Prim.Native.Nat.{ℕ, zero, suc, _+_, _*_, _-_, _^_, _≤_, _<_}
+use Prim.Native.Nat.{ℕ, suc, _+_, _*_, _-_, _^_, _≤_, _<_}
 use native.Mathlib.Nat.{lt-of-lt-of-le}
 use native.Mathlib.Omega.{arith}
 use native.Mathlib.Decide.{ℕ-discrete}
@@ -9,7 +9,6 @@ use mathlib.Core.List.{List}
 use lib.ListN.{length, getD, set, length-set}
 use lib.Seq.{getD-set-same, getD-set-other}
 use lib.Pow.{pow-mono}
-use Rattle.figures.specs.Limits.{maxWords}
 use Rattle.pregroup.specs.Tests.{Test}
 use Rattle.format.specs.Records.{Bytes}
 use Rattle.linking.specs.Reading.{Words}

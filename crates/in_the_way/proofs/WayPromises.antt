@@ -17,23 +17,22 @@ use Rattle.order.specs.Closed.{below, DeclaredPairs}
 use Rattle.order.proofs.Decision.{below-decides}
 use Rattle.order.proofs.ClosureLaws.{closed-is-order}
 use Rattle.format.specs.Records.{Bytes}
-use Rattle.book.specs.Format.{Book, Parsed, accepted, parse}
+use Rattle.book.specs.Format.{Book, accepted, parse}
 use Rattle.book.proofs.Accepted.{accepted-declares}
 use Rattle.linking.specs.Reading.{Words, Answer, firstReading}
 use Rattle.linking.specs.Ascending.{AllAscending}
 use Rattle.linking.proofs.FirstReading.{first-reading-some, first-reading-none}
 use Rattle.linking.proofs.Derivation.{reading-iff-chain}
-use Rattle.line.specs.LineFaults.{passed, lineCheck}
 use Rattle.line.specs.Remaining.{without, IsWithout}
 use Rattle.line.proofs.Passed.{line-passing}
 use Rattle.line.proofs.Remaining.{without-ascending, without-passes}
-use Rattle.reader.specs.Outcome.{Outcome, outcome, Gives}
+use Rattle.reader.specs.Outcome.{outcome, Gives}
 use Rattle.reader.specs.FoundWords.{isSome, reads}
 use Rattle.reader.specs.Demands.{OrderOf, Readable}
 use Rattle.reader.specs.declared.LineAnswer.{LineAnswer}
 use Rattle.reader.specs.declared.LineAnswer.the-variants.{Read, Refused}
 use Rattle.reader.proofs.OpeningLaws.{gives-promised}
-use Rattle.reader.proofs.Unread.{firstOfBook, unread-exactly, Unread, unread-line}
+use Rattle.reader.proofs.Unread.{firstOfBook, unread-exactly, unread-line}
 use Rattle.in_the_way.specs.declared.WayAnswer.{WayAnswer}
 use Rattle.in_the_way.specs.declared.WayAnswer.the-variants.{Ordinary, NoReading}
 use Rattle.in_the_way.specs.Way.{wayOf, wayAgainst, wayParsed, told, wayOutcome}

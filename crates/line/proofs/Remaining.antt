@@ -19,18 +19,12 @@ use Rattle.line.specs.Remaining.{without, wordBytes, IsWithout}
 use Rattle.line.proofs.Passed.{line-passing}
 use Rattle.line.proofs.ByWords.{Every, no-element, element, entriesOfAll, PassesWords, entries-by-bytes, line-passes-words, words-pass-line}
 
--- A list without its element k is shorter by one, or whole where there is no such element.
+-- A list without its element k is shorter by one, and in no case longer.
 pub without-length : {A : Type 0} (k : ℕ) (l : List A) → k < length l → length (without k l) + 1 ≡ length l
 unfolding without
 without-length k [] h = absurd (omega arith)
 without-length zero (x ∷ l) h = omega arith
 without-length (suc k) (x ∷ l) h = omega (arith, without-length k l (omega arith))
-
-pub without-beyond : {A : Type 0} (k : ℕ) (l : List A) → length l ≤ k → without k l ≡ l
-unfolding without
-without-beyond k [] h = refl
-without-beyond zero (x ∷ l) h = absurd (omega arith)
-without-beyond (suc k) (x ∷ l) h = ap (λ (m : List _). x ∷ m) (without-beyond k l (omega arith))
 
 without-no-longer : {A : Type 0} (k : ℕ) (l : List A) → length (without k l) ≤ length l
 unfolding without

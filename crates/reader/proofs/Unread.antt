@@ -4,7 +4,7 @@ use native.Mathlib.Omega.{arith}
 use mathlib.Core.Path.{_≡_, refl, sym, ap, _∙_}
 use mathlib.Core.Logic.{_↔_, ⊎-elim}
 use mathlib.Core.List.{List}
-use mathlib.Core.Option.{Option, none, some}
+use mathlib.Core.Option.{Option, none}
 use lib.ListN.{length}
 use Rattle.figures.specs.Refusals.{noReading}
 use Rattle.bits.proofs.Cases.{none-some}
@@ -15,7 +15,7 @@ use Rattle.linking.specs.Reading.{Words, Answer, firstReading}
 use Rattle.line.specs.LineFaults.{LineCheck, passed, stopped, lineCheck}
 use Rattle.reader.specs.declared.LineAnswer.{LineAnswer}
 use Rattle.reader.specs.declared.LineAnswer.the-variants.{Read, Refused}
-use Rattle.reader.specs.Outcome.{Outcome, given, readAgainst, readParsed, outcome}
+use Rattle.reader.specs.Outcome.{Outcome, readAgainst, readParsed, outcome}
 use Rattle.reader.specs.Demands.{Readable}
 use Rattle.reader.proofs.Refusals.{NamedParse, parse-named, NamedLine, line-named}
 use Rattle.reader.proofs.Promises.{Given, no-answer, too-short, enough, given-is, outcome-read}

@@ -1,6 +1,17 @@
 -- `in_the_way::tries::read_or_try` meets its contract: what reading the words that are looked up gives is returned as it is, and with 15 the number for these words.
+use Prim.Native.Nat.{ℕ}
 use borrow.Author.Needs.{needs}
 use native.Mathlib.Omega.{arith}
+use mathlib.Core.List.{List}
+use lib.ListN.{length}
+use Rattle.order.specs.Closed.{below}
+use Rattle.book.specs.Format.{Book}
+use Rattle.line.specs.declared.CheckedLine.the-variants.{Found}
+use Rattle.line.specs.LineFaults.{entriesOfLine}
+use Rattle.line.specs.LookUp.{LineSays}
+use Rattle.reader.specs.Outcome.{outcome, Gives}
+use Rattle.reader.specs.FoundWords.{FoundWords, ReadsWords}
+use Rattle.reader.specs.declared.LineAnswer.{LineAnswer}
 use Rattle.reader.proofs.OpeningLaws.{none-same, line-found, gives-outcome}
 use Rattle.in_the_way.proofs.StepLaws.{gives-read, gives-other, gives-fifteen, gives-bad-line, way-is}
 use Rattle.in_the_way.proofs.tries.read_or_try.Statement.{statement}
@@ -26,6 +37,39 @@ returns c =
 enum-known-checked-2 : tie.Need-enum-known-checked-2
 enum-known-checked-2 c = search needs
 
+-- Of a line that passes its check the words are looked up, and what reading these gives is what reading the line gives.
+module _ (c : tie.After-checked2) where
+  abbrev start : tie.Start
+  start = c .before .before .before .before .before .before .before .before .before .before .before .before .before .before .before
+
+  abbrev line-check : tie.After-check-line
+  line-check = c .before .before .before .before
+
+  abbrev contents : Book
+  contents = start .pre .0
+
+  abbrev firsts : List ℕ
+  firsts = line-check .check-line .last .1 .1 .1 .1 .1 .0
+
+  abbrev same : List ℕ
+  same = line-check .check-line .last .1 .1 .1 .1 .1 .1 .0
+
+  abbrev count : ℕ
+  count = c .checked2 .given .0 .0
+
+  says : LineSays (start .args .book .now) (start .args .offsets .now) (start .args .count) contents (start .args .line .now) firsts same (Found count)
+  says = (rw (c .checked2 .given .1) at (c .before .before .before .before .check-line .ensures)) contents (start .pre .1 .kept)
+
+  found : FoundWords (start .args .book .now) (start .args .names .now) (start .args .types) (start .args .offsets .now) (start .args .count) same firsts count
+      (start .args .order .now) (start .args .targets .now) (below (length (contents .names)) (contents .pairs)) (entriesOfLine contents (start .args .line .now))
+  found = line-found (start .pre .1) says (omega (arith, line-check .check-line .kept .1 .1 .1 .1 .1 .1 .0)) (omega (arith, line-check .check-line .kept .1 .1 .1 .1 .1 .0))
+
+  reads-line : (before : List ℕ) {after : List ℕ} {answer : LineAnswer}
+      → ReadsWords (start .args .book .now) (start .args .names .now) (start .args .types) (start .args .offsets .now) (start .args .count) same firsts count
+      (start .args .order .now) (start .args .targets .now) before answer after
+      → Gives (outcome (start .args .book .now) (start .args .line .now) before) answer after
+  reads-line before r = gives-outcome _ _ _ (start .pre .1 .parsed) (says .0) (start .pre .1 .chosen) (r _ _ found)
+
 slice-aggregate-read-words : tie.Need-slice-aggregate-read-words
 slice-aggregate-read-words c = search needs
 
@@ -33,12 +77,7 @@ slice-aggregate-read-words-2 : tie.Need-slice-aggregate-read-words-2
 slice-aggregate-read-words-2 c = search needs
 
 read-words-requires : tie.Need-read-words-requires
-read-words-requires c κs =
-    let o = c .before .before .before .before .before .before .before .before .before .before .before .before .before .before .before .before .before .before .before .pre .1 in
-    let said = (rw (c .before .before .before .before .checked2 .given .1) at (c .before .before .before .before .before .before .before .before .check-line .ensures)) (c .before .before .before .before .before .before .before .before .before .before .before .before .before .before .before .before .before .before .before .pre .0) (o .kept) in
-    let kept = c .before .before .before .before .before .before .before .before .check-line .kept .1 .1 .1 .1 .1 in
-    let found = line-found o said (omega (arith, kept .1 .0)) (omega (arith, kept .0)) in
-    (_, _, found)
+read-words-requires c κs = (_, _, found (c .before .before .before .before))
 
 enum-known-read : tie.Need-enum-known-read
 enum-known-read c = search needs
@@ -50,24 +89,14 @@ same-length : tie.Need-same-length
 same-length c = search needs
 
 returns-2 : tie.Need-returns-2
-returns-2 c =
-    let o = c .before .before .before .before .before .before .before .before .before .before .before .before .before .before .before .before .before .before .before .before .before .before .before .before .pre .1 in
-    let said = (rw (c .before .before .before .before .before .before .before .before .before .checked2 .given .1) at (c .before .before .before .before .before .before .before .before .before .before .before .before .before .check-line .ensures)) (c .before .before .before .before .before .before .before .before .before .before .before .before .before .before .before .before .before .before .before .before .before .before .before .before .pre .0) (o .kept) in
-    let kept = c .before .before .before .before .before .before .before .before .before .before .before .before .before .check-line .kept .1 .1 .1 .1 .1 in
-    let found = line-found o said (omega (arith, kept .1 .0)) (omega (arith, kept .0)) in
-    let g = gives-outcome _ _ _ (o .parsed) (said .0) (o .chosen) (c .before .before .before .before .read-words .ensures _ _ found) in
-    gives-read _ _ _ g (c .enum-told .given .1)
+returns-2 c = gives-read _ _ _ (reads-line (c .before .before .before .before .before .before .before .before .before) _ (c .before .before .before .before .read-words .ensures)) (c .enum-told .given .1)
 
 same-length-2 : tie.Need-same-length-2
 same-length-2 c = search needs
 
 returns-3 : tie.Need-returns-3
 returns-3 c =
-    let o = c .before .before .before .before .before .before .before .before .before .before .before .before .before .before .before .before .before .before .before .before .before .before .before .before .before .before .pre .1 in
-    let said = (rw (c .before .before .before .before .before .before .before .before .before .before .before .checked2 .given .1) at (c .before .before .before .before .before .before .before .before .before .before .before .before .before .before .before .check-line .ensures)) (c .before .before .before .before .before .before .before .before .before .before .before .before .before .before .before .before .before .before .before .before .before .before .before .before .before .before .pre .0) (o .kept) in
-    let kept = c .before .before .before .before .before .before .before .before .before .before .before .before .before .before .before .check-line .kept .1 .1 .1 .1 .1 in
-    let found = line-found o said (omega (arith, kept .1 .0)) (omega (arith, kept .0)) in
-    let g = gives-outcome _ _ _ (o .parsed) (said .0) (o .chosen) (c .before .before .before .before .before .before .read-words .ensures _ _ found) in
+    let g = reads-line (c .before .before .before .before .before .before .before .before .before .before .before) _ (c .before .before .before .before .before .before .read-words .ensures) in
     gives-other _ _ _ (rw (c .before .before .read .given .1) at g) (λ e. omega (arith, e, c .if1 .taken))
 
 slice-aggregate-try-each : tie.Need-slice-aggregate-try-each
@@ -77,24 +106,18 @@ slice-aggregate-try-each-2 : tie.Need-slice-aggregate-try-each-2
 slice-aggregate-try-each-2 c = search needs
 
 try-each-requires : tie.Need-try-each-requires
-try-each-requires c κs =
-    let o = c .before .before .before .before .before .before .before .before .before .before .before .before .before .before .before .before .before .before .before .before .before .before .before .before .before .before .before .before .pre .1 in
-    let said = (rw (c .before .before .before .before .before .before .before .before .before .before .before .before .before .checked2 .given .1) at (c .before .before .before .before .before .before .before .before .before .before .before .before .before .before .before .before .before .check-line .ensures)) (c .before .before .before .before .before .before .before .before .before .before .before .before .before .before .before .before .before .before .before .before .before .before .before .before .before .before .before .before .pre .0) (o .kept) in
-    let kept = c .before .before .before .before .before .before .before .before .before .before .before .before .before .before .before .before .before .check-line .kept .1 .1 .1 .1 .1 in
-    let found = line-found o said (omega (arith, kept .1 .0)) (omega (arith, kept .0)) in
-    (_, _, found)
+try-each-requires c κs = (_, _, found (c .before .before .before .before .before .before .before .before .before .before .before .before .before))
 
 same-length-3 : tie.Need-same-length-3
 same-length-3 c = search needs
 
 returns-4 : tie.Need-returns-4
 returns-4 c =
-    let o = c .before .before .before .before .before .before .before .before .before .before .before .before .before .before .before .before .before .before .before .before .before .before .before .before .before .before .before .before .before .before .pre .1 in
-    let said = (rw (c .before .before .before .before .before .before .before .before .before .before .before .before .before .before .before .checked2 .given .1) at (c .before .before .before .before .before .before .before .before .before .before .before .before .before .before .before .before .before .before .before .check-line .ensures)) (c .before .before .before .before .before .before .before .before .before .before .before .before .before .before .before .before .before .before .before .before .before .before .before .before .before .before .before .before .before .before .pre .0) (o .kept) in
-    let kept = c .before .before .before .before .before .before .before .before .before .before .before .before .before .before .before .before .before .before .before .check-line .kept .1 .1 .1 .1 .1 in
-    let found = line-found o said (omega (arith, kept .1 .0)) (omega (arith, kept .0)) in
-    let g = gives-outcome _ _ _ (o .parsed) (said .0) (o .chosen) (c .before .before .before .before .before .before .before .before .before .before .read-words .ensures _ _ found) in
-    gives-fifteen _ _ _ (rw (c .before .before .before .before .before .before .read .given .1) at g) (omega (arith, c .before .before .before .before .if1 .left)) (way-is _ _ (o .parsed) (said .0) (o .chosen) (c .before .try-each .ensures _ _ found))
+    let k = c .before .before .before .before .before .before .before .before .before .before .before .before .before .before .before in
+    let o = start k .pre .1 in
+    let g = reads-line k _ (c .before .before .before .before .before .before .before .before .before .before .read-words .ensures) in
+    gives-fifteen _ _ _ (rw (c .before .before .before .before .before .before .read .given .1) at g) (omega (arith, c .before .before .before .before .if1 .left))
+    (way-is _ _ (o .parsed) (says k .0) (o .chosen) (c .before .try-each .ensures _ _ (found k)))
 
 pub read-or-try-spec : {M : Type 1} → statement M
 read-or-try-spec =

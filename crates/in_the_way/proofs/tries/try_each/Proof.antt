@@ -1,5 +1,4 @@
 -- `in_the_way::tries::try_each` meets its contract: before each turn the words from some word on have been left out one by one, and the number tells of them.
-use borrow.Author.Needs.{needs}
 use native.Mathlib.Omega.{arith}
 use Rattle.in_the_way.proofs.TryLaws.{LeftOut, leaving-starts, leaving-next, IsWayFrom, found-without, way-starts, way-fits, way-yes, way-no, way-whole}
 use Rattle.in_the_way.proofs.tries.try_each.Statement.{statement}
