@@ -1,7 +1,8 @@
 #!/usr/bin/env bash
-# Counts the instructions that the library and its twin take for each book checked alone, for each sample and for a batch of lines,
-# with valgrind's callgrind, and prints a row for each: library, twin, name. Behind a book in slash notation stands its ratio to the same
-# book by numbers, which is the row before it. Needs valgrind and a built `compare`. The environment is emptied: where it lies moves the
+# Counts the instructions that the library and its twin take for each book checked alone, for each sample, read as a line and with the words
+# in its way, and for a batch of lines, with valgrind's callgrind, and prints a row for each: library, twin, name. Behind a book in slash
+# notation stands its ratio to the same book by numbers, and behind a sample with the words in its way that to the line, which is the row
+# before it. Needs valgrind and a built `compare`. The environment is emptied: where it lies moves the
 # stack, and with that the instructions with which a buffer is cleared, by some 200.
 set -eu
 cd "$(dirname "$0")"
@@ -29,6 +30,10 @@ target/release/compare samples | while read -r sample; do
   library=$(count vurzhelik_read_line once library "$sample")
   twin=$(count 'compare::twin::reader::read_line*' once twin "$sample")
   row "$library" "$twin" "$sample"
+  library_way=$(count vurzhelik_words_in_the_way way library "$sample")
+  twin_way=$(count 'compare::twin::ways::words_in_the_way*' way twin "$sample")
+  row "$library_way" "$twin_way" "$sample, with the words in its way"
+  ratio "$library_way" "$library" "$twin_way" "$twin"
 done
 library_together=$(count vurzhelik_read_batch batch library together)
 twin_together=$(count 'compare::twin::batch::read_batch*' batch twin together)

@@ -2,6 +2,7 @@
 //! counts.
 use crate::readers::{Reader, LIBRARY, TWIN};
 use crate::samples::{self, BatchSample, Growth, Sample};
+use crate::types::InTheWay;
 use std::hint::black_box;
 use std::time::{Duration, Instant};
 
@@ -15,6 +16,18 @@ const PASSES: usize = 5;
 const WARM_UP: Duration = Duration::from_millis(5);
 const ROUND: Duration = Duration::from_micros(500);
 const ROUNDS: Duration = Duration::from_millis(60);
+
+/// An entry that reads a line, of a reader.
+type Entry = fn(&Reader, &Sample, &mut [u16]) -> InTheWay;
+
+const READ_LINE: Entry = |reader, sample, answer| {
+    let read = (reader.read_line)(black_box(&sample.book), black_box(&sample.line), answer);
+    read.map_err(|refusal| (refusal, None))
+};
+
+const WORDS_IN_THE_WAY: Entry = |reader, sample, answer| {
+    (reader.words_in_the_way)(black_box(&sample.book), black_box(&sample.line), answer)
+};
 
 /// The times of a call in nanoseconds, one for each round.
 #[derive(Clone, Default)]
@@ -91,22 +104,21 @@ fn pair(rounds: &mut Rounds, mut library: impl FnMut(), mut twin: impl FnMut()) 
 }
 
 /// Stops where the two do not answer a sample alike.
-fn compare_answers(sample: &Sample) {
+fn compare_answers(entry: Entry, sample: &Sample) {
     let mut ours = [0; VALUES];
     let mut theirs = [0; VALUES];
-    let result = (LIBRARY.read_line)(&sample.book, &sample.line, &mut ours);
-    let other = (TWIN.read_line)(&sample.book, &sample.line, &mut theirs);
+    let result = entry(&LIBRARY, sample, &mut ours);
+    let other = entry(&TWIN, sample, &mut theirs);
     assert_eq!(result, other, "{}", sample.name);
     assert_eq!(ours, theirs, "{}", sample.name);
 }
 
 /// Times both on a sample.
-fn time_line(rounds: &mut Rounds, sample: &Sample) {
+fn time_line(entry: Entry, rounds: &mut Rounds, sample: &Sample) {
     let mut ours = [0; VALUES];
     let mut theirs = [0; VALUES];
     let call = |reader: Reader, answer: &mut [u16]| {
-        let result = (reader.read_line)(black_box(&sample.book), black_box(&sample.line), answer);
-        let _ = black_box(result);
+        let _ = black_box(entry(&reader, sample, answer));
     };
     pair(
         rounds,
@@ -116,14 +128,14 @@ fn time_line(rounds: &mut Rounds, sample: &Sample) {
 }
 
 /// Times both on samples, in several passes.
-fn time_lines(samples: &[&Sample]) -> Vec<Rounds> {
+fn time_lines(entry: Entry, samples: &[&Sample]) -> Vec<Rounds> {
     for sample in samples {
-        compare_answers(sample);
+        compare_answers(entry, sample);
     }
     let mut all = vec![Rounds::default(); samples.len()];
     for _ in 0..PASSES {
         for (sample, rounds) in samples.iter().zip(&mut all) {
-            time_line(rounds, sample);
+            time_line(entry, rounds, sample);
         }
     }
     all
@@ -168,10 +180,10 @@ fn books(title: &str, books: &[(String, Vec<u8>)]) {
     }
 }
 
-/// Times all samples and prints their table.
-fn lines(title: &str, samples: &[Sample]) {
+/// Times all samples by an entry and prints their table.
+fn lines(title: &str, entry: Entry, samples: &[Sample]) {
     let all: Vec<&Sample> = samples.iter().collect();
-    let times = time_lines(&all);
+    let times = time_lines(entry, &all);
     head(title);
     for (sample, rounds) in samples.iter().zip(&times) {
         row(&sample.name, rounds);
@@ -230,7 +242,7 @@ fn time_batch(call: Call) -> Rounds {
 /// Times one kind of line for several numbers of simple types and prints how its cost grows from each to the next.
 fn growth(growth: &Growth) {
     let all: Vec<&Sample> = growth.steps.iter().map(|(_, sample)| sample).collect();
-    let times = time_lines(&all);
+    let times = time_lines(READ_LINE, &all);
     println!("\nGrowth: {}", growth.name);
     println!(
         "{:>6} {:>12} {:>8} {:>12} {:>8} {:>7}",
@@ -253,14 +265,15 @@ fn growth(growth: &Growth) {
     }
 }
 
-/// Times books, lines of all kinds and a batch, and prints their tables.
+/// Times books, lines of all kinds, a batch and the words in the way of lines without a reading, and prints their tables.
 pub fn tables() {
     books("Books checked alone", &samples::books());
-    lines("Typical lines", &samples::typical());
+    lines("Typical lines", READ_LINE, &samples::typical());
     batch("32 typical lines", &samples::batch());
-    lines("Hard lines", &samples::hard());
-    lines("Full books", &samples::full());
-    lines("Slash notation", &samples::slashed());
+    lines("Hard lines", READ_LINE, &samples::hard());
+    lines("Full books", READ_LINE, &samples::full());
+    lines("Slash notation", READ_LINE, &samples::slashed());
+    lines("Words in the way", WORDS_IN_THE_WAY, &samples::unread());
     for kind in samples::growth() {
         growth(&kind);
     }

@@ -2,8 +2,9 @@
 //! each all partner lists in order, tested against the definition.
 
 use crate::cases;
-use crate::independent::read_line;
+use crate::independent::{read_line, words_in_the_way};
 use crate::random::Random;
+use crate::types::Refusal;
 
 type TypeString = Vec<(u8, i8)>;
 
@@ -311,6 +312,68 @@ fn all_readings(book: &[u8], line: &[u8]) -> Option<Vec<Vec<u16>>> {
     Some(readings)
 }
 
+/// What a line with these readings gets when so many values are lent: the
+/// answer or a refusal.
+fn ordinary(
+    book: &[u8],
+    line: &[u8],
+    readings: &[Vec<u16>],
+    lent: usize,
+) -> Result<Vec<u16>, Refusal> {
+    if let Some(offset) = ninth_target(book) {
+        return Err((8, offset));
+    }
+    if let Some(offset) = unknown_word(book, line) {
+        return Err((13, offset));
+    }
+    match readings.first() {
+        None => Err((15, 0)),
+        Some(first) if first.len() > lent => Err((16, first.len() as u64)),
+        Some(first) => Ok(first.clone()),
+    }
+}
+
+/// A line of these words, with any spaces between them and at the ends.
+fn line_of(random: &mut Random, words: &[&[u8]]) -> Vec<u8> {
+    let mut line = vec![b' '; random.below(3)];
+    for word in words {
+        line.extend(*word);
+        line.extend(vec![b' '; 1 + random.below(3)]);
+    }
+    // Some space stands at the end, if any byte does.
+    line.truncate(line.len().saturating_sub(random.below(2)));
+    line
+}
+
+fn without_word(random: &mut Random, line: &[u8], place: usize) -> Vec<u8> {
+    let mut words = words_of(line);
+    words.remove(place);
+    line_of(random, &words)
+}
+
+/// The line with one more word of the book, if it has any, at some place.
+fn with_word(random: &mut Random, book: &[u8], line: &[u8]) -> Vec<u8> {
+    let book = take_apart(book);
+    let mut words = words_of(line);
+    if !book.entries.is_empty() {
+        let at = random.below(words.len() + 1);
+        words.insert(at, &random.pick(&book.entries).0);
+    }
+    line_of(random, &words)
+}
+
+/// For each word of a line that is not too much to try: the number of the first
+/// target for which the line without that word has a reading.
+fn targets_without(random: &mut Random, book: &[u8], line: &[u8]) -> Vec<Option<u16>> {
+    let places = 0..words_of(line).len();
+    let target = |place: usize| {
+        let rest = without_word(random, line, place);
+        let readings = all_readings(book, &rest).expect("a word less is less to try");
+        readings.first().map(|answer| answer[0])
+    };
+    places.map(target).collect()
+}
+
 #[test]
 fn partner_lists_come_in_order() {
     let mut lists = vec![];
@@ -376,4 +439,62 @@ fn the_first_of_all_readings_is_read() {
     println!("{tried} tried of {number} made, {read} read, {several} with several readings");
     println!("{later} read for a later target, {against} against smaller entries of a later one");
     assert!(read > 1_500 && several > 500 && later > 200 && against > 100);
+}
+
+#[test]
+fn words_in_the_way_are_those_without_which_a_reading_is_found() {
+    let (mut tried, mut read, mut other) = (0, 0, 0);
+    let (mut none, mut one, mut several) = (0, 0, 0);
+    let (mut later, mut different) = (0, 0);
+    let mut number = 0;
+    while tried < 10_000 {
+        number += 1;
+        let random = &mut Random::for_case(14, number);
+        let mut case = match number % 3 {
+            0 => cases::spellings(random),
+            _ => cases::ambiguous(random),
+        };
+        // A line that is read is often spoilt by a word more.
+        if number % 4 != 0 {
+            case.line = with_word(random, &case.book, &case.line);
+        }
+        let Some(readings) = all_readings(&case.book, &case.line) else {
+            continue;
+        };
+        tried += 1;
+        let mut answer = vec![0xbeef; case.lent];
+        let mut expected = answer.clone();
+        let outcome = words_in_the_way(&case.book, &case.line, &mut answer);
+        match ordinary(&case.book, &case.line, &readings, case.lent) {
+            Ok(first) => {
+                assert_eq!(outcome, Ok(first.len() as u64), "case {number}");
+                expected[..first.len()].copy_from_slice(&first);
+                read += 1;
+            }
+            Err((15, 0)) => {
+                let targets = targets_without(random, &case.book, &case.line);
+                let bit = |k: usize| u32::from(targets[k].is_some()) << k;
+                let bits: u32 = (0..targets.len()).map(bit).sum();
+                assert_eq!(outcome, Err(((15, 0), Some(bits))), "case {number}");
+                // A line of one word or none can have no bit: it isn't counted.
+                none += usize::from(bits == 0 && targets.len() > 1);
+                one += usize::from(bits.count_ones() == 1);
+                several += usize::from(bits.count_ones() > 1);
+                let mut taken: Vec<u16> = targets.into_iter().flatten().collect();
+                later += usize::from(taken.iter().any(|target| *target > 0));
+                taken.dedup();
+                different += usize::from(taken.len() > 1);
+            }
+            Err(refusal) => {
+                assert_eq!(outcome, Err((refusal, None)), "case {number}");
+                other += 1;
+            }
+        }
+        assert_eq!(answer, expected, "case {number}");
+    }
+    println!("{tried} tried of {number} made, {read} read, {other} refused otherwise");
+    println!("15 with no bit {none}, with one {one}, with several {several}");
+    println!("a bit for a later target {later}, bits for different targets {different}");
+    assert!(none > 1_200 && one > 300 && several > 350 && read > 1_500 && other > 1_800);
+    assert!(later > 180 && different > 12);
 }

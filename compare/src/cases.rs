@@ -12,12 +12,14 @@ mod reached;
 mod slashes;
 mod spellings;
 mod targets;
+mod ways;
 
 use crate::independent;
 use crate::random::Random;
 pub use ambiguous::ambiguous;
 pub use batches::{batch, Batch};
 pub use spellings::spellings;
+pub use ways::{way, words_of, Way};
 
 pub struct Case {
     pub kind: &'static str,

@@ -4,6 +4,7 @@
 mod batches;
 mod lines;
 mod outcomes;
+mod ways;
 
 use crate::cases;
 use crate::progress;
@@ -17,11 +18,25 @@ use std::ops::RangeInclusive;
 use std::panic::{catch_unwind, RefUnwindSafe};
 use std::sync::atomic::{AtomicBool, AtomicU64, Ordering};
 use std::time::{Duration, Instant};
+use ways::WayTally;
 
 const THREADS: u64 = 2;
 
-/// One case of so many is a batch; the others are lines.
-const CASES_TO_A_BATCH: u64 = 8;
+/// A kind of cases.
+#[derive(Clone, Copy)]
+pub enum Stream {
+    Lines,
+    Batches,
+    Ways,
+}
+
+use Stream::{Batches, Lines, Ways};
+
+/// The streams that cases are of in turn: one of eight cases is a batch, and one a line with the words in its way.
+pub const ALL: &[Stream] = &[Batches, Ways, Lines, Lines, Lines, Lines, Lines, Lines];
+
+/// Lines with the words in their way alone.
+pub const WAYS_ALONE: &[Stream] = &[Ways];
 
 /// A case that readers are compared on.
 trait Compared: RefUnwindSafe {
@@ -58,6 +73,7 @@ type ByKind<T> = BTreeMap<&'static str, T>;
 struct Tallies {
     lines: ByKind<LineTally>,
     batches: ByKind<BatchTally>,
+    ways: ByKind<WayTally>,
 }
 
 /// What a buffer holds before it is lent.
@@ -67,15 +83,17 @@ fn prefilled(lent: usize) -> Vec<u16> {
 
 /// A comparison of readers with the independent one.
 struct Comparison<'a> {
+    streams: &'a [Stream],
     seed: u64,
     readers: &'a [Reader],
     differ: AtomicBool,
 }
 
 /// Compares readers with the independent one on the given number of cases; false after the first difference.
-pub fn run(cases: u64, seed: u64, readers: &[Reader]) -> bool {
+pub fn run(streams: &[Stream], cases: u64, seed: u64, readers: &[Reader]) -> bool {
     let start = Instant::now();
     let comparison = Comparison {
+        streams,
         seed,
         readers,
         differ: AtomicBool::new(false),
@@ -100,10 +118,12 @@ impl Comparison<'_> {
                 break;
             }
             let random = &mut Random::for_case(self.seed, number);
-            // Divided by the threads first, so that each thread has its share of batches.
-            match number / THREADS % CASES_TO_A_BATCH {
-                0 => self.compare(number, &cases::batch(random), &mut tallies.batches),
-                _ => self.compare(number, &cases::any(random), &mut tallies.lines),
+            // Divided by the threads first, so that each thread has its share of each stream.
+            let turn = number / THREADS % self.streams.len() as u64;
+            match self.streams[turn as usize] {
+                Batches => self.compare(number, &cases::batch(random), &mut tallies.batches),
+                Ways => self.compare(number, &cases::way(random), &mut tallies.ways),
+                Lines => self.compare(number, &cases::any(random), &mut tallies.lines),
             }
             done.fetch_add(1, Ordering::Relaxed);
         }
@@ -140,6 +160,7 @@ fn in_threads(part: impl Fn(u64) -> Tallies + Sync) -> Tallies {
             let other = thread.join().expect("a thread ends well");
             add(&mut tallies.lines, &other.lines);
             add(&mut tallies.batches, &other.batches);
+            add(&mut tallies.ways, &other.ways);
         }
     });
     tallies
@@ -152,16 +173,45 @@ fn add<T: Tally>(tallies: &mut ByKind<T>, others: &ByKind<T>) {
 }
 
 fn print_tallies(tallies: &Tallies, time: Duration) {
-    let lines = print_by_kind(&tallies.lines);
-    let batches = print_by_kind(&tallies.batches);
+    let cases =
+        print_lines(&tallies.lines) + print_batches(&tallies.batches) + print_ways(&tallies.ways);
+    let seconds = time.as_secs_f64();
+    let rate = cases as f64 / seconds;
+    println!("{seconds:.2} seconds, {rate:.0} cases a second");
+}
+
+/// Prints what is counted of lines, if there are any, and returns how many there are.
+fn print_lines(tallies: &ByKind<LineTally>) -> u64 {
+    if tallies.is_empty() {
+        return 0;
+    }
+    let lines = print_by_kind(tallies);
     print_missing("lines", &lines.all, &[1..=16, 19..=21]);
+    print_missing_targets("lines", &lines.targets);
+    lines.all.all
+}
+
+/// The same of batches.
+fn print_batches(tallies: &ByKind<BatchTally>) -> u64 {
+    if tallies.is_empty() {
+        return 0;
+    }
+    let batches = print_by_kind(tallies);
     print_missing("batches", &batches.all, &[1..=10, 17..=21]);
     print_missing("lines of batches", &batches.lines, &[11..=15]);
-    print_missing_targets("lines", &lines.targets);
     print_missing_targets("lines of batches", &batches.targets);
-    let seconds = time.as_secs_f64();
-    let rate = (lines.all.all + batches.all.all) as f64 / seconds;
-    println!("{seconds:.2} seconds, {rate:.0} cases a second");
+    batches.all.all
+}
+
+/// The same of lines with the words in their way.
+fn print_ways(tallies: &ByKind<WayTally>) -> u64 {
+    if tallies.is_empty() {
+        return 0;
+    }
+    let ways = print_by_kind(tallies);
+    print_missing("words in the way", &ways.all, &[1..=16, 19..=21]);
+    print_missing_bits(&ways);
+    ways.all.all
 }
 
 /// Prints the tally of each kind and that of all of them, which is returned.
@@ -180,6 +230,15 @@ fn print_missing(what: &str, outcomes: &Outcomes, numbers: &[RangeInclusive<usiz
     for number in numbers.iter().cloned().flatten() {
         if outcomes.refused[number] == 0 {
             println!("{what}: refusal {number} did not occur");
+        }
+    }
+}
+
+/// Prints which bits of the words in the way were never set.
+fn print_missing_bits(ways: &WayTally) {
+    for (k, times) in ways.bits.iter().enumerate() {
+        if *times == 0 {
+            println!("words in the way: bit {k} was never set");
         }
     }
 }
@@ -215,9 +274,9 @@ fn hex(bytes: &[u8]) -> String {
 mod tests {
     use super::*;
     use crate::books::{first_book, kind_of, record_ranges, target_ranges, word_ranges};
-    use crate::cases::{Batch, Case};
-    use crate::readers::{CheckBook, ReadBatch, TWIN};
-    use crate::types::{Counts, Refusal};
+    use crate::cases::{Batch, Case, Way};
+    use crate::readers::{CheckBook, ReadBatch, WordsInTheWay, TWIN};
+    use crate::types::{Counts, InTheWay, Refusal};
 
     /// The independent reader, but with one bit set in every byte from 64 to 94 of words on both sides, so that `[` is `{`.
     fn one_bit_masked(book: &[u8], line: &[u8], answer: &mut [u16]) -> Result<u64, Refusal> {
@@ -236,7 +295,7 @@ mod tests {
 
     /// Whether a reader comes through without a difference.
     fn alike(reader: Reader) -> bool {
-        run(800, 3, &[INDEPENDENT, reader])
+        run(ALL, 800, 3, &[INDEPENDENT, reader])
     }
 
     #[test]
@@ -380,6 +439,7 @@ mod tests {
         }));
         // Capitals in texts count as small letters.
         assert!(!run(
+            ALL,
             20_000,
             3,
             &[Reader {
@@ -398,6 +458,7 @@ mod tests {
         ];
         for check_book in swapped {
             assert!(!run(
+                ALL,
                 4_000,
                 3,
                 &[Reader {
@@ -440,7 +501,8 @@ mod tests {
     #[test]
     fn twin_reads_as_the_independent_reader_does() {
         for seed in [1, 2] {
-            assert!(run(20_000, seed, &[TWIN]));
+            assert!(run(ALL, 20_000, seed, &[TWIN]));
+            assert!(run(WAYS_ALONE, 4_000, seed, &[TWIN]));
         }
     }
 
@@ -490,6 +552,91 @@ mod tests {
                 ..INDEPENDENT
             }));
         }
+    }
+
+    /// Tells the words in the way as the independent reader does, but with another number beside a refusal.
+    fn renumbered(
+        book: &[u8],
+        line: &[u8],
+        answer: &mut [u16],
+        number: impl Fn(Refusal, Option<u32>) -> Option<u32>,
+    ) -> InTheWay {
+        let told = (INDEPENDENT.words_in_the_way)(book, line, answer);
+        told.map_err(|(refusal, words)| (refusal, number(refusal, words)))
+    }
+
+    #[test]
+    fn differences_in_words_in_the_way_are_found() {
+        let wrong: [WordsInTheWay; 7] = [
+            // Bit k tells of word k.
+            |book, line, answer| {
+                renumbered(book, line, answer, |_, words| words.map(|words| words << 1))
+            },
+            // The last of 24 words is never in the way.
+            |book, line, answer| {
+                let but_last = |_, words: Option<u32>| words.map(|words| words & 0x7fffff);
+                renumbered(book, line, answer, but_last)
+            },
+            // 15 comes without a number, or with one where it is 0.
+            |book, line, answer| renumbered(book, line, answer, |_, _| None),
+            |book, line, answer| {
+                renumbered(book, line, answer, |_, words| {
+                    words.filter(|words| *words != 0)
+                })
+            },
+            // 16 comes with a number too.
+            |book, line, answer| {
+                renumbered(book, line, answer, |refusal, words| match refusal.0 {
+                    16 => Some(0),
+                    _ => words,
+                })
+            },
+            // What 15 must leave is written to.
+            |book, line, answer| {
+                let told = (INDEPENDENT.words_in_the_way)(book, line, answer);
+                if let (Err(((15, _), _)), Some(first)) = (told, answer.first_mut()) {
+                    *first = 0;
+                }
+                told
+            },
+            // Only the first target is looked at for the words that are left.
+            |book, line, answer| {
+                let told = (INDEPENDENT.words_in_the_way)(book, line, answer);
+                let mut first = book.to_vec();
+                for range in target_ranges(book).iter().skip(1).rev() {
+                    first.drain(range.clone());
+                }
+                match told {
+                    Err(((15, _), _)) => (INDEPENDENT.words_in_the_way)(&first, line, answer),
+                    _ => told,
+                }
+            },
+        ];
+        for (number, words_in_the_way) in wrong.into_iter().enumerate() {
+            let reader = Reader {
+                words_in_the_way,
+                ..INDEPENDENT
+            };
+            assert!(!run(WAYS_ALONE, 4_000, 3, &[reader]), "{number}");
+        }
+    }
+
+    /// Numbers that are right do not hide lines without a word that are wrong when they are read.
+    #[test]
+    fn lines_without_a_word_are_compared() {
+        let way = Way(Case {
+            kind: "",
+            book: first_book().bytes(),
+            line: b"go go".to_vec(),
+            lent: 20,
+            plain: None,
+        });
+        assert!(way.consistent(&way.outcome(&INDEPENDENT)));
+        let other = Reader {
+            read_line: |_, _, _| Err((15, 0)),
+            ..INDEPENDENT
+        };
+        assert!(!way.consistent(&way.outcome(&other)));
     }
 
     /// Batches that are right do not hide lines that are wrong when they are read alone.

@@ -14,7 +14,7 @@ pub type Outcome = Result<(u16, Vec<u16>, Vec<u16>), Refusal>;
 
 const UNTOUCHED: u16 = 0xbeef;
 
-const READERS: [Reader; 3] = [LIBRARY, INDEPENDENT, TWIN];
+pub const READERS: [Reader; 3] = [LIBRARY, INDEPENDENT, TWIN];
 
 /// What all readers say of a book.
 pub fn check_book(book: &[u8]) -> Result<Counts, Refusal> {

@@ -1,10 +1,10 @@
 //! The book check and the line reader of document 01 with requests 2.1, 2.2,
-//! 2.4 and 2.5 of document 02, straight from their definitions: a second
+//! 2.4, 2.5 and 2.6 of document 02, straight from their definitions: a second
 //! implementation, to be compared with the first.
 
 mod slashes;
 
-use crate::types::{Counts, Refusal};
+use crate::types::{Counts, InTheWay, Refusal};
 
 const MOST_BOOK_BYTES: usize = 65_535;
 const MOST_BASIC_TYPES: usize = 64;
@@ -33,9 +33,7 @@ pub fn check_book(book: &[u8]) -> Result<Counts, Refusal> {
 /// with the answer untouched.
 pub fn read_line(book: &[u8], line: &[u8], answer: &mut [u16]) -> Result<u64, Refusal> {
     let book = parse_book(book)?;
-    let words = words_of(line)?;
-    let places = look_up(&book, &words)?;
-    let places: Vec<Vec<&Entry>> = places.iter().map(|p| without_repeats(p)).collect();
+    let places = places_of(&book, line)?;
     let number = first_target(&book, &places).ok_or((15, 0))?;
     let target = book.targets[number];
     let choice = first_choice(&book.order, places, target);
@@ -47,6 +45,35 @@ pub fn read_line(book: &[u8], line: &[u8], answer: &mut [u16]) -> Result<u64, Re
     }
     answer[..values.len()].copy_from_slice(&values);
     Ok(values.len() as u64)
+}
+
+/// Reads a line against a book as `read_line` does. A line refused with 15
+/// gets beside it the number of the words in its way, any other line nothing.
+pub fn words_in_the_way(book: &[u8], line: &[u8], answer: &mut [u16]) -> InTheWay {
+    match read_line(book, line, answer) {
+        Ok(values) => Ok(values),
+        Err((15, value)) => {
+            let number = number_in_the_way(book, line).expect("the line breaks none of 11 to 14");
+            Err(((15, value), Some(number)))
+        }
+        Err(refusal) => Err((refusal, None)),
+    }
+}
+
+/// The number whose bit k is set exactly when the line without word k + 1 has a
+/// reading, for any target: refusals as far as 14.
+fn number_in_the_way(book: &[u8], line: &[u8]) -> Result<u32, Refusal> {
+    let book = parse_book(book)?;
+    let places = places_of(&book, line)?;
+    let mut number = 0;
+    for k in 0..places.len() {
+        let mut others = places.clone();
+        others.remove(k);
+        if first_target(&book, &others).is_some() {
+            number |= 1 << k;
+        }
+    }
+    Ok(number)
 }
 
 /// Reads a batch of lines against a book: the number of lines, or a refusal
@@ -394,6 +421,14 @@ fn look_up<'b>(
         return Err((14, 0));
     }
     Ok(places)
+}
+
+/// The entries of each of the line's words that a reading may take: refusals 11
+/// to 14.
+fn places_of<'b>(book: &'b Book<'b>, line: &[u8]) -> Result<Vec<Vec<&'b Entry<'b>>>, Refusal> {
+    let words = words_of(line)?;
+    let places = look_up(book, &words)?;
+    Ok(places.iter().map(|p| without_repeats(p)).collect())
 }
 
 /// Whether a book's word and a line's word are the same: letters A–Z count as

@@ -1,9 +1,11 @@
 //! Compares the proved library with an independent reader on random cases, and times it beside a twin in Rust.
 //!
-//! - `compare cases [CASES] [SEED]`: the comparison, on lines and on batches of lines; it ends with status 1 at the first difference.
-//!   Standard error shows how far it has come.
+//! - `compare cases [CASES] [SEED]`: the comparison, on lines, on batches of lines and on lines with the words in their way; it ends with
+//!   status 1 at the first difference. Standard error shows how far it has come.
+//! - `compare ways [CASES] [SEED]`: the same on lines with the words in their way alone, most of which have no reading.
 //! - `compare bench`: the times.
 //! - `compare once library|twin SAMPLE`: one sample read once, for a tool that counts instructions.
+//! - `compare way library|twin SAMPLE`: the same with the words in its way.
 //! - `compare batch library|twin together|alone`: the benchmark's batch read once, in one call or line by line.
 //! - `compare check library|twin BOOK`: one of the benchmark's books checked once.
 //! - `compare samples`, `compare books`: their names.
@@ -23,6 +25,8 @@ mod document_cases;
 mod document_slashes;
 #[cfg(test)]
 mod document_targets;
+#[cfg(test)]
+mod document_ways;
 mod independent;
 mod progress;
 mod random;
@@ -36,22 +40,24 @@ mod types;
 use readers::{LIBRARY, TWIN};
 use std::process::ExitCode;
 
-const USAGE: &str = "compare cases [CASES] [SEED] | bench | once library|twin SAMPLE | samples | batch library|twin together|alone \
-    | check library|twin BOOK | books | search [STEPS] [SEED]";
+const USAGE: &str =
+    "compare cases|ways [CASES] [SEED] | bench | once|way library|twin SAMPLE | samples \
+    | batch library|twin together|alone | check library|twin BOOK | books | search [STEPS] [SEED]";
 
 fn main() -> ExitCode {
     let arguments: Vec<String> = std::env::args().skip(1).collect();
     let arguments: Vec<&str> = arguments.iter().map(String::as_str).collect();
     let done = match arguments[..] {
-        ["cases"] => cases("1000000", "1"),
-        ["cases", count] => cases(count, "1"),
-        ["cases", count, seed] => cases(count, seed),
+        ["cases", ref rest @ ..] => cases(compare::ALL, rest),
+        ["ways", ref rest @ ..] => cases(compare::WAYS_ALONE, rest),
         ["bench"] => {
             bench::tables();
             true
         }
         ["once", "library", sample] => once(&LIBRARY, sample),
         ["once", "twin", sample] => once(&TWIN, sample),
+        ["way", "library", sample] => way(&LIBRARY, sample),
+        ["way", "twin", sample] => way(&TWIN, sample),
         ["samples"] => {
             for sample in samples::all() {
                 println!("{}", sample.name);
@@ -71,10 +77,7 @@ fn main() -> ExitCode {
             true
         }
         ["search", ref rest @ ..] => search::command(rest),
-        _ => {
-            eprintln!("{USAGE}");
-            false
-        }
+        _ => usage(),
     };
     match done {
         true => ExitCode::SUCCESS,
@@ -82,26 +85,51 @@ fn main() -> ExitCode {
     }
 }
 
-/// Compares so many cases of a seed.
-fn cases(count: &str, seed: &str) -> bool {
-    match (count.parse(), seed.parse()) {
-        (Ok(count), Ok(seed)) => compare::run(count, seed, &[LIBRARY, TWIN]),
-        _ => {
-            eprintln!("{USAGE}");
-            false
-        }
+/// Compares so many cases of a seed, a million of seed 1 where nothing is said.
+fn cases(streams: &[compare::Stream], arguments: &[&str]) -> bool {
+    let (count, seed) = match arguments[..] {
+        [] => (Ok(1_000_000), Ok(1)),
+        [count] => (count.parse(), Ok(1)),
+        [count, seed] => (count.parse(), seed.parse()),
+        _ => return usage(),
+    };
+    match (count, seed) {
+        (Ok(count), Ok(seed)) => compare::run(streams, count, seed, &[LIBRARY, TWIN]),
+        _ => usage(),
     }
+}
+
+/// Prints how the program is called.
+fn usage() -> bool {
+    eprintln!("{USAGE}");
+    false
+}
+
+/// The sample of a name; where there is none, that is printed.
+fn sample(name: &str) -> Option<samples::Sample> {
+    let sample = samples::all().into_iter().find(|s| s.name == name);
+    if sample.is_none() {
+        eprintln!("no sample of that name");
+    }
+    sample
 }
 
 /// Reads a sample once and prints what comes back.
 fn once(reader: &readers::Reader, name: &str) -> bool {
-    let Some(sample) = samples::all().into_iter().find(|s| s.name == name) else {
-        eprintln!("no sample of that name");
-        return false;
+    let read = |sample: samples::Sample| {
+        let outcome = (reader.read_line)(&sample.book, &sample.line, &mut [0; 512]);
+        println!("{outcome:?}");
     };
-    let outcome = (reader.read_line)(&sample.book, &sample.line, &mut [0; 512]);
-    println!("{outcome:?}");
-    true
+    sample(name).map(read).is_some()
+}
+
+/// Reads a sample once with the words in its way and prints what comes back.
+fn way(reader: &readers::Reader, name: &str) -> bool {
+    let read = |sample: samples::Sample| {
+        let outcome = (reader.words_in_the_way)(&sample.book, &sample.line, &mut [0; 512]);
+        println!("{outcome:?}");
+    };
+    sample(name).map(read).is_some()
 }
 
 /// Reads the benchmark's batch once and prints what comes back.

@@ -53,6 +53,14 @@ pub fn all() -> Vec<Sample> {
     samples
 }
 
+/// The typical lines and the hard ones that have no reading.
+pub fn unread() -> Vec<Sample> {
+    let mut samples = typical();
+    samples.extend(hard());
+    samples.retain(|sample| sample.name.ends_with("none"));
+    samples
+}
+
 /// Books to check alone, by name. A book in slash notation stands right behind the same by numbers.
 pub fn books() -> Vec<(String, Vec<u8>)> {
     let (hard, full) = (hard(), full());

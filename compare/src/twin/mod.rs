@@ -24,8 +24,10 @@ pub mod rows;
 mod search;
 mod slashes;
 mod table;
+mod ways;
+mod words;
 
-use crate::types::{Counts, Refusal};
+use crate::types::{Counts, InTheWay, Refusal};
 use book::BookCheck;
 
 /// Checks a book alone.
@@ -47,6 +49,14 @@ pub fn check_book(book: &[u8]) -> Result<Counts, Refusal> {
 /// Reads a line against a book.
 pub fn read_line(book: &[u8], line: &[u8], answer: &mut [u16]) -> Result<u64, Refusal> {
     wide(reader::read_line(book, line, answer))
+}
+
+/// Reads a line against a book, and tells which words are in the way where it has no reading.
+pub fn words_in_the_way(book: &[u8], line: &[u8], answer: &mut [u16]) -> InTheWay {
+    match ways::words_in_the_way(book, line, answer) {
+        Ok(count) => Ok(count as u64),
+        Err(((number, value), words)) => Err(((number, value as u64), words)),
+    }
 }
 
 /// Reads a batch of lines against a book.
