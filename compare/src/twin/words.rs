@@ -58,8 +58,9 @@ fn chart_words(
     (last, first_goal(chart, last, targets.len()))
 }
 
-/// Reads words that are looked up: `firsts` has the first entry of each, and `same` leads to the others.
-pub fn read_words(
+/// Reads words that are looked up: `firsts` has the first entry of each, and `same` leads to the others. Where the reading is not wanted
+/// whole, it is only told whether there is one: it is then answered with no values, and nothing is written.
+fn read_or_ask(
     book: &[u8],
     offsets: &[u16],
     open: &Open,
@@ -67,6 +68,7 @@ pub fn read_words(
     firsts: &[u16],
     words: usize,
     targets: &[u8],
+    whole: bool,
     answer: &mut [u16],
 ) -> Answer {
     let mut simples = [0u16; MAX_NODES];
@@ -94,6 +96,9 @@ pub fn read_words(
     );
     if targets.len() <= i {
         return Err((NO_READING, 0));
+    }
+    if !whole {
+        return Ok(0);
     }
     let order = &open.order.rows;
     let mut string = [0u16; MAX_PLACES];
@@ -126,6 +131,22 @@ pub fn read_words(
     Ok(needed)
 }
 
+/// Reads words that are looked up.
+pub fn read_words(
+    book: &[u8],
+    offsets: &[u16],
+    open: &Open,
+    same: &[u16],
+    firsts: &[u16],
+    words: usize,
+    targets: &[u8],
+    answer: &mut [u16],
+) -> Answer {
+    read_or_ask(
+        book, offsets, open, same, firsts, words, targets, true, answer,
+    )
+}
+
 /// Whether words that are looked up have a reading, for any target.
 pub fn has_reading(
     book: &[u8],
@@ -136,14 +157,7 @@ pub fn has_reading(
     words: usize,
     targets: &[u8],
 ) -> bool {
-    let mut simples = [0u16; MAX_NODES];
-    let mut nexts = [0u16; MAX_NODES];
-    let mut froms = [0u16; MAX_NODES];
-    let mut tos = [0u16; MAX_NODES];
-    let mut enters = [0u16; MAX_NODES];
-    let mut numbers = [0u16; MAX_NODES];
-    let mut chart = [0u64; CHART_WORDS];
-    let (_, i) = chart_words(
+    let asked = read_or_ask(
         book,
         offsets,
         open,
@@ -151,13 +165,8 @@ pub fn has_reading(
         firsts,
         words,
         targets,
-        &mut simples,
-        &mut nexts,
-        &mut froms,
-        &mut tos,
-        &mut enters,
-        &mut numbers,
-        &mut chart,
+        false,
+        &mut [],
     );
-    i < targets.len()
+    asked.is_ok()
 }

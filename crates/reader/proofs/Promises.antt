@@ -55,7 +55,7 @@ given-is buffer (some a) = go (ltb (length buffer) (length (valuesOf a))) refl
     go true q = too-short (ltb-true (length buffer) (length (valuesOf a)) q)
     go false q = enough (ltb-false (length buffer) (length (valuesOf a)) q)
 
-read-refused : {C : Type 0} {n number value : ℕ} → Read n ≡ Refused number value → C
+pub read-refused : {C : Type 0} {n number value : ℕ} → Read n ≡ Refused number value → C
 read-refused e = let z : _≡_ {A = ℕ} 0 1 = cc in absurd (omega arith)
 
 pub other-number : {C : Type 0} {r : Reply} {n v : ℕ} → (r .number ≡ n → ⊥) → r ≡ refusal n v → C

@@ -3,16 +3,13 @@ use Prim.Native.Nat.{ℕ, zero, suc, _+_, _-_, _*_, _≤_, _<_}
 use native.Mathlib.Omega.{arith}
 use mathlib.Core.Path.{_≡_, refl, sym, ap, subst, _∙_}
 use mathlib.Core.List.{List, _∷_, _++_, map}
-use mathlib.Core.Logic.{_⊎_, inl, inr}
-use mathlib.Core.Bool.{true}
+use mathlib.Core.Bool.{Bool, true, false}
 use mathlib.Core.Option.{Option, none, some}
-use lib.Dec.{ltb}
 use lib.ListN.{getD, length, take, drop, length-append}
 use lib.Seq.{length-take-le, getD-take}
 use borrow.Author.Tests.{lt-ltb, le-ltb}
 use Rattle.figures.specs.Limits.{maxNodes, maxPlaces, rowWords}
 use Rattle.bits.specs.Rows.{HasRow, InRow}
-use Rattle.bits.proofs.Cases.{less-or-not}
 use Rattle.pregroup.specs.Types.{Basic, PregroupType}
 use Rattle.pregroup.specs.Order.{Relation}
 use Rattle.pregroup.specs.Vanish.{Reduces}
@@ -35,17 +32,33 @@ use Rattle.choice.proofs.Choices.{choice-of-path}
 use Rattle.answer.specs.Entries.{entryNumbers}
 use Rattle.answer.specs.Written.{Linkable, Writable, WroteAnswer}
 use Rattle.answer.proofs.ValueLaws.{entry-numbers-length}
+use Rattle.reader.specs.declared.LineAnswer.{LineAnswer}
 use Rattle.reader.specs.declared.LineAnswer.the-variants.{Read, Refused}
 use Rattle.reader.specs.Outcome.{valuesOf, given, Gives}
-use Rattle.reader.specs.FoundWords.{Drawn, EndsThere, Charted, reads, isSome}
+use Rattle.reader.specs.FoundWords.{Drawn, EndsThere, Charted, isSome, asked}
+use Rattle.reader.proofs.Promises.{read-refused}
 use Rattle.reader.proofs.Brief.{laid-brief}
 use Rattle.reader.proofs.FirstFound.{FirstFound, unread-iff, first-found}
 
 -- What `given` comes to.
 module _ (before : List ℕ) where
-  pub gives-none : {o : Option Answer} → o ≡ none → Gives (given o before) (Refused 15 0) before
+  gives-none : {o : Option Answer} → o ≡ none → (whole : Bool) → Gives (asked whole o before) (Refused 15 0) before
   unfolding given
-  gives-none e = record { returned = rw e; left = rw e }
+  gives-none e true = record { returned = rw e; left = rw e }
+  gives-none e false = record { returned = rw e; left = rw e }
+
+  -- It is asked no further.
+  gives-some : {o : Option Answer} {a : Answer} → o ≡ some a → Gives (asked false o before) (Read 0) before
+  gives-some e = record { returned = rw e; left = rw e }
+
+  -- What is told of words that are only asked for.
+  pub some-told : (o : Option Answer) {r : LineAnswer} {n : ℕ} {after : List ℕ} → Gives (asked false o before) r after → r ≡ Read n → true ≡ isSome o
+  some-told none g e = read-refused (sym e ∙ g .returned)
+  some-told (some a) g e = refl
+
+  pub none-told : (o : Option Answer) {r : LineAnswer} {m v : ℕ} {after : List ℕ} → Gives (asked false o before) r after → r ≡ Refused m v → false ≡ isSome o
+  none-told none g e = refl
+  none-told (some a) g e = read-refused (sym (g .returned) ∙ e)
 
   pub gives-short : {o : Option Answer} {a : Answer} {v : ℕ} → o ≡ some a → length (valuesOf a) ≡ v → length before < v → Gives (given o before) (Refused 16 v) before
   unfolding given
@@ -108,8 +121,8 @@ module _ {le : Test} {Le : Relation} {g : Graph} {numbers : List ℕ} {targets :
   no-first all = no-target-reads le words targets (λ u h. none-before u (omega arith))
 
   -- 15: there is no reading for any target.
-  pub answers-none : t ≡ length targets → (before : List ℕ) → Gives (given (firstReading le targets words) before) (Refused 15 0) before
-  answers-none all before = gives-none before (no-first all)
+  pub answers-none : t ≡ length targets → (whole : Bool) (before : List ℕ) → Gives (asked whole (firstReading le targets words) before) (Refused 15 0) before
+  answers-none all whole before = gives-none before (no-first all) whole
 
   -- The first target whose end is reached.
   module _ (target-there : t < length targets) where
@@ -240,16 +253,10 @@ module _ {le : Test} {Le : Relation} {g : Graph} {numbers : List ℕ} {targets :
           let linked = first-linking-greedy (d .decides) s (stringOf string m) (w .whole ∙ sym (length-string string m)) (w .greedy) in
           gives-read before (first-with (w .partners) linked) (count-values (w .partners) (w .whole)) h (values-are w)
 
-  -- Whether there is a reading is whether some end is reached.
-  pub says-whether : ltb t (length targets) ≡ reads le targets words
-  says-whether = go (less-or-not t (length targets))
-    where
-      some-selection : (there : t < length targets) (o : Option Selection) → firstFor le (targetAt targets t) words ≡ o → isSome (firstReading le targets words) ≡ true
-      some-selection there none e =
-          let end = d .ends t there in
-          absurd (unread-iff (d .decides) g numbers (targetAt targets t) (endAt last t) (end .boundary) (end .closed) (d .laid t there) (d .known-words) .0 e (way there))
-      some-selection there (some a) e = ap isSome (first-reading-at le words targets t a there none-before e)
-
-      go : (t < length targets) ⊎ (length targets ≤ t) → ltb t (length targets) ≡ reads le targets words
-      go (inl there) = lt-ltb _ _ there ∙ sym (some-selection there (firstFor le (targetAt targets t) words) refl)
-      go (inr all) = le-ltb _ _ all ∙ sym (ap isSome (no-first (omega (arith, charted .first .within))))
+    -- There is a reading where its end is reached.
+    pub answers-some : (before : List ℕ) → Gives (asked false (firstReading le targets words) before) (Read 0) before
+    answers-some before = go (firstFor le s words) refl
+      where
+        go : (o : Option Selection) → firstFor le s words ≡ o → Gives (asked false (firstReading le targets words) before) (Read 0) before
+        go none e = absurd (unread-iff (d .decides) g numbers s end (ends .boundary) (ends .closed) laid (d .known-words) .0 e way)
+        go (some a) e = gives-some before (first-reading-at le words targets t a target-there none-before e)

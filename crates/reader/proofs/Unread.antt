@@ -14,11 +14,11 @@ use Rattle.book.specs.Format.{Book, Parsed, accepted, refused, parse}
 use Rattle.linking.specs.Reading.{Words, Answer, firstReading}
 use Rattle.line.specs.LineFaults.{LineCheck, passed, stopped, lineCheck}
 use Rattle.reader.specs.declared.LineAnswer.{LineAnswer}
-use Rattle.reader.specs.declared.LineAnswer.the-variants.{Read, Refused}
+use Rattle.reader.specs.declared.LineAnswer.the-variants.{Refused}
 use Rattle.reader.specs.Outcome.{Outcome, readAgainst, readParsed, outcome}
 use Rattle.reader.specs.Demands.{Readable}
 use Rattle.reader.proofs.Refusals.{NamedParse, parse-named, NamedLine, line-named}
-use Rattle.reader.proofs.Promises.{Given, no-answer, too-short, enough, given-is, outcome-read}
+use Rattle.reader.proofs.Promises.{read-refused, Given, no-answer, too-short, enough, given-is, outcome-read}
 
 -- The first reading of words against a book.
 abbrev pub firstOfBook : Book → Words → Option Answer
@@ -30,15 +30,12 @@ same-number e = cc
 same-with : {m n v w : ℕ} → Refused m v ≡ Refused n w → v ≡ w
 same-with e = cc
 
-read-apart : {C : Type 0} {n m v : ℕ} → Read n ≡ Refused m v → C
-read-apart e = let z : _≡_ {A = ℕ} 0 1 = cc in absurd (omega arith)
-
 -- What `given` answers with 15.
 given-unread : {buffer : List ℕ} {o : Option Answer} {answer : LineAnswer} {after : List ℕ} {value : ℕ} → Given buffer o answer after → answer ≡ Refused noReading value
     → (value ≡ 0) × (o ≡ none)
 given-unread no-answer e = (sym (same-with e), refl)
 given-unread (too-short l) e = let z = same-number e in absurd (omega arith)
-given-unread (enough l) e = read-apart e
+given-unread (enough l) e = read-refused e
 
 unread-given : {buffer : List ℕ} {o : Option Answer} {answer : LineAnswer} {after : List ℕ} → Given buffer o answer after → o ≡ none → answer ≡ Refused noReading 0
 unread-given no-answer e = refl

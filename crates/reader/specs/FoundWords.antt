@@ -5,6 +5,7 @@ use mathlib.Core.Bool.{Bool, true, false}
 use mathlib.Core.List.{List}
 use mathlib.Core.Option.{Option, none, some}
 use lib.ListN.{length}
+use Rattle.figures.specs.Refusals.{noReading}
 use Rattle.figures.specs.Limits.{maxWords, maxLineSimples, maxTargets, maxNodes, rowWords}
 use Rattle.bits.specs.Rows.{HasRow, InRow}
 use Rattle.pregroup.specs.Types.{Basic}
@@ -22,7 +23,8 @@ use Rattle.graph.specs.Cells.{Vocabulary}
 use Rattle.graph.specs.Lists.{Lists, graphOf, endAt, nodesWith, Room, Empty}
 use Rattle.chart.specs.Chart.{FilledFrom}
 use Rattle.reader.specs.declared.LineAnswer.{LineAnswer}
-use Rattle.reader.specs.Outcome.{given, Gives}
+use Rattle.reader.specs.declared.LineAnswer.the-variants.{Read, Refused}
+use Rattle.reader.specs.Outcome.{Outcome, given, Gives}
 
 -- Whether words have a reading, for some target.
 abbrev pub isSome : Option Answer → Bool
@@ -51,6 +53,17 @@ pub record FoundWords (bytes : Bytes) (names : List ℕ) (types : ℕ) (offsets 
 abbrev pub AreFound : Bytes → List ℕ → ℕ → List ℕ → ℕ → List ℕ → List ℕ → ℕ → List ℕ → List ℕ → Type 0
 AreFound bytes names types offsets count same firsts n rows targets =
     (le : Test) × (words : Words) × FoundWords bytes names types offsets count same firsts n rows targets le words
+
+-- What reading words comes to where the reading is wanted whole, and where it is only asked whether there is one: an answer then has no values.
+abbrev pub asked : Bool → Option Answer → List ℕ → Outcome LineAnswer
+asked true o buffer = given o buffer
+asked false none buffer = record { answer = Refused noReading 0; buffer = buffer }
+asked false (some a) buffer = record { answer = Read 0; buffer = buffer }
+
+abbrev pub ReadsOrAsks : Bytes → List ℕ → ℕ → List ℕ → ℕ → List ℕ → List ℕ → ℕ → List ℕ → List ℕ → Bool → List ℕ → LineAnswer → List ℕ → Type 0
+ReadsOrAsks bytes names types offsets count same firsts n rows targets whole before answer after =
+    (le : Test) (words : Words) → FoundWords bytes names types offsets count same firsts n rows targets le words
+    → Gives (asked whole (firstReading le targets words) before) answer after
 
 -- What reading them gives: what their first reading comes to.
 abbrev pub ReadsWords : Bytes → List ℕ → ℕ → List ℕ → ℕ → List ℕ → List ℕ → ℕ → List ℕ → List ℕ → List ℕ → LineAnswer → List ℕ → Type 0

@@ -17,7 +17,7 @@ ghost use lib.ListN.{length};
 ghost use Rattle.pregroup.specs.Held.{InRows};
 ghost use Rattle.graph.specs.Graph.{graph};
 ghost use Rattle.graph.specs.Lists.{lists, nodesWith};
-ghost use Rattle.reader.specs.FoundWords.{AreFound, AllCharted, ReadsWords, SaysWhether, IsReached, ReachGives, Blank, EndsThere, FirstEnd};
+ghost use Rattle.reader.specs.FoundWords.{AreFound, AllCharted, ReadsOrAsks, ReadsWords, SaysWhether, IsReached, ReachGives, Blank, EndsThere, FirstEnd};
 
 // The first of so many targets whose end the chart reaches from node 0, or their number where it reaches none.
 fn first_target(chart: &[u64], last: usize, count: usize) -> usize
@@ -150,8 +150,9 @@ fn write_reading(
     LineAnswer::Read { values: needed }
 }
 
-// Reads words that are looked up: `firsts` has the first entry of each, and `same` leads to the others.
-pub fn read_words(
+// Reads words that are looked up: `firsts` has the first entry of each, and `same` leads to the others. Where the reading is not wanted whole, it is only
+// told whether there is one: it is then answered with no values, and nothing is written.
+fn read_or_ask(
     book: &[u8],
     names: &[u16],
     types: usize,
@@ -162,11 +163,12 @@ pub fn read_words(
     words: usize,
     order: &[u64],
     targets: &[u8],
+    whole: bool,
     answer: &mut [u16],
 ) -> LineAnswer
     requires { ⌜ AreFound (now book) (now names) types (now offsets) count (now same) (now firsts) words (now order) (now targets) ⌝ }
-    ensures { λ r. ⌜ ReadsWords (now (book .entry)) (now (names .entry)) types (now (offsets .entry)) count (now (same .entry)) (now (firsts .entry)) words
-        (now (order .entry)) (now (targets .entry)) (now (answer .entry)) r (now (answer .exit)) ⌝ }
+    ensures { λ r. ⌜ ReadsOrAsks (now (book .entry)) (now (names .entry)) types (now (offsets .entry)) count (now (same .entry)) (now (firsts .entry)) words
+        (now (order .entry)) (now (targets .entry)) whole (now (answer .entry)) r (now (answer .exit)) ⌝ }
 {
     let mut simples = [0u16; MAX_NODES];
     let mut nexts = [0u16; MAX_NODES];
@@ -202,19 +204,56 @@ pub fn read_words(
             value: 0,
         };
     }
-    write_reading(
-        order,
-        &simples,
-        &nexts,
-        &froms,
-        &tos,
-        &enters,
-        &numbers,
-        &chart,
-        targets,
-        last,
-        t,
+    if whole {
+        return write_reading(
+            order,
+            &simples,
+            &nexts,
+            &froms,
+            &tos,
+            &enters,
+            &numbers,
+            &chart,
+            targets,
+            last,
+            t,
+            words,
+            answer,
+        );
+    }
+    LineAnswer::Read { values: 0 }
+}
+
+// Reads words that are looked up.
+pub fn read_words(
+    book: &[u8],
+    names: &[u16],
+    types: usize,
+    offsets: &[u16],
+    count: usize,
+    same: &[u16],
+    firsts: &[u16],
+    words: usize,
+    order: &[u64],
+    targets: &[u8],
+    answer: &mut [u16],
+) -> LineAnswer
+    requires { ⌜ AreFound (now book) (now names) types (now offsets) count (now same) (now firsts) words (now order) (now targets) ⌝ }
+    ensures { λ r. ⌜ ReadsWords (now (book .entry)) (now (names .entry)) types (now (offsets .entry)) count (now (same .entry)) (now (firsts .entry)) words
+        (now (order .entry)) (now (targets .entry)) (now (answer .entry)) r (now (answer .exit)) ⌝ }
+{
+    read_or_ask(
+        book,
+        names,
+        types,
+        offsets,
+        count,
+        same,
+        firsts,
         words,
+        order,
+        targets,
+        true,
         answer,
     )
 }
@@ -236,14 +275,8 @@ pub fn has_reading(
     ensures { λ r. ⌜ SaysWhether (now (book .entry)) (now (names .entry)) types (now (offsets .entry)) count (now (same .entry)) (now (firsts .entry)) words
         (now (order .entry)) (now (targets .entry)) r ⌝ }
 {
-    let mut simples = [0u16; MAX_NODES];
-    let mut nexts = [0u16; MAX_NODES];
-    let mut froms = [0u16; MAX_NODES];
-    let mut tos = [0u16; MAX_NODES];
-    let mut enters = [0u16; MAX_NODES];
-    let mut numbers = [0u16; MAX_NODES];
-    let mut chart = [0u64; CHART_WORDS];
-    let reach = chart_words(
+    let mut nothing = [0u16; 0];
+    let asked = read_or_ask(
         book,
         names,
         types,
@@ -254,13 +287,14 @@ pub fn has_reading(
         words,
         order,
         targets,
-        &mut simples,
-        &mut nexts,
-        &mut froms,
-        &mut tos,
-        &mut enters,
-        &mut numbers,
-        &mut chart,
+        false,
+        &mut nothing,
     );
-    reach.target < targets.len()
+    match asked {
+        LineAnswer::Read { values: _ } => true,
+        LineAnswer::Refused {
+            number: _,
+            value: _,
+        } => false,
+    }
 }

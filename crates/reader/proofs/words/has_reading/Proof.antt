@@ -1,47 +1,36 @@
--- `reader::words::has_reading` meets its contract: there is a reading exactly when the chart reaches the end of a target.
+-- `reader::words::has_reading` meets its contract: it is told that there is a reading exactly where asking is not answered with 15.
 use borrow.Author.Needs.{needs}
-use Rattle.reader.proofs.DrawnLaws.{blank}
-use Rattle.reader.proofs.ReadingLaws.{says-whether}
+use mathlib.Core.List.{[]}
+use Rattle.linking.specs.Reading.{firstReading}
+use Rattle.reader.proofs.ReadingLaws.{some-told, none-told}
 use Rattle.reader.proofs.words.has_reading.Statement.{statement}
 use Rattle.reader.proofs.words.has_reading.Tie as tie
 
-slice-aggregate-chart-words : tie.Need-slice-aggregate-chart-words
-slice-aggregate-chart-words c = search needs
+slice-aggregate-read-or-ask : tie.Need-slice-aggregate-read-or-ask
+slice-aggregate-read-or-ask c = search needs
 
-slice-aggregate-chart-words-2 : tie.Need-slice-aggregate-chart-words-2
-slice-aggregate-chart-words-2 c = search needs
+read-or-ask-requires : tie.Need-read-or-ask-requires
+read-or-ask-requires c κs = search needs
 
-slice-aggregate-chart-words-3 : tie.Need-slice-aggregate-chart-words-3
-slice-aggregate-chart-words-3 c = search needs
+enum-told : tie.Need-enum-told
+enum-told c = search needs
 
-slice-aggregate-chart-words-4 : tie.Need-slice-aggregate-chart-words-4
-slice-aggregate-chart-words-4 c = search needs
-
-slice-aggregate-chart-words-5 : tie.Need-slice-aggregate-chart-words-5
-slice-aggregate-chart-words-5 c = search needs
-
-slice-aggregate-chart-words-6 : tie.Need-slice-aggregate-chart-words-6
-slice-aggregate-chart-words-6 c = search needs
-
-slice-aggregate-chart-words-7 : tie.Need-slice-aggregate-chart-words-7
-slice-aggregate-chart-words-7 c = search needs
-
-chart-words-requires : tie.Need-chart-words-requires
-chart-words-requires c κs = (c .before .before .before .before .before .before .before .before .before .before .before .before .before .before .pre, blank)
+enum-told-2 : tie.Need-enum-told-2
+enum-told-2 c = search needs
 
 returns : tie.Need-returns
-returns c = λ le words f. says-whether (c .before .before .before .before .before .before .before .before .chart-words .ensures le words f)
+returns c = λ le words f. some-told [] (firstReading le (c .before .before .before .before .before .before .before .before .before .before .before .before .args .targets .now) words) (c .before .before .before .read-or-ask .ensures le words f) (c .enum-told .given .1)
+
+returns-2 : tie.Need-returns-2
+returns-2 c = λ le words f. none-told [] (firstReading le (c .before .before .before .before .before .before .before .before .before .before .before .before .args .targets .now) words) (c .before .before .before .read-or-ask .ensures le words f) (c .enum-told2 .given .1)
 
 pub has-reading-spec : {M : Type 1} → statement M
 has-reading-spec =
     tie.close
     (tie.spec
-    slice-aggregate-chart-words
-    slice-aggregate-chart-words-2
-    slice-aggregate-chart-words-3
-    slice-aggregate-chart-words-4
-    slice-aggregate-chart-words-5
-    slice-aggregate-chart-words-6
-    slice-aggregate-chart-words-7
-    chart-words-requires
-    returns)
+    slice-aggregate-read-or-ask
+    read-or-ask-requires
+    enum-told
+    enum-told-2
+    returns
+    returns-2)
