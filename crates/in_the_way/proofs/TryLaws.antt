@@ -11,10 +11,10 @@ use lib.Seq.{getD-set-same, getD-set-other}
 use lib.Pow.{pow-mono}
 use Rattle.pregroup.specs.Tests.{Test}
 use Rattle.format.specs.Records.{Bytes}
-use Rattle.linking.specs.Reading.{Words}
+use Rattle.linking.specs.Reading.{Words, reads}
 use Rattle.line.specs.Remaining.{without}
 use Rattle.line.proofs.Remaining.{without-length, without-known, without-brief, without-simples, without-threads}
-use Rattle.reader.specs.FoundWords.{FoundWords, SaysWhether, reads}
+use Rattle.reader.specs.FoundWords.{FoundWords, SaysWhether}
 use Rattle.in_the_way.specs.Way.{bitOf, wayFrom}
 use Rattle.in_the_way.specs.Runs.{IsWay}
 use Rattle.in_the_way.proofs.WayLaws.{way-small, way-step, way-none}

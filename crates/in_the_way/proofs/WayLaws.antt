@@ -11,9 +11,8 @@ use Rattle.bits.specs.Bits.{bit, Has}
 use Rattle.bits.proofs.BitLaws.{bit-zero, bit-suc, no-bit-past}
 use Rattle.pregroup.specs.Types.{Basic}
 use Rattle.pregroup.specs.Tests.{Test}
-use Rattle.linking.specs.Reading.{Words}
+use Rattle.linking.specs.Reading.{Words, reads}
 use Rattle.line.specs.Remaining.{without}
-use Rattle.reader.specs.FoundWords.{reads}
 use Rattle.in_the_way.specs.Way.{bitOf, wayFrom, wayOf}
 
 bit-of-small : (b : Bool) → bitOf b < 2

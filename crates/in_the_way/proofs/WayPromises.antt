@@ -19,7 +19,7 @@ use Rattle.order.proofs.ClosureLaws.{closed-is-order}
 use Rattle.format.specs.Records.{Bytes}
 use Rattle.book.specs.Format.{Book, accepted, parse}
 use Rattle.book.proofs.Accepted.{accepted-declares}
-use Rattle.linking.specs.Reading.{Words, Answer, firstReading}
+use Rattle.linking.specs.Reading.{Words, Answer, firstReading, isSome, reads}
 use Rattle.linking.specs.Ascending.{AllAscending}
 use Rattle.linking.proofs.FirstReading.{first-reading-some, first-reading-none}
 use Rattle.linking.proofs.Derivation.{reading-iff-chain}
@@ -27,7 +27,6 @@ use Rattle.line.specs.Remaining.{without, IsWithout}
 use Rattle.line.proofs.Passed.{line-passing}
 use Rattle.line.proofs.Remaining.{without-ascending, without-passes}
 use Rattle.reader.specs.Outcome.{outcome, Gives}
-use Rattle.reader.specs.FoundWords.{isSome, reads}
 use Rattle.reader.specs.Demands.{OrderOf, Readable}
 use Rattle.reader.specs.declared.LineAnswer.{LineAnswer}
 use Rattle.reader.specs.declared.LineAnswer.the-variants.{Read, Refused}

@@ -11,11 +11,10 @@ use Rattle.pregroup.specs.Tests.{Test}
 use Rattle.order.specs.Closed.{below}
 use Rattle.format.specs.Records.{Bytes}
 use Rattle.book.specs.Format.{Book, Parsed, accepted, refused, parse}
-use Rattle.linking.specs.Reading.{Words}
+use Rattle.linking.specs.Reading.{Words, reads}
 use Rattle.line.specs.LineFaults.{LineCheck, passed, stopped, lineCheck}
 use Rattle.line.specs.Remaining.{without}
 use Rattle.reader.specs.Outcome.{Outcome, outcome}
-use Rattle.reader.specs.FoundWords.{reads}
 use Rattle.reader.specs.declared.LineAnswer.{LineAnswer}
 use Rattle.reader.specs.declared.LineAnswer.the-variants.{Read, Refused}
 use Rattle.in_the_way.specs.declared.WayAnswer.{WayAnswer}

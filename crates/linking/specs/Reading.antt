@@ -1,5 +1,6 @@
 -- Document 01, "A reading": choices of a line, its readings, which of them comes first, and that one as antt computes it.
 use Prim.Native.Nat.{ℕ, suc, _<_}
+use mathlib.Core.Bool.{Bool, true, false}
 use mathlib.Core.Option.{Option, none, some, Option·map}
 use mathlib.Core.List.{List, [], _∷_, _++_, List·Memᴰ}
 use lib.ListN.{length, getD}
@@ -80,3 +81,11 @@ firstTarget none others = Option·map raised others
 unfoldable pub firstReading : Test → List Basic → Words → Option Answer
 firstReading le [] words = none
 firstReading le (s ∷ targets) words = firstTarget (firstFor le s words) (firstReading le targets words)
+
+-- Whether a line has a reading, for some target.
+abbrev pub isSome : Option Answer → Bool
+isSome none = false
+isSome (some a) = true
+
+abbrev pub reads : Test → List Basic → Words → Bool
+reads le targets words = isSome (firstReading le targets words)

@@ -15,7 +15,7 @@ use Rattle.pregroup.specs.Order.{Relation}
 use Rattle.pregroup.specs.Vanish.{Reduces}
 use Rattle.pregroup.specs.Tests.{Test}
 use Rattle.linking.specs.Linking.{firstLinking}
-use Rattle.linking.specs.Reading.{Words, Answer, answer, targetAt, Selection, firstFor, firstReading}
+use Rattle.linking.specs.Reading.{Words, Answer, answer, targetAt, Selection, firstFor, firstReading, isSome}
 use Rattle.linking.proofs.Reduction.{linking-iff-reduces}
 use Rattle.linking.proofs.Targets.{no-target-reads, first-reading-at}
 use Rattle.linking.proofs.FirstLinking.{first-linking-some, first-linking-none, first-linking-greedy}
@@ -35,7 +35,7 @@ use Rattle.answer.proofs.ValueLaws.{entry-numbers-length}
 use Rattle.reader.specs.declared.LineAnswer.{LineAnswer}
 use Rattle.reader.specs.declared.LineAnswer.the-variants.{Read, Refused}
 use Rattle.reader.specs.Outcome.{valuesOf, given, Gives}
-use Rattle.reader.specs.FoundWords.{Drawn, EndsThere, Charted, isSome, asked}
+use Rattle.reader.specs.FoundWords.{Drawn, EndsThere, Charted, asked}
 use Rattle.reader.proofs.Promises.{read-refused}
 use Rattle.reader.proofs.Brief.{laid-brief}
 use Rattle.reader.proofs.FirstFound.{FirstFound, unread-iff, first-found}

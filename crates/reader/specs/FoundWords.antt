@@ -12,7 +12,7 @@ use Rattle.pregroup.specs.Types.{Basic}
 use Rattle.pregroup.specs.Order.{Relation}
 use Rattle.pregroup.specs.Tests.{Test, Decides}
 use Rattle.pregroup.specs.Held.{InRows}
-use Rattle.linking.specs.Reading.{Words, Answer, targetAt, firstReading}
+use Rattle.linking.specs.Reading.{Words, Answer, targetAt, firstReading, reads}
 use Rattle.format.specs.Records.{Bytes, bodiesAt}
 use Rattle.lookup.specs.Entries.{simplesOfWords}
 use Rattle.lookup.specs.Threads.{Threads}
@@ -25,14 +25,6 @@ use Rattle.chart.specs.Chart.{FilledFrom}
 use Rattle.reader.specs.declared.LineAnswer.{LineAnswer}
 use Rattle.reader.specs.declared.LineAnswer.the-variants.{Read, Refused}
 use Rattle.reader.specs.Outcome.{Outcome, given, Gives}
-
--- Whether words have a reading, for some target.
-abbrev pub isSome : Option Answer → Bool
-isSome none = false
-isSome (some a) = true
-
-abbrev pub reads : Test → List Basic → Words → Bool
-reads le targets words = isSome (firstReading le targets words)
 
 -- Words that are looked up against an open book, n of them, each by the thread of its entries: they keep within 12 to 14, and the test decides the
 -- book's order. The words of a line that passes are such, and so are these without one of them.
