@@ -290,6 +290,15 @@ fn twelves(reads: bool) -> Vec<Vec<Exponents>> {
     words
 }
 
+/// Two words of which every entry contracts with every one of the other's, parted by 21 words that vanish where their number is even: the
+/// chart is small with all of them, and large without any one of them.
+fn parted_entries() -> Vec<Vec<Exponents>> {
+    let mut words = vec![vec![vec![4], vec![5]]; 21];
+    words.insert(0, vec![vec![0]; 234]);
+    words.extend([vec![vec![1]; 234], vec![vec![0]]]);
+    words
+}
+
 /// Lines of 24 words with 504 to 512 simple types in all, of which every two with fitting exponents could contract.
 pub fn hard() -> Vec<Sample> {
     let mut random = Random::new(2);
@@ -374,6 +383,7 @@ pub fn hard() -> Vec<Sample> {
             &mixed,
             Others::Equal,
         ),
+        sample("parted by an odd number, none", &parted_entries(), one),
     ]
 }
 
