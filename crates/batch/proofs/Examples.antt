@@ -23,7 +23,8 @@ use Rattle.line.specs.LineWords.{wordsFrom}
 use Rattle.lookup.specs.Capitals.{small, sameWord}
 use Rattle.line.specs.LineFaults.{byteFault, wordFault, entryFault, lineCheck}
 use Rattle.lookup.specs.Entries.{entriesFrom, simplesIn, simplesOfWords}
-use Rattle.reader.specs.Outcome.{Outcome, given, readAgainst, readParsed}
+use Rattle.words.specs.Answers.{Outcome, given}
+use Rattle.reader.specs.Outcome.{readAgainst, readParsed}
 use Rattle.reader.proofs.Table.{lineOf}
 use Rattle.batch.specs.declared.BatchAnswer.{BatchAnswer}
 use Rattle.batch.specs.declared.BatchAnswer.the-variants.{Answered, Refused}

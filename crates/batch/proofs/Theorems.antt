@@ -11,8 +11,9 @@ use Rattle.figures.specs.Refusals.{refusal, noReading, bufferTooShort, badBatch
 use Rattle.format.specs.Records.{Bytes}
 use Rattle.book.specs.Format.{Book}
 use Rattle.linking.specs.Reading.{Words}
-use Rattle.reader.specs.declared.LineAnswer.the-variants.{Refused as RefusedLine}
-use Rattle.reader.specs.Outcome.{lineReply, outcomeReply, outcome}
+use Rattle.words.specs.declared.LineAnswer.the-variants.{Refused as RefusedLine}
+use Rattle.words.specs.Answers.{lineReply, outcomeReply}
+use Rattle.reader.specs.Outcome.{outcome}
 use Rattle.reader.specs.Demands.{Readable, NoChain}
 use Rattle.book.specs.Check.{BookNumber}
 use Rattle.reader.proofs.Ample.{ample-reply, never-short}

@@ -6,7 +6,7 @@ use cases::buffer::Space;
 use cases::items::put_items;
 use cases::text::find;
 use in_the_way::WayAnswer;
-use reader::LineAnswer;
+use words::LineAnswer;
 
 // How many values there are to lend.
 pub const VALUES: usize = 512;

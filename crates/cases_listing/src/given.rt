@@ -3,7 +3,7 @@ use crate::rows::list;
 use crate::rows::listings;
 use cases::books::first_book;
 use cases::buffer::Space;
-use reader::LineAnswer;
+use words::LineAnswer;
 
 pub fn rows(buf: &mut Space) {
     refusals();

@@ -1,6 +1,7 @@
 // Listings of lines read against books: for each case a row with its name and what rendering gave, and behind it the listing.
 mod capitals;
 mod given;
+mod lengths;
 mod limits;
 mod longest;
 mod paper;
@@ -8,13 +9,12 @@ mod rooms;
 mod rows;
 mod slashes;
 mod targets;
-mod words;
 
 fn main() {
     let mut space = [0u8; cases::buffer::ROOM];
     limits::rows(&mut space);
     paper::rows(&mut space);
-    words::rows(&mut space);
+    lengths::rows(&mut space);
     capitals::rows(&mut space);
     longest::rows(&mut space);
     given::rows(&mut space);

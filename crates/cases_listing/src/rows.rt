@@ -5,7 +5,7 @@ use cases::text::find;
 use cases::text::number;
 use listing::MAX_LISTING;
 use listing::Rendered;
-use reader::LineAnswer;
+use words::LineAnswer;
 
 // How many values there are to lend.
 pub const VALUES: usize = 512;

@@ -12,14 +12,15 @@ use Rattle.bits.proofs.Cases.{less-or-not, same-or-not}
 use Rattle.format.specs.Records.{Bytes}
 use Rattle.book.specs.Format.{Book, parse}
 use Rattle.linking.specs.Reading.{Words}
-use Rattle.reader.specs.Outcome.{outcome, Gives}
-use Rattle.reader.specs.declared.LineAnswer.{LineAnswer}
-use Rattle.reader.specs.declared.LineAnswer.the-variants.{Read, Refused}
+use Rattle.words.specs.Answers.{Gives}
+use Rattle.reader.specs.Outcome.{outcome}
+use Rattle.words.specs.declared.LineAnswer.{LineAnswer}
+use Rattle.words.specs.declared.LineAnswer.the-variants.{Read, Refused}
 use Rattle.reader.proofs.Unread.{unread-line}
 use Rattle.in_the_way.specs.declared.WayAnswer.{WayAnswer}
 use Rattle.in_the_way.specs.declared.WayAnswer.the-variants.{Ordinary, NoReading}
 use Rattle.in_the_way.specs.Way.{wayParsed, told, wayOutcome}
-use Rattle.in_the_way.specs.WayDemands.{ordinary, InTheWay, WayPromised}
+use Rattle.in_the_way.specs.WayDemands.{InTheWay, WayPromised}
 use Rattle.in_the_way.proofs.WayPromises.{in-the-way, number-is, told-fifteen, told-other, told-read, other-way}
 
 -- Numbers with the same bits are the same.

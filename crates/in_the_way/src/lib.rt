@@ -6,9 +6,9 @@ use figures::limits::MAX_ENTRIES;
 use format::names::NAME_PLACES;
 use lookup::keys::NO_ENTRY;
 use lookup::keys::PLACES;
-use reader::LineAnswer;
 use reader::open_book;
-ghost use Rattle.reader.specs.Outcome.{Gives};
+use words::LineAnswer;
+ghost use Rattle.words.specs.Answers.{Gives};
 ghost use Rattle.in_the_way.specs.Way.{wayOutcome};
 ghost use Rattle.in_the_way.specs.WayDemands.{WayPromised};
 

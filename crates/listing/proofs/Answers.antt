@@ -19,8 +19,8 @@ use Rattle.line.specs.LineFaults.{entriesOf}
 use Rattle.lookup.specs.Entries.{entriesFrom}
 use Rattle.lookup.specs.Capitals.{sameWord}
 use Rattle.line.proofs.Passed.{line-passing}
-use Rattle.reader.specs.declared.LineAnswer.the-variants.{Read}
-use Rattle.reader.specs.Outcome.{valuesOf}
+use Rattle.words.specs.declared.LineAnswer.the-variants.{Read}
+use Rattle.words.specs.Answers.{valuesOf}
 use Rattle.reader.specs.Demands.{OrderOf, Readable, Promised}
 use Rattle.listing.specs.Listing.{typeOf, joined, readingRows, counted, answerRows, listing}
 

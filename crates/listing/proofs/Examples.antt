@@ -11,7 +11,7 @@ use Rattle.book.specs.Format.{add, ended, recordsFrom, parse}
 use Rattle.book.proofs.PaperBooks.{firstBook}
 use Rattle.line.specs.LineWords.{wordsFrom}
 use Rattle.line.specs.LineFaults.{byteFault, wordFault}
-use Rattle.reader.specs.declared.LineAnswer.the-variants.{Read, Refused}
+use Rattle.words.specs.declared.LineAnswer.the-variants.{Read, Refused}
 use Rattle.listing.specs.Text.{lastDigits, decimal, signed}
 use Rattle.listing.specs.Listing.{wordRows, typeRows, joined, listing}
 

@@ -16,7 +16,7 @@ use Rattle.book.specs.Format.{Entry}
 use Rattle.book.proofs.Accepted.{BookDeclares, accepted-declares}
 use Rattle.line.specs.LineWords.{wordsOf}
 use Rattle.line.proofs.Passed.{Passing, line-passing, words-few}
-use Rattle.reader.specs.declared.LineAnswer.the-variants.{Read}
+use Rattle.words.specs.declared.LineAnswer.the-variants.{Read}
 use Rattle.reader.specs.Demands.{Promised}
 use Rattle.listing.specs.Text.{decimal, signed}
 use Rattle.listing.specs.Listing.{yes, firstRow, refusalRow, typeRow, wordRows, typeOf, joined, listing, maxListing}

@@ -12,8 +12,8 @@ use Rattle.format.specs.Records.{Bytes}
 use Rattle.book.specs.Format.{Entry, Parsed, accepted, refused, parse}
 use Rattle.line.specs.LineWords.{Word, wordsOf}
 use Rattle.line.specs.LineFaults.{byteFault, wordFault}
-use Rattle.reader.specs.declared.LineAnswer.{LineAnswer}
-use Rattle.reader.specs.declared.LineAnswer.the-variants.{Read, Refused}
+use Rattle.words.specs.declared.LineAnswer.{LineAnswer}
+use Rattle.words.specs.declared.LineAnswer.the-variants.{Read, Refused}
 use Rattle.listing.specs.declared.Rendered.{Rendered}
 use Rattle.listing.specs.declared.Rendered.the-variants.{Written, TooShort}
 use Rattle.listing.specs.Text.{decimal, signed, row}

@@ -9,10 +9,5 @@ pub mod Ample
 pub mod Capitals
 pub mod Spellings
 pub mod Notations
-pub mod Selection
-pub mod Brief
-pub mod FirstFound
-pub mod ReadingLaws
-pub mod DrawnLaws
 pub mod OpeningLaws
 pub mod Theorems

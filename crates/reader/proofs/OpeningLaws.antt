@@ -24,11 +24,12 @@ use Rattle.line.specs.LineFaults.{passed, stopped, lineCheck, entriesOfLine}
 use Rattle.line.specs.LookUp.{LineSays}
 use Rattle.line.specs.declared.CheckedLine.the-variants.{Found}
 use Rattle.line.proofs.Passed.{line-passing, line-brief}
-use Rattle.reader.specs.declared.LineAnswer.{LineAnswer}
-use Rattle.reader.specs.declared.LineAnswer.the-variants.{Refused}
-use Rattle.reader.specs.Outcome.{Outcome, given, readAgainst, readParsed, outcome, Gives}
+use Rattle.words.specs.declared.LineAnswer.{LineAnswer}
+use Rattle.words.specs.declared.LineAnswer.the-variants.{Refused}
+use Rattle.words.specs.Answers.{Outcome, given, Gives}
+use Rattle.reader.specs.Outcome.{readAgainst, readParsed, outcome}
 use Rattle.reader.specs.Demands.{Promised}
-use Rattle.reader.specs.FoundWords.{FoundWords}
+use Rattle.words.specs.FoundWords.{FoundWords}
 use Rattle.reader.specs.Runs.{Open}
 use Rattle.reader.proofs.Promises.{outcome-promised}
 

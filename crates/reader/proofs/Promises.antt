@@ -25,9 +25,11 @@ use Rattle.linking.proofs.FirstReading.{first-reading-some, first-reading-none,
 use Rattle.linking.proofs.Derivation.{unread-iff-no-chain}
 use Rattle.line.specs.LineFaults.{LineCheck, passed, stopped, lineCheck}
 use Rattle.line.proofs.Passed.{line-passing}
-use Rattle.reader.specs.declared.LineAnswer.{LineAnswer}
-use Rattle.reader.specs.declared.LineAnswer.the-variants.{Read, Refused}
-use Rattle.reader.specs.Outcome.{Outcome, lineReply, valuesOf, given, readAgainst, readParsed, outcome}
+use Rattle.words.specs.declared.LineAnswer.{LineAnswer}
+use Rattle.words.specs.declared.LineAnswer.the-variants.{Read, Refused}
+use Rattle.words.proofs.ReadingLaws.{read-refused}
+use Rattle.words.specs.Answers.{Outcome, lineReply, valuesOf, given}
+use Rattle.reader.specs.Outcome.{readAgainst, readParsed, outcome}
 use Rattle.reader.specs.Demands.{OrderOf, Readable, Written, TooShort, NoChain, Promised, LineNumber}
 use Rattle.reader.proofs.Refusals.{line-some, NamedParse, parse-named, NamedLine, line-named}
 
@@ -54,9 +56,6 @@ given-is buffer (some a) = go (ltb (length buffer) (length (valuesOf a))) refl
     go : (b : Bool) → ltb (length buffer) (length (valuesOf a)) ≡ b → Given buffer (some a) (cond b short full .answer) (cond b short full .buffer)
     go true q = too-short (ltb-true (length buffer) (length (valuesOf a)) q)
     go false q = enough (ltb-false (length buffer) (length (valuesOf a)) q)
-
-pub read-refused : {C : Type 0} {n number value : ℕ} → Read n ≡ Refused number value → C
-read-refused e = let z : _≡_ {A = ℕ} 0 1 = cc in absurd (omega arith)
 
 pub other-number : {C : Type 0} {r : Reply} {n v : ℕ} → (r .number ≡ n → ⊥) → r ≡ refusal n v → C
 other-number d e = absurd (d (ap (λ (x : Reply). x .number) e))

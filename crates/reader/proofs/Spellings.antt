@@ -22,9 +22,10 @@ use Rattle.line.specs.LineWords.{wordsFrom}
 use Rattle.lookup.specs.Capitals.{small, sameWord, DifferInCase, same-rest, same-record, respelt}
 use Rattle.line.specs.LineFaults.{byteFault, wordFault, entryFault, lineCheck}
 use Rattle.lookup.specs.Entries.{entriesFrom, simplesIn, simplesOfWords}
-use Rattle.reader.specs.Outcome.{Outcome, given, readAgainst, readParsed, outcome}
-use Rattle.reader.specs.declared.LineAnswer.{LineAnswer}
-use Rattle.reader.specs.declared.LineAnswer.the-variants.{Refused}
+use Rattle.words.specs.Answers.{Outcome, given}
+use Rattle.reader.specs.Outcome.{readAgainst, readParsed, outcome}
+use Rattle.words.specs.declared.LineAnswer.{LineAnswer}
+use Rattle.words.specs.declared.LineAnswer.the-variants.{Refused}
 use Rattle.reader.proofs.Table.{lineOf, lent, expected}
 use Rattle.reader.proofs.Capitals.{same-books-outcome}
 

@@ -47,8 +47,9 @@ use Rattle.lookup.proofs.CapitalLaws.{CapitalOf, NoCapital, alike-exactly, same
 use Rattle.line.specs.LineFaults.{entriesOfLine}
 use Rattle.line.specs.Promise.{LookUpPromised}
 use Rattle.line.proofs.PromiseLaws.{look-up-kept}
-use Rattle.reader.specs.declared.LineAnswer.the-variants.{Refused}
-use Rattle.reader.specs.Outcome.{outcomeReply, outcome}
+use Rattle.words.specs.declared.LineAnswer.the-variants.{Refused}
+use Rattle.words.specs.Answers.{outcomeReply}
+use Rattle.reader.specs.Outcome.{outcome}
 use Rattle.reader.specs.Demands.{OrderOf, Readable, Promised, LineNumber}
 use Rattle.reader.proofs.Promises.{outcome-promised, refusals-within}
 use Rattle.reader.proofs.Notations.{SameWithBoth, notation-outcome}

@@ -13,12 +13,14 @@ use Rattle.format.specs.Records.{Bytes}
 use Rattle.book.specs.Format.{Book, Parsed, accepted, refused, parse}
 use Rattle.linking.specs.Reading.{Words, Answer, firstReading}
 use Rattle.line.specs.LineFaults.{LineCheck, passed, stopped, lineCheck}
-use Rattle.reader.specs.declared.LineAnswer.{LineAnswer}
-use Rattle.reader.specs.declared.LineAnswer.the-variants.{Refused}
-use Rattle.reader.specs.Outcome.{Outcome, readAgainst, readParsed, outcome}
+use Rattle.words.specs.declared.LineAnswer.{LineAnswer}
+use Rattle.words.specs.declared.LineAnswer.the-variants.{Refused}
+use Rattle.words.proofs.ReadingLaws.{read-refused}
+use Rattle.words.specs.Answers.{Outcome}
+use Rattle.reader.specs.Outcome.{readAgainst, readParsed, outcome}
 use Rattle.reader.specs.Demands.{Readable}
 use Rattle.reader.proofs.Refusals.{NamedParse, parse-named, NamedLine, line-named}
-use Rattle.reader.proofs.Promises.{read-refused, Given, no-answer, too-short, enough, given-is, outcome-read}
+use Rattle.reader.proofs.Promises.{Given, no-answer, too-short, enough, given-is, outcome-read}
 
 -- The first reading of words against a book.
 abbrev pub firstOfBook : Book → Words → Option Answer

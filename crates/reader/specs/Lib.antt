@@ -1,5 +1,4 @@
 -- What reading a line against a book comes to.
 pub mod Outcome
 pub mod Demands
-pub mod FoundWords
 pub mod Runs

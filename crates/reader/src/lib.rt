@@ -1,7 +1,6 @@
 // Reads a line against a book: the book is opened, the line split and its words looked up, the entries found laid out as a
 // graph, its chart filled, the first choice found, and its first linking written. What reading any bytes comes to is defined in specs/Outcome, and
 // what is promised of it in specs/Demands.
-use crate::words::read_words;
 use book::Scan;
 use book::records::scan_book;
 use figures::limits::MAX_ENTRIES;
@@ -14,23 +13,17 @@ use line::words::check_line;
 use lookup::keys::NO_ENTRY;
 use lookup::keys::PLACES;
 use lookup::keys::thread_entries;
+use words::LineAnswer;
+use words::read_words;
 ghost use Prim.Native.Nat.{_≤_};
 ghost use lib.ListN.{length};
 ghost use Rattle.figures.specs.Limits.{maxEntries};
 ghost use Rattle.format.specs.Names.{namePlaces};
 ghost use Rattle.lookup.specs.Threads.{NoneAlike};
-ghost use Rattle.reader.specs.Outcome.{outcome, Gives};
+ghost use Rattle.words.specs.Answers.{Gives};
+ghost use Rattle.reader.specs.Outcome.{outcome};
 ghost use Rattle.reader.specs.Demands.{Promised};
 ghost use Rattle.reader.specs.Runs.{IsOpen, OpeningSays};
-
-pub mod words;
-
-// What reading a line answers. `Read`: the buffer holds the answer, and `values` of its values are the answer's. `Refused`: the number
-// of the refusal and the value returned with it; the buffer is as it was.
-pub enum LineAnswer {
-    Read { values: usize },
-    Refused { number: u32, value: usize },
-}
 
 // What opening a book gives beside the offsets of its basic types and entries and the threads of these: what its records come to, its closed order, and its targets.
 // Rows and targets of a refused book mean nothing.
@@ -38,13 +31,6 @@ pub struct Opening {
     pub scan: Scan,
     pub rows: [u64; MAX_TYPES],
     pub targets: [u8; MAX_TARGETS],
-}
-
-// What the chart of words says: the last boundary of their graph, and the number of the first target that has a reading, or how many targets there are
-// where none has.
-pub struct Reach {
-    pub last: usize,
-    pub target: usize,
 }
 
 // Opens a book: its records are scanned, with the offsets of its basic types kept in `names` and those of its entries in `entries`, these are threaded

@@ -11,7 +11,7 @@ use Rattle.book.specs.Format.{Parsed, accepted, refused, parse}
 use Rattle.book.specs.Check.{bookCheck, answerFor, checkReply}
 use Rattle.book.specs.declared.BookCheck.{BookCheck}
 use Rattle.book.specs.declared.BookCheck.the-variants.{Accepted, Refused}
-use Rattle.reader.specs.declared.LineAnswer.the-variants.{Refused as RefusedLine}
+use Rattle.words.specs.declared.LineAnswer.the-variants.{Refused as RefusedLine}
 use Rattle.reader.specs.Outcome.{outcome}
 use Rattle.reader.proofs.Refusals.{book-some, line-some, NamedParse, parse-named}
 use Rattle.reader.proofs.Promises.{refusals-within}

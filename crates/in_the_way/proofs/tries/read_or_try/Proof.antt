@@ -9,9 +9,10 @@ use Rattle.book.specs.Format.{Book}
 use Rattle.line.specs.declared.CheckedLine.the-variants.{Found}
 use Rattle.line.specs.LineFaults.{entriesOfLine}
 use Rattle.line.specs.LookUp.{LineSays}
-use Rattle.reader.specs.Outcome.{outcome, Gives}
-use Rattle.reader.specs.FoundWords.{FoundWords, ReadsWords}
-use Rattle.reader.specs.declared.LineAnswer.{LineAnswer}
+use Rattle.words.specs.Answers.{Gives}
+use Rattle.reader.specs.Outcome.{outcome}
+use Rattle.words.specs.FoundWords.{FoundWords, ReadsWords}
+use Rattle.words.specs.declared.LineAnswer.{LineAnswer}
 use Rattle.reader.proofs.OpeningLaws.{none-same, line-found, gives-outcome}
 use Rattle.in_the_way.proofs.StepLaws.{gives-read, gives-other, gives-fifteen, gives-bad-line, way-is}
 use Rattle.in_the_way.proofs.tries.read_or_try.Statement.{statement}

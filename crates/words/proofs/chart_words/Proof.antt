@@ -1,9 +1,9 @@
--- `reader::words::chart_words` meets its contract: the graph laid out is that of the words, and the chart filled from it tells the first target that has a reading.
+-- `words::chart_words` meets its contract: the graph laid out is that of the words, and the chart filled from it tells the first target that has a reading.
 use borrow.Author.Needs.{needs}
 use native.Mathlib.Omega.{arith}
-use Rattle.reader.proofs.DrawnLaws.{found-fits, found-drawn}
-use Rattle.reader.proofs.words.chart_words.Statement.{statement}
-use Rattle.reader.proofs.words.chart_words.Tie as tie
+use Rattle.words.proofs.DrawnLaws.{found-fits, found-drawn}
+use Rattle.words.proofs.chart_words.Statement.{statement}
+use Rattle.words.proofs.chart_words.Tie as tie
 
 lay-out-requires : tie.Need-lay-out-requires
 lay-out-requires c κs = found-fits (c .before .before .before .before .before .before .before .before .before .before .before .before .before .before .before .before .before .before .before .before .pre .0 .2) (c .before .before .before .before .before .before .before .before .before .before .before .before .before .before .before .before .before .before .before .before .pre .1)

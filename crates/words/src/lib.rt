@@ -1,6 +1,4 @@
 // Words that are looked up: their graph is laid out and its chart filled, and then they are read, or only asked whether they have a reading.
-use crate::LineAnswer;
-use crate::Reach;
 use answer::write_answer;
 use bits::rows::member;
 use chart::fill;
@@ -17,7 +15,21 @@ ghost use lib.ListN.{length};
 ghost use Rattle.pregroup.specs.Held.{InRows};
 ghost use Rattle.graph.specs.Graph.{graph};
 ghost use Rattle.graph.specs.Lists.{lists, nodesWith};
-ghost use Rattle.reader.specs.FoundWords.{AreFound, AllCharted, ReadsOrAsks, ReadsWords, SaysWhether, IsReached, ReachGives, Blank, EndsThere, FirstEnd};
+ghost use Rattle.words.specs.FoundWords.{AreFound, AllCharted, ReadsOrAsks, ReadsWords, SaysWhether, IsReached, ReachGives, Blank, EndsThere, FirstEnd};
+
+// What reading answers. `Read`: the buffer holds the answer, and `values` of its values are the answer's. `Refused`: the number
+// of the refusal and the value returned with it; the buffer is as it was.
+pub enum LineAnswer {
+    Read { values: usize },
+    Refused { number: u32, value: usize },
+}
+
+// What the chart of words says: the last boundary of their graph, and the number of the first target that has a reading, or how many targets there are
+// where none has.
+pub struct Reach {
+    pub last: usize,
+    pub target: usize,
+}
 
 // The first of so many targets whose end the chart reaches from node 0, or their number where it reaches none.
 fn first_target(chart: &[u64], last: usize, count: usize) -> usize

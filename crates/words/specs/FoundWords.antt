@@ -22,9 +22,9 @@ use Rattle.graph.specs.Layout.{End, Laid}
 use Rattle.graph.specs.Cells.{Vocabulary}
 use Rattle.graph.specs.Lists.{Lists, graphOf, endAt, nodesWith, Room, Empty}
 use Rattle.chart.specs.Chart.{FilledFrom}
-use Rattle.reader.specs.declared.LineAnswer.{LineAnswer}
-use Rattle.reader.specs.declared.LineAnswer.the-variants.{Read, Refused}
-use Rattle.reader.specs.Outcome.{Outcome, given, Gives}
+use Rattle.words.specs.declared.LineAnswer.{LineAnswer}
+use Rattle.words.specs.declared.LineAnswer.the-variants.{Read, Refused}
+use Rattle.words.specs.Answers.{Outcome, given, Gives}
 
 -- Words that are looked up against an open book, n of them, each by the thread of its entries: they keep within 12 to 14, and the test decides the
 -- book's order. The words of a line that passes are such, and so are these without one of them.

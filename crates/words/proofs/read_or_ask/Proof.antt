@@ -1,10 +1,10 @@
--- `reader::words::read_or_ask` meets its contract: where the chart reaches no target there is no reading, and else the first one is written, where it is wanted.
+-- `words::read_or_ask` meets its contract: where the chart reaches no target there is no reading, and else the first one is written, where it is wanted.
 use borrow.Author.Needs.{needs}
 use native.Mathlib.Omega.{arith}
-use Rattle.reader.proofs.DrawnLaws.{blank}
-use Rattle.reader.proofs.ReadingLaws.{answers-none, answers-some}
-use Rattle.reader.proofs.words.read_or_ask.Statement.{statement}
-use Rattle.reader.proofs.words.read_or_ask.Tie as tie
+use Rattle.words.proofs.DrawnLaws.{blank}
+use Rattle.words.proofs.ReadingLaws.{answers-none, answers-some}
+use Rattle.words.proofs.read_or_ask.Statement.{statement}
+use Rattle.words.proofs.read_or_ask.Tie as tie
 
 slice-aggregate-chart-words : tie.Need-slice-aggregate-chart-words
 slice-aggregate-chart-words c = search needs

@@ -1,10 +1,10 @@
--- `reader::words::has_reading` meets its contract: it is told that there is a reading exactly where asking is not answered with 15.
+-- `words::has_reading` meets its contract: it is told that there is a reading exactly where asking is not answered with 15.
 use borrow.Author.Needs.{needs}
 use mathlib.Core.List.{[]}
 use Rattle.linking.specs.Reading.{firstReading}
-use Rattle.reader.proofs.ReadingLaws.{some-told, none-told}
-use Rattle.reader.proofs.words.has_reading.Statement.{statement}
-use Rattle.reader.proofs.words.has_reading.Tie as tie
+use Rattle.words.proofs.ReadingLaws.{some-told, none-told}
+use Rattle.words.proofs.has_reading.Statement.{statement}
+use Rattle.words.proofs.has_reading.Tie as tie
 
 slice-aggregate-read-or-ask : tie.Need-slice-aggregate-read-or-ask
 slice-aggregate-read-or-ask c = search needs

@@ -1,0 +1,6 @@
+-- Laws on reading words that are looked up.
+pub mod Selection
+pub mod Brief
+pub mod FirstFound
+pub mod ReadingLaws
+pub mod DrawnLaws
