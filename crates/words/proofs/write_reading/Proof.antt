@@ -81,7 +81,7 @@ slice-aggregate-write-answer-2 : tie.Need-slice-aggregate-write-answer-2
 slice-aggregate-write-answer-2 c = search needs
 
 shared-slice-read-write-answer : tie.Need-shared-slice-read-write-answer
-shared-slice-read-write-answer c = c .before .before .before .before .before .before .before .before .before .before .before .before .before .before .before .before .before .before .before .before .before .before .before .before .pre .1
+shared-slice-read-write-answer c = omega (arith, c .before .before .before .before .before .before .before .before .before .before .before .before .before .before .before .before .before .before .before .before .before .before .before .before .pre .1)
 
 slice-aggregate-write-answer-3 : tie.Need-slice-aggregate-write-answer-3
 slice-aggregate-write-answer-3 c = search needs
