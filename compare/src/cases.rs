@@ -16,6 +16,7 @@ mod ways;
 
 use crate::independent;
 use crate::random::Random;
+use crate::types::Refusal;
 pub use ambiguous::ambiguous;
 pub use batches::{batch, Batch};
 pub use spellings::spellings;
@@ -86,10 +87,14 @@ fn lend(random: &mut Random, kind: &'static str, mut book: Vec<u8>, mut line: Ve
     }
 }
 
+/// What a line gets with ample buffer.
+fn outcome(book: &[u8], line: &[u8]) -> Result<u64, Refusal> {
+    independent::read_line(book, line, &mut [0; AMPLE])
+}
+
 /// How many values the answer takes; for a refused line a small number.
 fn needed(book: &[u8], line: &[u8]) -> usize {
-    let outcome = independent::read_line(book, line, &mut [0; AMPLE]);
-    outcome.unwrap_or(5) as usize
+    outcome(book, line).unwrap_or(5) as usize
 }
 
 /// The words with one space between two, seldom more, and seldom spaces at

@@ -179,9 +179,8 @@ pub fn alike_words(random: &mut Random) -> Case {
 mod tests {
     use super::*;
     use crate::books::word_ranges;
-    use crate::cases::batches;
     use crate::cases::reached::{assert_reached, note, Times};
-    use crate::independent;
+    use crate::cases::{batches, outcome};
     use crate::twin::keys::key_of;
     use std::collections::BTreeMap;
 
@@ -319,7 +318,7 @@ mod tests {
 
     /// What a line reaches, where its book is accepted and its words may be looked up; with what it is answered.
     fn reached(book: &[u8], line: &[u8]) -> Vec<Reached> {
-        let outcome = independent::read_line(book, line, &mut [0; crate::cases::AMPLE]);
+        let outcome = outcome(book, line);
         if matches!(outcome, Err((1..=12 | 19..=21, _))) {
             return vec![];
         }

@@ -51,7 +51,7 @@ fn about(random: &mut Random, bound: usize) -> usize {
 }
 
 /// The first book, often with more targets.
-fn try_book(random: &mut Random) -> Records {
+pub fn try_book(random: &mut Random) -> Records {
     let mut records = first_book();
     targets::add(random, &mut records);
     records
@@ -121,13 +121,18 @@ fn entry_length(random: &mut Random) -> Made {
     (records.bytes(), line.as_bytes().to_vec())
 }
 
+/// So many words that read against the first book.
+pub fn words_that_read(random: &mut Random, count: usize) -> Vec<Vec<u8>> {
+    let mut words = vec![b"please".to_vec(); random.below(count)];
+    words.push(b"go".to_vec());
+    words.resize(count, b"urgently".to_vec());
+    words
+}
+
 /// A line of 24 or 25 words.
 fn words_of_line(random: &mut Random) -> Made {
     let count = about(random, 24);
-    let please = random.below(count);
-    let mut words = vec![b"please".to_vec(); please];
-    words.push(b"go".to_vec());
-    words.resize(count, b"urgently".to_vec());
+    let words = words_that_read(random, count);
     let line = joined(random, &words);
     (try_book(random).bytes(), line)
 }

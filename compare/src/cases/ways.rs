@@ -1,8 +1,8 @@
 //! Lines with words in the way: lines of the other kinds, and long ones, changed word by word until they have no reading.
 
-use super::{any, joined, lend, targets, Case};
-use crate::books::{first_book, word_ranges};
-use crate::independent;
+use super::borders::{try_book, words_that_read};
+use super::{any, joined, lend, outcome, Case};
+use crate::books::word_ranges;
 use crate::random::Random;
 
 /// A case that is read with the words in its way.
@@ -27,7 +27,7 @@ pub fn way(random: &mut Random) -> Way {
 /// A case of any kind, seldom one that is refused before its line is read.
 fn whole(random: &mut Random) -> Case {
     let case = any(random);
-    match outcome(&case) {
+    match outcome(&case.book, &case.line) {
         Err((15, _)) | Ok(_) => case,
         Err(_) => any(random),
     }
@@ -35,25 +35,17 @@ fn whole(random: &mut Random) -> Case {
 
 /// The paper's first book, often with more targets, and a line of up to 24 words that reads.
 fn long(random: &mut Random) -> Case {
-    let mut book = first_book();
-    targets::add(random, &mut book);
+    let book = try_book(random);
     let count = 1 + random.below(24);
-    let mut words = vec![b"please".to_vec(); random.below(count)];
-    words.push(b"go".to_vec());
-    words.resize(count, b"urgently".to_vec());
+    let words = words_that_read(random, count);
     let line = joined(random, &words);
     lend(random, "long", book.bytes(), line)
-}
-
-/// What a case gets with ample buffer.
-fn outcome(case: &Case) -> Result<u64, (u32, u64)> {
-    independent::read_line(&case.book, &case.line, &mut [0; super::AMPLE])
 }
 
 /// Changes the words of a line that reads until it does no more.
 fn spoil(random: &mut Random, case: &mut Case) {
     for _ in 0..CHANGES {
-        if outcome(case).is_err() {
+        if outcome(&case.book, &case.line).is_err() {
             return;
         }
         let mut words = words_of(&case.line);
@@ -85,6 +77,7 @@ fn change(random: &mut Random, book: &[u8], words: &mut Vec<Vec<u8>>) {
 mod tests {
     use super::*;
     use crate::cases::reached::{assert_reached, note, Times};
+    use crate::independent;
     use crate::types::InTheWay;
 
     fn told(case: &Case) -> InTheWay {
