@@ -3,6 +3,7 @@
 use bits::rows;
 use bits::rows::Row;
 use figures::limits::ROW_BITS;
+use pregroup::LinkKind;
 ghost use Prim.Native.Nat.{_+_, _<_};
 ghost use mathlib.Core.Path.{_≡_};
 ghost use mathlib.Core.Logic.{_↔_, _⊎_};
@@ -36,10 +37,10 @@ fn may_close(order: &[u64], string: &[u16], table: &[u64], i: usize, k: usize) -
     requires { ⌜ HasRow (now table) k ⌝ }
     ensures { λ r. ⌜ (r ≡ true) ↔ Closes (InRows (now (order .entry))) (now (string .entry)) (now (table .entry)) i k ⌝ }
 {
-    if pregroup::may_contract(order, string[i], string[k]) {
-        return rows::member(table, k, i + 1);
+    match pregroup::may_contract(order, string[i], string[k]) {
+        LinkKind::Not => false,
+        _ => rows::member(table, k, i + 1),
     }
-    false
 }
 
 // The nearest k that i may be linked to such that k + 1 is in row e of `ends`; `ROW_BITS` where there is none.

@@ -3,6 +3,7 @@
 use bits::rows;
 use bits::rows::Row;
 use figures::limits::ROW_BITS;
+use pregroup::LinkKind;
 ghost use mathlib.Core.Logic.{_⊎_};
 ghost use Prim.Native.Nat.{_<_};
 ghost use lib.ListN.{getD};
@@ -46,10 +47,10 @@ fn join_row(
     if next == 0 {
         return row;
     }
-    if pregroup::may_contract(order, x, simples[y]) {
-        return rows::unite(row, rows, next as usize);
+    match pregroup::may_contract(order, x, simples[y]) {
+        LinkKind::Not => row,
+        _ => rows::unite(row, rows, next as usize),
     }
-    row
 }
 
 // The row of the simple node u: itself, and what it can be linked past. The first member of the row behind u is the node behind u.

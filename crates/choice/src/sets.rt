@@ -3,6 +3,7 @@ use bits::rows;
 use bits::rows::Row;
 use figures::limits::ROW_BITS;
 use figures::limits::ROW_WORDS;
+use pregroup::LinkKind;
 ghost use mathlib.Core.Path.{_≡_};
 ghost use mathlib.Core.Logic.{_↔_, _⊎_};
 ghost use mathlib.Core.Bool.{true};
@@ -86,10 +87,10 @@ fn links_to(
     if next == 0 {
         return false;
     }
-    if pregroup::may_contract(order, x, simples[u]) {
-        return rows::member(finishing, 0, next as usize);
+    match pregroup::may_contract(order, x, simples[u]) {
+        LinkKind::Not => false,
+        _ => rows::member(finishing, 0, next as usize),
     }
-    false
 }
 
 // The nodes below `count` that a simple type x, chosen next, may be linked to: from behind them the string before it is finished.

@@ -9,5 +9,6 @@ pub mod General
 pub mod Switching
 pub mod Declared
 pub mod Decision
+pub mod LinkKinds
 pub mod Examples
 pub mod HeldLaws

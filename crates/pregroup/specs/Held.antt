@@ -4,9 +4,11 @@ use Prim.Native.Nat.{ℕ, _/_, _%_}
 use mathlib.Core.List.{List}
 use lib.ListN.{getD}
 use lib.IntN.{pos, _-ℤ_}
-use Rattle.bits.specs.Bits.{Has}
+use lib.Dec.{eqb}
+use Rattle.bits.specs.Bits.{bit, Has}
 use Rattle.pregroup.specs.Types.{Simple, _⁽_⁾}
 use Rattle.pregroup.specs.Order.{Relation}
+use Rattle.pregroup.specs.Tests.{Test}
 
 -- What is added to an exponent to hold it: `EXPONENT_BIAS` of the code.
 abbrev pub bias : ℕ
@@ -23,3 +25,7 @@ held x = lowered (x % 256) (x / 256)
 -- p ≤ q by the rows: row p has q. A row that is not there has nothing.
 unfoldable pub InRows : List ℕ → Relation
 InRows rows p q = Has (getD rows p 0) q
+
+-- The same as a test.
+unfoldable pub inRows : List ℕ → Test
+inRows rows p q = eqb (bit (getD rows p 0) q) 1

@@ -7,6 +7,8 @@ use lib.Dec.{eqb}
 use lib.IntN.{ℤ, pos, negsuc, sucℤ}
 use Rattle.pregroup.specs.Types.{Basic, Simple, PregroupType, even}
 use Rattle.pregroup.specs.Order.{Relation}
+use Rattle.pregroup.specs.declared.LinkKind.{LinkKind}
+use Rattle.pregroup.specs.declared.LinkKind.the-variants.{Not, Same, Different}
 
 abbrev pub Test : Type 0
 Test = Basic → Basic → Bool
@@ -25,6 +27,10 @@ sameExponent (negsuc m) (negsuc n) = eqb m n
 -- Whether x and y, in this order, could contract.
 unfoldable pub contracts : Test → Simple → Simple → Bool
 contracts le x y = sameExponent (y .exponent) (sucℤ (x .exponent)) && cond (even (x .exponent)) (le (x .base) (y .base)) (le (y .base) (x .base))
+
+-- Document 02, 2.7: how x and y, in this order, could contract: not, with the same basic type, or with different ones.
+unfoldable pub linkKind : Test → Simple → Simple → LinkKind
+linkKind le x y = cond (contracts le x y) (cond (eqb (x .base) (y .base)) Same Different) Not
 
 -- Whether the simple types on the stack, the last one on top, can all be closed by the rest of the string, and everything else in it
 -- links up: the first simple type of the rest closes the top one, or is put on the stack itself.

@@ -10,6 +10,15 @@ pub record Contracts (Le : Relation) (x y : Simple) : Type 0 where
   pub raised : y .exponent ≡ sucℤ (x .exponent)
   pub fits : Fits Le (x .exponent) (x .base) (y .base)
 
+-- Equality as an order: each basic type stands below itself alone.
+abbrev pub Equality : Relation
+Equality a b = a ≡ b
+
+-- Document 02, 2.7: a link through the order. x and y could contract, and could not were the order equality alone.
+pub record NeedsOrder (Le : Relation) (x y : Simple) : Type 0 where
+  pub contracts : Contracts Le x y
+  pub unequal : Contracts Equality x y → ⊥
+
 -- The empty type vanishes; so does x U y W, where x and y could contract and U and W vanish.
 pub data Vanish (Le : Relation) : PregroupType → Type 0 where
   empty : Vanish Le []

@@ -1,10 +1,11 @@
-// The pregroup calculus. Nearly all of this crate is specs/ and proofs/; its code are the tests whether two simple types could contract and
+// The pregroup calculus. Nearly all of this crate is specs/ and proofs/; its code are the tests how two simple types may contract and
 // whether one may be left over, over numbers as the layers above hold them: one for a simple type, a row of 64 bits for each basic type.
 ghost use mathlib.Core.Path.{_≡_};
 ghost use mathlib.Core.Logic.{_↔_};
 ghost use mathlib.Core.Bool.{true};
 ghost use Rattle.pregroup.specs.Vanish.{Contracts, Remains};
-ghost use Rattle.pregroup.specs.Held.{lowered, held, InRows};
+ghost use Rattle.pregroup.specs.Tests.{linkKind};
+ghost use Rattle.pregroup.specs.Held.{lowered, held, InRows, inRows};
 
 // What is added to an exponent to hold it in a byte. It is even, so that parity is kept.
 pub const EXPONENT_BIAS: u8 = 8;
@@ -28,7 +29,7 @@ pub fn hold(base: u8, raised: u8) -> u16
 }
 
 // Whether the simple types that x and y hold, in this order, could contract.
-pub fn may_contract(rows: &[u64], x: u16, y: u16) -> bool
+fn contracts(rows: &[u64], x: u16, y: u16) -> bool
     ensures { λ r. ⌜ (r ≡ true) ↔ Contracts (InRows (now (rows .entry))) (held x) (held y) ⌝ }
 {
     let earlier = x / 256;
@@ -42,6 +43,26 @@ pub fn may_contract(rows: &[u64], x: u16, y: u16) -> bool
     } else {
         stands_below(rows, b, a)
     }
+}
+
+// How two simple types, in this order, may contract: not at all, with the same basic type, or with different ones, which the order relates.
+pub enum LinkKind {
+    Not,
+    Same,
+    Different,
+}
+
+// How the simple types that x and y hold, in this order, may contract.
+pub fn may_contract(rows: &[u64], x: u16, y: u16) -> LinkKind
+    ensures { λ r. ⌜ r ≡ linkKind (inRows (now (rows .entry))) (held x) (held y) ⌝ }
+{
+    if !contracts(rows, x, y) {
+        return LinkKind::Not;
+    }
+    if x % 256 == y % 256 {
+        return LinkKind::Same;
+    }
+    LinkKind::Different
 }
 
 // Whether the simple type that x holds is plain and stands at or below the basic type s.

@@ -3,6 +3,7 @@
 use bits::rows;
 use bits::rows::Row;
 use figures::limits::ROW_BITS;
+use pregroup::LinkKind;
 ghost use Prim.Native.Nat.{suc, _+_, _<_};
 ghost use mathlib.Core.Path.{_≡_};
 ghost use mathlib.Core.Logic.{_⊎_};
@@ -19,10 +20,10 @@ fn join_row(order: &[u64], string: &[u16], table: &[u64], row: Row, i: usize, k:
     ensures { λ r. ⌜ RowSays (r .words) 0 (λ v. InRow (row .words) 0 v
         ⊎ RowJoined (ContractsAt (InRows (now (order .entry))) (now (string .entry)) k) (now (table .entry)) i v) ⌝ }
 {
-    if pregroup::may_contract(order, string[i], string[k]) {
-        return rows::unite(row, table, i);
+    match pregroup::may_contract(order, string[i], string[k]) {
+        LinkKind::Not => row,
+        _ => rows::unite(row, table, i),
     }
-    row
 }
 
 // The row behind k: the empty stretch, and what stands before each simple type that the one at k closes over what vanishes.

@@ -1,8 +1,7 @@
 -- `chart::join_row` meets its contract: nothing is joined where y is a boundary or does not contract, and otherwise the row behind it is.
 use borrow.Author.Needs.{needs}
 use native.Mathlib.Omega.{arith}
-use mathlib.Core.Path.{sym, _∙_}
-use mathlib.Core.Bool.{true≢false}
+use Rattle.pregroup.proofs.LinkKinds.{told-apart, told-contracts}
 use Rattle.bits.proofs.Gathering.{part-says, none-says}
 use Rattle.chart.proofs.join_row.Statement.{statement}
 use Rattle.chart.proofs.join_row.Tie as tie
@@ -27,6 +26,9 @@ shared-slice-read-may-contract c = search needs
 may-contract-requires : tie.Need-may-contract-requires
 may-contract-requires c κs = search needs
 
+enum-told : tie.Need-enum-told
+enum-told c = search needs
+
 cast-unite : tie.Need-cast-unite
 cast-unite c = search needs
 
@@ -35,15 +37,14 @@ unite-requires c κs = search needs
 
 returns-2 : tie.Need-returns-2
 returns-2 c =
-    let may = c .before .before .may-contract .ensures in
-    part-says (c .unite .result .words) (c .unite .ensures)
-    (λ v. (λ b. record { simple = omega arith; contracts = may .0 (c .before .if2 .taken); behind = b }, λ j. j .behind))
+    let a = c .before .before .before .before .before .before .before .before .before .before .args in
+    none-says (a .row .words) (λ v j. told-apart (a .order .now) (a .x) _ (c .before .before .may-contract .ensures) (c .enum-told .given .1) (j .contracts))
 
 returns-3 : tie.Need-returns-3
 returns-3 c =
-    let a = c .before .before .before .before .before .before .before .before .before .args in
-    let may = c .before .may-contract .ensures in
-    none-says (a .row .words) (λ v j. true≢false (sym (may .1 (j .contracts)) ∙ c .if2 .left))
+    let a = c .before .before .before .before .before .before .before .before .before .before .args in
+    let may = told-contracts (a .order .now) (a .x) _ (c .before .before .may-contract .ensures) (c .before .match .keys2) in
+    part-says (c .unite .result .words) (c .unite .ensures) (λ v. (λ b. record { simple = omega arith; contracts = may; behind = b }, λ j. j .behind))
 
 pub join-row-spec : {M : Type 1} → statement M
 join-row-spec =
@@ -55,6 +56,7 @@ join-row-spec =
     mul-may-contract
     shared-slice-read-may-contract
     may-contract-requires
+    enum-told
     cast-unite
     unite-requires
     returns-2

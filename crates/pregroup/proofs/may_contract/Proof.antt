@@ -1,43 +1,34 @@
--- `pregroup::may_contract` meets its contract: the exponents follow each other, and the rows are asked by the earlier one's parity.
+-- `pregroup::may_contract` meets its contract: the test, and then the numbers of the basic types.
 use borrow.Author.Needs.{needs}
-use mathlib.Core.Logic.{Iff·trans}
-use Rattle.pregroup.specs.Held.{InRows}
-use Rattle.pregroup.proofs.HeldLaws.{held-apart, held-even, held-odd}
-use Rattle.bits.proofs.Cases.{false-iff}
+use borrow.Author.Tests.{not-true, not-false}
+use mathlib.Core.Path.{sym, _∙_}
+use mathlib.Core.Bool.{true≢false}
+use Rattle.pregroup.specs.Held.{held}
+use Rattle.pregroup.proofs.HeldLaws.{held-base}
+use Rattle.pregroup.proofs.LinkKinds.{rows-decide, kind-not, kind-same, kind-different}
 use Rattle.pregroup.proofs.may_contract.Statement.{statement}
 use Rattle.pregroup.proofs.may_contract.Tie as tie
 
-add-if1 : tie.Need-add-if1
-add-if1 c = search needs
+contracts-requires : tie.Need-contracts-requires
+contracts-requires c κs = search needs
 
 returns : tie.Need-returns
-returns c = let a = c .before .before .args in false-iff (held-apart (InRows (a .rows .now)) (a .x) (a .y) (c .if1 .taken))
-
-cast-a : tie.Need-cast-a
-cast-a c = search needs
-
-cast-b : tie.Need-cast-b
-cast-b c = search needs
-
-stands-below-requires : tie.Need-stands-below-requires
-stands-below-requires c κs = search needs
-
-stands-below-requires-2 : tie.Need-stands-below-requires-2
-stands-below-requires-2 c κs = search needs
+returns c =
+    let a = c .before .before .before .args in
+    let asked = c .before .contracts .ensures in
+    sym (kind-not (rows-decide (a .rows .now)) (held (a .x)) (held (a .y)) .1 (λ k. true≢false (sym (asked .1 k) ∙ not-true _ (c .if1 .taken))))
 
 returns-2 : tie.Need-returns-2
 returns-2 c =
     let a = c .before .before .before .before .args in
-    Iff·trans (c .stands-below .ensures)
-    (held-even (InRows (a .rows .now)) (a .x) (a .y) (c .before .before .if1 .left) (c .before .if2 .taken))
+    let may = c .before .before .contracts .ensures .0 (not-false _ (c .before .if1 .left)) in
+    sym (kind-same (rows-decide (a .rows .now)) (held (a .x)) (held (a .y)) .1 (may, held-base (a .x) ∙ c .if2 .taken ∙ sym (held-base (a .y))))
 
 returns-3 : tie.Need-returns-3
 returns-3 c =
     let a = c .before .before .before .before .args in
-    Iff·trans (c .stands-below2 .ensures)
-    (held-odd (InRows (a .rows .now)) (a .x) (a .y) (c .before .before .if1 .left) (c .before .if2 .left))
+    let may = c .before .before .contracts .ensures .0 (not-false _ (c .before .if1 .left)) in
+    sym (kind-different (rows-decide (a .rows .now)) (held (a .x)) (held (a .y)) .1 (may, λ e. c .if2 .left (sym (held-base (a .x)) ∙ e ∙ held-base (a .y))))
 
 pub may-contract-spec : {M : Type 1} → statement M
-may-contract-spec =
-    tie.close
-    (tie.spec add-if1 returns cast-a cast-b stands-below-requires stands-below-requires-2 returns-2 returns-3)
+may-contract-spec = tie.close (tie.spec contracts-requires returns returns-2 returns-3)

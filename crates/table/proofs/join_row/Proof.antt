@@ -1,7 +1,6 @@
 -- `table::join_row` meets its contract: the row of i is joined where the two could contract, and nothing otherwise.
 use borrow.Author.Needs.{needs}
-use mathlib.Core.Path.{sym, _∙_}
-use mathlib.Core.Bool.{true≢false}
+use Rattle.pregroup.proofs.LinkKinds.{told-apart, told-contracts}
 use Rattle.bits.proofs.Gathering.{part-says, none-says}
 use Rattle.table.proofs.join_row.Statement.{statement}
 use Rattle.table.proofs.join_row.Tie as tie
@@ -21,20 +20,24 @@ shared-slice-read-may-contract-2 c = search needs
 may-contract-requires : tie.Need-may-contract-requires
 may-contract-requires c κs = search needs
 
+enum-told : tie.Need-enum-told
+enum-told c = search needs
+
 unite-requires : tie.Need-unite-requires
 unite-requires c κs = search needs
 
 returns : tie.Need-returns
 returns c =
-    let may = c .before .before .may-contract .ensures in
-    part-says (c .unite .result .words) (c .unite .ensures)
-    (λ v. (λ b. record { fits = may .0 (c .before .if1 .taken); behind = b }, λ j. j .behind))
+    let a = c .before .before .before .before .before .before .before .before .args in
+    let asked = c .before .before .may-contract .ensures in
+    none-says (a .row .words) (λ v j. told-apart (a .order .now) _ _ asked (c .enum-told .given .1) (j .fits))
 
 returns-2 : tie.Need-returns-2
 returns-2 c =
-    let a = c .before .before .before .before .before .before .before .args in
-    let may = c .before .may-contract .ensures in
-    none-says (a .row .words) (λ v j. true≢false (sym (may .1 (j .fits)) ∙ c .if1 .left))
+    let a = c .before .before .before .before .before .before .before .before .args in
+    let asked = c .before .before .may-contract .ensures in
+    part-says (c .unite .result .words) (c .unite .ensures)
+    (λ v. (λ b. record { fits = told-contracts (a .order .now) _ _ asked (c .before .match .keys2); behind = b }, λ j. j .behind))
 
 pub join-row-spec : {M : Type 1} → statement M
 join-row-spec =
@@ -45,6 +48,7 @@ join-row-spec =
     mul-may-contract-2
     shared-slice-read-may-contract-2
     may-contract-requires
+    enum-told
     unite-requires
     returns
     returns-2)

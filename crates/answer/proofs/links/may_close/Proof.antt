@@ -1,7 +1,6 @@
 -- `answer::links::may_close` meets its contract: nothing closes that does not contract, and otherwise the table is asked.
 use borrow.Author.Needs.{needs}
-use mathlib.Core.Path.{sym, _∙_}
-use mathlib.Core.Bool.{true≢false}
+use Rattle.pregroup.proofs.LinkKinds.{told-apart, told-contracts}
 use Rattle.bits.proofs.Cases.{false-iff}
 use Rattle.answer.proofs.links.may_close.Statement.{statement}
 use Rattle.answer.proofs.links.may_close.Tie as tie
@@ -21,6 +20,9 @@ shared-slice-read-may-contract-2 c = search needs
 may-contract-requires : tie.Need-may-contract-requires
 may-contract-requires c κs = search needs
 
+enum-told : tie.Need-enum-told
+enum-told c = search needs
+
 add-member : tie.Need-add-member
 add-member c = search needs
 
@@ -29,14 +31,15 @@ member-requires c κs = search needs
 
 returns : tie.Need-returns
 returns c =
-    let may = c .before .before .may-contract .ensures in
-    let member = c .member .ensures in
-    (λ h. record { contract = may .0 (c .before .if1 .taken); between = member .0 h }, λ h. member .1 (h .between))
+    let a = c .before .before .before .before .before .before .before .before .args in
+    false-iff (λ h. told-apart (a .order .now) _ _ (c .before .before .may-contract .ensures) (c .enum-told .given .1) (h .contract))
 
 returns-2 : tie.Need-returns-2
 returns-2 c =
-    let may = c .before .may-contract .ensures in
-    false-iff (λ h. true≢false (sym (may .1 (h .contract)) ∙ c .if1 .left))
+    let a = c .before .before .before .before .before .before .before .before .args in
+    let may = told-contracts (a .order .now) _ _ (c .before .before .may-contract .ensures) (c .before .match .keys2) in
+    let member = c .member .ensures in
+    (λ h. record { contract = may; between = member .0 h }, λ h. member .1 (h .between))
 
 pub may-close-spec : {M : Type 1} → statement M
 may-close-spec =
@@ -47,6 +50,7 @@ may-close-spec =
     mul-may-contract-2
     shared-slice-read-may-contract-2
     may-contract-requires
+    enum-told
     add-member
     member-requires
     returns

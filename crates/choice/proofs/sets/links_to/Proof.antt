@@ -1,8 +1,7 @@
 -- `choice::sets::links_to` meets its contract: by the three tests in turn.
 use borrow.Author.Needs.{needs}
 use native.Mathlib.Omega.{arith}
-use mathlib.Core.Path.{sym, _∙_}
-use mathlib.Core.Bool.{true≢false}
+use Rattle.pregroup.proofs.LinkKinds.{told-apart, told-contracts}
 use Rattle.bits.proofs.Cases.{false-iff}
 use Rattle.choice.specs.Sets.{LinksTo}
 use Rattle.choice.proofs.sets.links_to.Statement.{statement}
@@ -26,6 +25,9 @@ shared-slice-read-may-contract c = search needs
 may-contract-requires : tie.Need-may-contract-requires
 may-contract-requires c κs = search needs
 
+enum-told : tie.Need-enum-told
+enum-told c = search needs
+
 cast-member : tie.Need-cast-member
 cast-member c = omega (arith, c .before .before .before .before .shared-slice-known5 .given (c .before .before .before .before .before .before .before .before .before .args .u))
 
@@ -34,16 +36,15 @@ member-requires c κs = search needs
 
 returns-2 : tie.Need-returns-2
 returns-2 c =
-    let may = c .before .before .may-contract .ensures in
-    let member = c .member .ensures in (
-      λ h. record { simple = omega arith; contracts = may .0 (c .before .if2 .taken); behind = member .0 h },
-      λ l. member .1 (l .behind),
-    )
+    let a = c .before .before .before .before .before .before .before .before .before .before .args in
+    false-iff (λ l. told-apart (a .order .now) (a .x) _ (c .before .before .may-contract .ensures) (c .enum-told .given .1) (l .contracts))
 
 returns-3 : tie.Need-returns-3
 returns-3 c =
-    let may = c .before .may-contract .ensures in
-    false-iff (λ l. true≢false (sym (may .1 (l .contracts)) ∙ c .if2 .left))
+    let a = c .before .before .before .before .before .before .before .before .before .before .args in
+    let may = told-contracts (a .order .now) (a .x) _ (c .before .before .may-contract .ensures) (c .before .match .keys2) in
+    let member = c .member .ensures in
+    (λ h. record { simple = omega arith; contracts = may; behind = member .0 h }, λ l. member .1 (l .behind))
 
 pub links-to-spec : {M : Type 1} → statement M
 links-to-spec =
@@ -55,6 +56,7 @@ links-to-spec =
     mul-may-contract
     shared-slice-read-may-contract
     may-contract-requires
+    enum-told
     cast-member
     member-requires
     returns-2
