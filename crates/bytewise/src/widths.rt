@@ -1,7 +1,7 @@
 // Narrow numbers in the width that the code counts in.
 ghost use mathlib.Core.Path.{_≡_};
 ghost use Prim.Native.Nat.{_+_, _<_};
-ghost use lib.ListN.{length};
+ghost use lib.ListN.{length, getD};
 ghost use Rattle.bytewise.specs.Compare.{ReadsNumber};
 
 // A byte.
@@ -16,6 +16,16 @@ pub fn wide_number(number: u16) -> usize
     ensures { λ r. ⌜ r ≡ number ⌝ }
 {
     number as usize
+}
+
+// The number at a place of a list of 16-bit ones, 0 where the list has no such place.
+pub fn value_at(values: &[u16], at: usize) -> usize
+    ensures { λ r. ⌜ r ≡ getD (now (values .entry)) at 0 ⌝ }
+{
+    if values.len() <= at {
+        return 0;
+    }
+    wide_number(values[at])
 }
 
 // The little-endian number of the two bytes from `at` on.

@@ -1,5 +1,5 @@
 // The longest listing: 24 words of 31 bytes with entries of four digits, and 287 simple types, whose names have 15 bytes and whose exponents are
-// all negative but that of the unlinked one. Values that are no answer can be listed at greater length, for which there is no room here.
+// all negative but that of the unlinked one.
 use crate::rows::listings;
 use cases::buffer::Space;
 use cases::items::put_items;
@@ -26,8 +26,6 @@ pub fn rows(buf: &mut Space) {
           left.abcdefghijklmnopqrstuvwxyz left.abcdefghijklmnopqrstuvwxyz left.abcdefghijklmnopqrstuvwxyz left.abcdefghijklmnopqrstuvwxyz \
           middle.abcdefghijklmnopqrstuvwx right.abcdefghijklmnopqrstuvwxy right.abcdefghijklmnopqrstuvwxy right.abcdefghijklmnopqrstuvwxy \
           right.abcdefghijklmnopqrstuvwxy right.abcdefghijklmnopqrstuvwxy right.abcdefghijklmnopqrstuvwxy right.abcdefghijklmnopqrstuvwxy \
-          right.abcdefghijklmnopqrstuvwxy right.abcdefghijklmnopqrstuvwxy right.abcdefghijklmnopqrstuvwxy right.abcdefghijklmnopqrstuvwxy;\
-          longer-than-any-answer:x:32 0 30 1021 1021 1021 1021 1021 1021 1021 1021 1021 1021 1021 1021 1021 1021 1021 \
-          1021 1021 1021 1021 1021 1021 1021 1021 1021 1021 1021 1021 1021 1021 1021;",
+          right.abcdefghijklmnopqrstuvwxy right.abcdefghijklmnopqrstuvwxy right.abcdefghijklmnopqrstuvwxy right.abcdefghijklmnopqrstuvwxy;",
     );
 }

@@ -3,6 +3,7 @@ mod capitals;
 mod given;
 mod lengths;
 mod limits;
+mod links;
 mod longest;
 mod paper;
 mod rooms;
@@ -20,4 +21,5 @@ fn main() {
     given::rows(&mut space);
     targets::rows(&mut space);
     slashes::rows(&mut space);
+    links::rows(&mut space);
 }

@@ -5,10 +5,10 @@ use crate::rows::counted;
 use crate::rows::outcome;
 
 // The longest buffer that is lent.
-const LAST: usize = 26;
+const LAST: usize = 28;
 
 // How many bytes a row shows.
-const SHOWN: usize = 28;
+const SHOWN: usize = 30;
 
 // What stands in each byte before a listing is rendered.
 const MARK: u8 = b'.';

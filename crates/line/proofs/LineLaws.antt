@@ -58,7 +58,7 @@ module _ (line : Bytes) (starts ends : List ℕ) (words : ℕ) (s : SplitInto li
   abbrev pub word : ℕ → Word
   word k = wordAt line (getD {A = ℕ} starts k 0) (getD {A = ℕ} ends k 0)
 
-  words-length : length (wordsOf line) ≡ words
+  pub words-length : length (wordsOf line) ≡ words
   words-length = ap length (s .words) ∙ kept-length line starts ends words
 
   word-at : (k : ℕ) → k < words → getD (wordsOf line) k (wordAt line 0 0) ≡ word k

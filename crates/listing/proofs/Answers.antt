@@ -7,13 +7,15 @@ use mathlib.Core.Path.{_≡_, refl, sym, ap, _∙_}
 use mathlib.Core.Logic.{⊎-elim}
 use mathlib.Core.Bool.{Bool, true, false, cond}
 use mathlib.Core.List.{List, [], _∷_, _++_, map, List·Memᴰ, List·Memᴰ·not-nil, List·Memᴰ·cases-cons}
-use lib.ListN.{length, take, drop}
-use lib.Seq.{take-append-seam, drop-append-add, getD-append-seam, take-length}
+use lib.ListN.{length, getD, take, drop}
+use lib.Seq.{take-append-seam, drop-append-add, getD-append-seam, take-length, take-all}
 use Rattle.pregroup.specs.Types.{PregroupType}
-use Rattle.linking.specs.Reading.{NumberedEntry, Words, Choice, empty, IsFirst, answer}
+use Rattle.linking.specs.Reading.{NumberedEntry, Words, Choice, empty, targetAt, IsFirst, answer}
 use Rattle.linking.specs.Reading.{take as chosen-entry}
+use Rattle.order.proofs.Decision.{below-decides}
 use Rattle.format.specs.Records.{Bytes}
 use Rattle.book.specs.Format.{Entry, Book}
+use Rattle.book.proofs.Accepted.{accepted-declares}
 use Rattle.line.specs.LineWords.{Word, wordsOf}
 use Rattle.line.specs.LineFaults.{entriesOf}
 use Rattle.lookup.specs.Entries.{entriesFrom}
@@ -22,7 +24,10 @@ use Rattle.line.proofs.Passed.{line-passing}
 use Rattle.words.specs.declared.LineAnswer.the-variants.{Read}
 use Rattle.words.specs.Answers.{valuesOf}
 use Rattle.reader.specs.Demands.{OrderOf, Readable, Promised}
-use Rattle.listing.specs.Listing.{typeOf, joined, readingRows, counted, answerRows, listing}
+use Rattle.letters.specs.Letters.{t}
+use Rattle.letters.specs.Lettered.{Lettered}
+use Rattle.letters.proofs.LetterTheorems.{linking-lettered}
+use Rattle.listing.specs.Listing.{typeOf, joined, shownRows, listedType, listedLetters, readingRows, counted, answerRows, listing}
 
 -- An entry of a word, by its number: n entries stand before these.
 abbrev Typed : ℕ → List Entry → NumberedEntry → Type 0
@@ -81,12 +86,11 @@ module _ (target : ℕ) (entries partners : List ℕ) where
       let behind = ap (λ (n : ℕ). drop n values) (sym (add-one (length entries))) ∙ drop-append-add entries (length partners ∷ partners) 1 in
       rw (getD-append-seam entries (length partners) partners 0) (ap (take (length partners)) behind ∙ take-length partners)
 
-  answer-rows : (names : List Bytes) (of-book : List Entry) (words : List Word)
-      → answerRows names of-book words (valuesOf (answer target entries partners)) ≡ readingRows names of-book words target entries partners
-  answer-rows names of-book words =
+  answer-rows : (B : Book) (words : List Word) → answerRows B words (valuesOf (answer target entries partners)) ≡ readingRows B words target entries partners
+  answer-rows B words =
       let values = valuesOf (answer target entries partners) in
-      ap (λ (chosen : List ℕ). readingRows names of-book words target chosen (counted values (suc (suc (length chosen))))) entries-counted
-      ∙ ap (readingRows names of-book words target entries) partners-counted
+      ap (λ (chosen : List ℕ). readingRows B words target chosen (counted values (suc (suc (length chosen))))) entries-counted
+      ∙ ap (readingRows B words target entries) partners-counted
 
 -- The listing of a reading.
 pub record ListsReading (book line text : Bytes) : Type 0 where
@@ -100,11 +104,13 @@ pub record ListsReading (book line text : Bytes) : Type 0 where
   pub readable : Readable book line contents words
   pub first : IsFirst (OrderOf contents) (contents .targets) words target entries partners
   pub chosen : Choice words entries type
-  -- Each word has an entry, each simple type a partner, and the simple types are those of the entries.
+  -- Each word has an entry, each simple type a partner, and the simple types that are listed are those of the choice.
   pub entry-each : length entries ≡ length (wordsOf line)
   pub partner-each : length partners ≡ length type
-  pub joins : joined (contents .entries) entries ≡ type
-  pub rows : text ≡ readingRows (contents .names) (contents .entries) (wordsOf line) target entries partners
+  pub joins : listedType contents (wordsOf line) entries ≡ type
+  -- Each row of a simple type ends with the letter of its link: `t` exactly where the link needs the order.
+  pub lettered : Lettered (OrderOf contents) (targetAt (contents .targets) target) type partners (λ i. getD {A = ℕ} (listedLetters contents target type partners) i t)
+  pub rows : text ≡ shownRows (contents .names) (wordsOf line) target entries type (listedLetters contents target type partners) partners
 
 -- What is promised of an answer makes its listing that of the first reading.
 pub answer-listed : (book line : Bytes) (buffer after : List ℕ) (n : ℕ) → Promised book line buffer (Read n) after → ListsReading book line (listing book line (Read n) after)
@@ -115,6 +121,8 @@ answer-listed book line buffer after n p =
     let passes = line-passing B line (a .1) (a .2 .line-passed) in
     let reading = w .first .reading in
     let each = choice-joined B (reading .chosen) (wordsOf line) (passes .words-are) in
+    let joins : listedType B (wordsOf line) (w .entries) ≡ reading .type = ap (joined (B .entries)) (take-all (length (wordsOf line)) (w .entries) (omega (arith, each .1))) ∙ each .0 in
+    let shown : PregroupType → Bytes = λ X. shownRows (B .names) (wordsOf line) (w .target) (w .entries) X (listedLetters B (w .target) X (w .partners)) (w .partners) in
     record {
       contents = B;
       words = a .1;
@@ -127,6 +135,7 @@ answer-listed book line buffer after n p =
       chosen = reading .chosen;
       entry-each = each .1;
       partner-each = reading .linking .count;
-      joins = each .0;
-      rows = rw (a .2 .book-accepted, passes .bytes-fine, passes .words-fine, w .whole) (answer-rows (w .target) (w .entries) (w .partners) (B .names) (B .entries) (wordsOf line));
+      joins = joins;
+      lettered = linking-lettered (below-decides (length (B .names)) (B .pairs) (accepted-declares book B (a .2 .book-accepted) .pairs)) (reading .linking);
+      rows = rw (a .2 .book-accepted, passes .bytes-fine, passes .words-fine, w .whole) (answer-rows (w .target) (w .entries) (w .partners) B (wordsOf line)) ∙ ap shown joins;
     }

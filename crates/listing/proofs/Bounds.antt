@@ -1,25 +1,26 @@
 -- The places of a whole listing can be counted: numbers of 64 bits have few digits, names and words are short, and there are not many rows.
-use Prim.Native.Nat.{ℕ, suc, _+_, _*_, _≤_, _<_}
+use Prim.Native.Nat.{ℕ, zero, suc, _+_, _*_, _≤_, _<_}
 use native.Mathlib.Omega.{arith}
+use mathlib.Core.Path.{_≡_, refl}
 use mathlib.Core.Logic.{_⊎_, inl, inr}
-use mathlib.Core.List.{List, [], List·Memᴰ}
-use lib.ListN.{length, getD, drop, length-take, length-drop, List·getD-eq-default}
+use mathlib.Core.List.{List, [], _∷_, List·Memᴰ, List·Memᴰ·head, List·Memᴰ·tail}
+use mathlib.Core.Option.{none}
+use lib.ListN.{length, getD, take, drop, length-take, List·getD-eq-default}
 use lib.Seq.{getD-take, getD-drop}
-use Rattle.figures.specs.Limits.{maxBook, maxEntrySimples}
+use Rattle.figures.specs.Limits.{maxName, maxWords, maxString}
 use Rattle.bits.proofs.Cases.{less-or-not}
 use Rattle.pregroup.specs.Types.{Simple}
-use Rattle.format.specs.Records.{Bytes, bodyAt, twoBytes, bodiesAt}
-use Rattle.book.specs.Format.{Entry}
-use Rattle.book.specs.Kept.{entriesAt}
-use Rattle.line.specs.LineWords.{wordsOf}
+use Rattle.format.specs.Records.{Bytes}
+use Rattle.book.specs.Format.{Entry, Book, accepted, parse}
+use Rattle.book.proofs.Accepted.{BookDeclares, accepted-declares}
+use Rattle.line.specs.LineWords.{Word}
+use Rattle.line.specs.LineFaults.{wordFault}
 use Rattle.line.proofs.Passed.{words-few}
 use Rattle.listing.specs.Text.{decimal, signed}
-use Rattle.listing.specs.Listing.{yes, no, refusalRow, typeRow, wordRows, typeOf, joined, readingRows, counted, answerRows}
+use Rattle.listing.specs.Listing.{yes, no, refusalRow, typeRow, wordRows, typeOf, shownRows, listedType, counted}
 use Rattle.listing.specs.Placed.{placeBound, Countable}
-use Rattle.listing.specs.Parts.{BookKept, LineKept}
 use Rattle.listing.proofs.Decimals.{decimal-length}
-use Rattle.listing.proofs.PartLaws.{name-at, no-name, type-at, no-type}
-use Rattle.listing.proofs.Lengths.{row-of-three, row-of-four, word-rows-within, type-rows-within, TypeShort, empty-short, listed-type-short, joined-within, reading-length}
+use Rattle.listing.proofs.Lengths.{row-of-three, row-of-four, row-of-five, word-rows-within, type-rows-within, TypeShort, empty-short, listed-type-short, joined-within, shown-length}
 
 -- A number of 64 bits has at most 20 digits.
 decimal-short : (n : ℕ) → n < placeBound → length (decimal n) ≤ 20
@@ -38,88 +39,78 @@ Narrow values = (i : ℕ) → getD {A = ℕ} values i 0 < 65536
 
 -- The values behind a count are as narrow as all, and no more than it says.
 module _ (values : List ℕ) (narrow : Narrow values) (at : ℕ) where
-  narrow-counted : Narrow (counted values at)
+  pub narrow-counted : Narrow (counted values at)
   narrow-counted i = by (less-or-not i (getD {A = ℕ} values at 0))
     where
       by : (i < getD {A = ℕ} values at 0) ⊎ (getD {A = ℕ} values at 0 ≤ i) → getD {A = ℕ} (counted values at) i 0 < 65536
       by (inl h) = rw (getD-take (getD {A = ℕ} values at 0) (drop (suc at) values) i 0 h, getD-drop (suc at) values i 0) (narrow (suc at + i))
       by (inr h) = rw (List·getD-eq-default (counted values at) 0 {n = i} (omega (arith, length-take (getD {A = ℕ} values at 0) (drop (suc at) values)))) (omega arith)
 
-  few-counted : length (counted values at) < 65536
+  pub few-counted : length (counted values at) < 65536
   few-counted = omega (arith, length-take (getD {A = ℕ} values at 0) (drop (suc at) values), narrow at)
 
--- The whole listing of a reading.
-module _ (book : Bytes) (names : List ℕ) (types : ℕ) (offsets : List ℕ) (count : ℕ) (kept : BookKept book names types offsets count) where
-  body-short : (at : ℕ) → length (bodyAt book at) ≤ maxBook
-  body-short at = omega (arith, length-take (twoBytes book at) (drop (at + 4) book), length-drop (at + 4) book, kept .short)
+-- What holds of all of a list, and of what counts where nothing is there, holds at every place.
+pub at-each : {A : Type 0} (P : A → Type 0) (l : List A) (d : A) → P d → ((x : A) → List·Memᴰ x l → P x) → (i : ℕ) → P (getD l i d)
+at-each P [] d default all i = default
+at-each P (x ∷ l) d default all zero = all x (List·Memᴰ·head refl)
+at-each P (x ∷ l) d default all (suc i) = at-each P l d default (λ y m. all y (List·Memᴰ·tail m)) i
 
-  names-short : (i : ℕ) → length (getD {A = Bytes} (bodiesAt book names types) i []) ≤ maxBook
-  names-short i = by (less-or-not i types)
-    where
-      by : (i < types) ⊎ (types ≤ i) → length (getD {A = Bytes} (bodiesAt book names types) i []) ≤ maxBook
-      by (inl h) = rw (← name-at book names types (kept .named .whole) i h) (body-short (getD {A = ℕ} names i 0))
-      by (inr h) = rw (← no-name book names types (kept .named .whole) i h) (omega arith)
+-- The names and types of an accepted book, and the simple types that are listed for words that break no rule.
+module _ (book : Bytes) (B : Book) (parsed : parse book ≡ accepted B) where
+  pub declares : BookDeclares B
+  declares = accepted-declares book B parsed
 
-  types-short : (number : ℕ) → TypeShort 2 (typeOf (entriesAt book (bodiesAt book names types) offsets count) number)
-  types-short number = by (less-or-not number count)
-    where
-      by : (number < count) ⊎ (count ≤ number) → TypeShort 2 (typeOf (entriesAt book (bodiesAt book names types) offsets count) number)
-      by (inl h) =
-          let formed = kept .lexicon .formed number h in
-          rw (type-at book (bodiesAt book names types) offsets count (kept .lexicon .entries) number h) (listed-type-short _ (formed .short) (formed .listed))
-      by (inr h) = rw (no-type book (bodiesAt book names types) offsets count (kept .lexicon .entries) number h) (empty-short 2)
+  pub name-short : (i : ℕ) → length (getD {A = Bytes} (B .names) i []) ≤ maxName
+  name-short = at-each (λ (name : Bytes). length name ≤ maxName) (B .names) [] (omega arith) (declares .names-short)
 
-  module _ (line : Bytes) (starts ends : List ℕ) (words : ℕ) (l : LineKept line starts ends words) where
-    module _ (target : ℕ) (chosen partners : List ℕ) (t : target < 65536) (c : Narrow chosen) (p : Narrow partners) (few : length chosen < 65536) where
-      abbrev all-names : List Bytes
-      all-names = bodiesAt book names types
+  type-short : (number : ℕ) → TypeShort 2 (typeOf (B .entries) number)
+  type-short =
+      at-each (λ (x : Entry). TypeShort 2 (x .type)) (B .entries) (record { word = []; type = [] })
+      (empty-short 2)
+      (λ x m. listed-type-short (x .type) (declares .short x m) (declares .exponents-listed x m))
 
-      abbrev of-book : List Entry
-      of-book = entriesAt book (bodiesAt book names types) offsets count
+  module _ (words : List Word) (fine : wordFault 0 words ≡ none) (chosen : List ℕ) where
+    pub few-words : length words ≤ maxWords
+    few-words = omega (arith, words-few 0 words (omega arith) fine)
 
-      few-simples : length (joined of-book chosen) ≤ length chosen * maxEntrySimples
-      few-simples = joined-within 2 of-book types-short chosen .0
+    pub few-simples : length (listedType B words chosen) ≤ maxString
+    few-simples = omega (arith, joined-within 2 (B .entries) type-short (take (length words) chosen) .0, length-take (length words) chosen, few-words)
 
-      -- With a name no longer than a book.
-      type-row-short : (j : ℕ) (x : Simple) → j < length (joined of-book chosen) → List·Memᴰ x (joined of-book chosen)
-          → length (typeRow (suc j) (getD {A = Bytes} all-names (x .base) []) (x .exponent) (getD {A = ℕ} partners j 0)) ≤ 65552
-      type-row-short j x h m =
+    pub exponent-short : (x : Simple) → List·Memᴰ x (listedType B words chosen) → length (signed (x .exponent)) ≤ 2
+    exponent-short = joined-within 2 (B .entries) type-short (take (length words) chosen) .1
+
+    -- The rows of values that are any numbers of 16 bits, with any letters.
+    module _ (target : ℕ) (letters partners : List ℕ) (small : target < 65536) (c : Narrow chosen) (p : Narrow partners) where
+      type-row-short : (j letter : ℕ) (x : Simple) → j < length (listedType B words chosen) → List·Memᴰ x (listedType B words chosen)
+          → length (typeRow (suc j) (getD {A = Bytes} (B .names) (x .base) []) (x .exponent) (getD {A = ℕ} partners j 0) letter) ≤ 31
+      type-row-short j letter x h m =
           let partner = getD {A = ℕ} partners j 0 in
           omega (
             arith,
-            row-of-four (decimal (suc j)) (getD {A = Bytes} all-names (x .base) []) (signed (x .exponent)) (decimal partner),
-            decimal-length 5 (suc j) (omega (arith, few-simples)),
-            names-short (x .base),
-            joined-within 2 of-book types-short chosen .1 x m,
+            row-of-five (decimal (suc j)) (getD {A = Bytes} (B .names) (x .base) []) (signed (x .exponent)) (decimal partner) (letter ∷ []),
+            decimal-length 2 (suc j) (omega (arith, few-simples)),
+            name-short (x .base),
+            exponent-short x m,
             decimal-length 4 partner (omega (arith, p j)),
           )
 
-      word-rows-short : length (wordRows chosen 0 (wordsOf line)) ≤ length (wordsOf line) * 41
-      word-rows-short =
-          word-rows-within 41 chosen (λ i. omega (arith, decimal-length 4 (getD {A = ℕ} chosen i 0) (omega (arith, c i)))) 0
-          (wordsOf line) (l .split .words-fine)
+      word-rows-short : length (wordRows chosen 0 words) ≤ length words * 41
+      word-rows-short = word-rows-within 41 chosen (λ i. omega (arith, decimal-length 4 (getD {A = ℕ} chosen i 0) (omega (arith, c i)))) 0 words fine
 
-      reading-countable : length partners < placeBound → Countable 0 (readingRows all-names of-book (wordsOf line) target chosen partners)
-      reading-countable many =
+      pub shown-countable : length chosen < placeBound → length partners < placeBound
+          → Countable 0 (shownRows (B .names) words target chosen (listedType B words chosen) letters partners)
+      shown-countable many more =
           record {
             small = omega (
               arith,
-              reading-length all-names of-book (wordsOf line) target chosen partners,
+              shown-length (B .names) words target chosen (listedType B words chosen) letters partners,
               row-of-four yes (decimal (length chosen)) (decimal (length partners)) (decimal target),
-              decimal-short (length chosen) (omega arith),
-              decimal-short (length partners) many,
+              decimal-short (length chosen) many,
+              decimal-short (length partners) more,
               decimal-short target (omega arith),
               word-rows-short,
-              words-few 0 (wordsOf line) (omega arith) (l .split .words-fine),
-              type-rows-within 65552 all-names partners 0 (joined of-book chosen) (λ j x h m. type-row-short j x (omega arith) m),
+              few-words,
+              type-rows-within 31 (B .names) letters partners 0 (listedType B words chosen) (λ j l x h m. type-row-short j l x (omega arith) m),
               few-simples,
             );
           }
-
-    pub values-countable : (values : List ℕ) → Narrow values
-        → Countable 0 (answerRows (bodiesAt book names types) (entriesAt book (bodiesAt book names types) offsets count) (wordsOf line) values)
-    values-countable values n =
-        let chosen = counted values 1 in
-        let behind = suc (suc (length chosen)) in
-        reading-countable (getD {A = ℕ} values 0 0) chosen (counted values behind) (n 0) (narrow-counted values n 1) (narrow-counted values n behind)
-        (few-counted values n 1) (omega (arith, few-counted values n behind))

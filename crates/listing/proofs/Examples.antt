@@ -3,6 +3,10 @@ use Prim.Native.Nat.{ℕ}
 use mathlib.Core.Path.{_≡_, refl}
 use mathlib.Core.List.{List, [], _∷_, _++_}
 use lib.IntN.{negsuc}
+use Rattle.pregroup.specs.Types.{even}
+use Rattle.pregroup.specs.Tests.{sameExponent, contracts, linkKind}
+use Rattle.order.specs.Closed.{below}
+use Rattle.letters.specs.Letters.{e, t, letters}
 use Rattle.format.specs.Records.{every, twoBytes, sameBytes}
 use Rattle.format.specs.Names.{nameByte, isName, numberOf}
 use Rattle.rules.specs.Layouts.{exponentOf, simplesOf, isWorded, isEntry}
@@ -31,7 +35,7 @@ minus-8 : signed (negsuc 7) ≡ 45 ∷ 56 ∷ []
 unfolding lastDigits
 minus-8 = refl
 
--- "fetch bed4 ward7": the rows that document 01 shows, for its answer with a value behind it.
+-- "fetch bed4 ward7": the rows that document 01 shows, for its answer with a value behind it, and the letters: `t` in the rows of w and u.
 abbrev fetch-bed4-ward7 : List ℕ
 fetch-bed4-ward7 = 102 ∷ 101 ∷ 116 ∷ 99 ∷ 104 ∷ 32 ∷ 98 ∷ 101 ∷ 100 ∷ 52 ∷ 32 ∷ 119 ∷ 97 ∷ 114 ∷ 100 ∷ 55 ∷ []
 
@@ -40,12 +44,12 @@ first-case : listing firstBook fetch-bed4-ward7 (Read 11) (0 ∷ 3 ∷ 1 ∷ 2 �
     ++ (49 ∷ 32 ∷ 102 ∷ 101 ∷ 116 ∷ 99 ∷ 104 ∷ 32 ∷ 49 ∷ 10 ∷ [])
     ++ (50 ∷ 32 ∷ 98 ∷ 101 ∷ 100 ∷ 52 ∷ 32 ∷ 50 ∷ 10 ∷ [])
     ++ (51 ∷ 32 ∷ 119 ∷ 97 ∷ 114 ∷ 100 ∷ 55 ∷ 32 ∷ 51 ∷ 10 ∷ [])
-    ++ (49 ∷ 32 ∷ 111 ∷ 32 ∷ 48 ∷ 32 ∷ 49 ∷ 10 ∷ [])
-    ++ (50 ∷ 32 ∷ 119 ∷ 32 ∷ 45 ∷ 49 ∷ 32 ∷ 53 ∷ 10 ∷ [])
-    ++ (51 ∷ 32 ∷ 112 ∷ 32 ∷ 45 ∷ 49 ∷ 32 ∷ 52 ∷ 10 ∷ [])
-    ++ (52 ∷ 32 ∷ 112 ∷ 32 ∷ 48 ∷ 32 ∷ 51 ∷ 10 ∷ [])
-    ++ (53 ∷ 32 ∷ 117 ∷ 32 ∷ 48 ∷ 32 ∷ 50 ∷ 10 ∷ [])
-unfolding lastDigits wordRows typeRows joined every twoBytes nameByte isName exponentOf simplesOf isWorded isEntry exponentListed sameBytes numberOf bodyRules recordRules firstBroken add ended recordsFrom parse wordsFrom byteFault wordFault
+    ++ (49 ∷ 32 ∷ 111 ∷ 32 ∷ 48 ∷ 32 ∷ 49 ∷ 32 ∷ e ∷ 10 ∷ [])
+    ++ (50 ∷ 32 ∷ 119 ∷ 32 ∷ 45 ∷ 49 ∷ 32 ∷ 53 ∷ 32 ∷ t ∷ 10 ∷ [])
+    ++ (51 ∷ 32 ∷ 112 ∷ 32 ∷ 45 ∷ 49 ∷ 32 ∷ 52 ∷ 32 ∷ e ∷ 10 ∷ [])
+    ++ (52 ∷ 32 ∷ 112 ∷ 32 ∷ 48 ∷ 32 ∷ 51 ∷ 32 ∷ e ∷ 10 ∷ [])
+    ++ (53 ∷ 32 ∷ 117 ∷ 32 ∷ 48 ∷ 32 ∷ 50 ∷ 32 ∷ t ∷ 10 ∷ [])
+unfolding lastDigits wordRows typeRows joined letters linkKind contracts sameExponent even below every twoBytes nameByte isName exponentOf simplesOf isWorded isEntry exponentListed sameBytes numberOf bodyRules recordRules firstBroken add ended recordsFrom parse wordsFrom byteFault wordFault
 first-case = refl
 
 -- "no 16 7".

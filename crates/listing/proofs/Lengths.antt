@@ -21,8 +21,9 @@ use Rattle.book.specs.Format.{Entry}
 use Rattle.line.specs.LineWords.{Word}
 use Rattle.line.specs.LineFaults.{wordFault}
 use Rattle.line.proofs.Passed.{word-fine}
+use Rattle.letters.specs.Letters.{t}
 use Rattle.listing.specs.Text.{decimal, signed, row}
-use Rattle.listing.specs.Listing.{firstRow, wordRow, typeRow, wordRows, typeRows, typeOf, joined, readingRows}
+use Rattle.listing.specs.Listing.{firstRow, wordRow, typeRow, wordRows, typeRows, typeOf, joined, shownRows}
 use Rattle.listing.proofs.Decimals.{decimal-length}
 
 -- A byte behind each field.
@@ -31,6 +32,9 @@ row-of-three a b c = omega (arith, length-append a (32 ∷ row (b ∷ c ∷ []))
 
 pub row-of-four : (a b c d : Bytes) → length (row (a ∷ b ∷ c ∷ d ∷ [])) ≡ length a + length b + length c + length d + 4
 row-of-four a b c d = omega (arith, length-append a (32 ∷ row (b ∷ c ∷ d ∷ [])), row-of-three b c d)
+
+pub row-of-five : (a b c d f : Bytes) → length (row (a ∷ b ∷ c ∷ d ∷ f ∷ [])) ≡ length a + length b + length c + length d + length f + 5
+row-of-five a b c d f = omega (arith, length-append a (32 ∷ row (b ∷ c ∷ d ∷ f ∷ [])), row-of-four b c d f)
 
 -- Rows of at most so many bytes each. The number of a word takes at most 2, the word 31.
 module _ (most : ℕ) where
@@ -52,19 +56,21 @@ module _ (most : ℕ) where
         word-rows-within chosen short (suc k) words (rw add-one at (fine .2)),
       )
 
-  pub type-rows-within : (names : List Bytes) (partners : List ℕ) (k : ℕ) (X : PregroupType)
-      → ((j : ℕ) (x : Simple) → j < k + length X → List·Memᴰ x X
-      → length (typeRow (suc j) (getD {A = Bytes} names (x .base) []) (x .exponent) (getD {A = ℕ} partners j 0)) ≤ most)
-      → length (typeRows names partners k X) ≤ length X * most
+  pub type-rows-within : (names : List Bytes) (letters partners : List ℕ) (k : ℕ) (X : PregroupType)
+      → ((j letter : ℕ) (x : Simple) → j < k + length X → List·Memᴰ x X
+      → length (typeRow (suc j) (getD {A = Bytes} names (x .base) []) (x .exponent) (getD {A = ℕ} partners j 0) letter) ≤ most)
+      → length (typeRows names letters partners k X) ≤ length X * most
   unfolding typeRows
-  type-rows-within names partners k [] short = omega arith
-  type-rows-within names partners k (x ∷ X) short =
+  type-rows-within names letters partners k [] short = omega arith
+  type-rows-within names letters partners k (x ∷ X) short =
+      let letter = getD {A = ℕ} letters (suc k) t in
+      let here = typeRow (suc k) (getD {A = Bytes} names (x .base) []) (x .exponent) (getD {A = ℕ} partners k 0) letter in
       omega (
         arith,
         suc-mul (length X) most,
-        length-append (typeRow (suc k) (getD {A = Bytes} names (x .base) []) (x .exponent) (getD {A = ℕ} partners k 0)) (typeRows names partners (suc k) X),
-        short k x (omega arith) (List·Memᴰ·head refl),
-        type-rows-within names partners (suc k) X (λ j y h m. short j y (omega arith) (List·Memᴰ·tail m)),
+        length-append here (typeRows names letters partners (suc k) X),
+        short k letter x (omega arith) (List·Memᴰ·head refl),
+        type-rows-within names letters partners (suc k) X (λ j c y h m. short j c y (omega arith) (List·Memᴰ·tail m)),
       )
 
 -- The type of an entry, with exponents of at most so many bytes.
@@ -102,10 +108,10 @@ joined-within most entries short (number ∷ chosen) =
       λ x m. ⊎-elim (λ k. short number .signs x k) (λ k. rest .1 x k) (List·Memᴰ·append-cases (typeOf entries number) m),
     )
 
-pub reading-length : (names : List Bytes) (entries : List Entry) (words : List Word) (target : ℕ) (chosen partners : List ℕ)
-    → length (readingRows names entries words target chosen partners)
-    ≡ length (firstRow (length chosen) (length partners) target) + length (wordRows chosen 0 words) + length (typeRows names partners 0 (joined entries chosen))
-reading-length names entries words target chosen partners =
+pub shown-length : (names : List Bytes) (words : List Word) (target : ℕ) (chosen : List ℕ) (string : PregroupType) (letters partners : List ℕ)
+    → length (shownRows names words target chosen string letters partners)
+    ≡ length (firstRow (length chosen) (length partners) target) + length (wordRows chosen 0 words) + length (typeRows names letters partners 0 string)
+shown-length names words target chosen string letters partners =
     let of-words = wordRows chosen 0 words in
-    let of-types = typeRows names partners 0 (joined entries chosen) in
+    let of-types = typeRows names letters partners 0 string in
     omega (arith, length-append (firstRow (length chosen) (length partners) target) (of-words ++ of-types), length-append of-words of-types)

@@ -2,6 +2,7 @@ pub mod Placing
 pub mod Decimals
 pub mod Fields
 pub mod PartLaws
+pub mod StringLaws
 pub mod RowLaws
 pub mod Lengths
 pub mod Bounds

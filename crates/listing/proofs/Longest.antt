@@ -1,36 +1,29 @@
 -- `maxListing` bytes are enough for the listing of whatever `read_line` answers: a row's fields are as short as the limits of books and lines make
 -- them.
-use Prim.Native.Nat.{ℕ, zero, suc, _-_, _*_, _≤_, _<_}
+use Prim.Native.Nat.{ℕ, suc, _-_, _*_, _≤_, _<_}
 use native.Mathlib.Omega.{arith}
-use mathlib.Core.Path.{_≡_, refl, ap}
+use mathlib.Core.Path.{_≡_, ap}
 use mathlib.Core.Logic.{_⊎_, inl, inr}
-use mathlib.Core.List.{List, [], _∷_, List·Memᴰ, List·Memᴰ·head, List·Memᴰ·tail}
+use mathlib.Core.List.{List, [], _∷_, List·Memᴰ}
 use lib.ListN.{length, getD, List·getD-eq-default}
-use Rattle.figures.specs.Limits.{maxEntries, maxName, maxWords, maxString}
+use Rattle.figures.specs.Limits.{maxEntries, maxWords, maxString}
 use Rattle.bits.proofs.Cases.{less-or-not}
 use Rattle.pregroup.specs.Types.{Basic, Simple, PregroupType}
 use Rattle.pregroup.specs.Order.{Relation}
 use Rattle.linking.specs.Linking.{IsLinking}
 use Rattle.format.specs.Records.{Bytes}
-use Rattle.book.specs.Format.{Entry}
-use Rattle.book.proofs.Accepted.{BookDeclares, accepted-declares}
+use Rattle.book.specs.Format.{Book, accepted, parse}
 use Rattle.line.specs.LineWords.{wordsOf}
-use Rattle.line.proofs.Passed.{Passing, line-passing, words-few}
+use Rattle.line.proofs.Passed.{Passing, line-passing}
 use Rattle.words.specs.declared.LineAnswer.the-variants.{Read}
 use Rattle.reader.specs.Demands.{Promised}
 use Rattle.listing.specs.Text.{decimal, signed}
-use Rattle.listing.specs.Listing.{yes, firstRow, refusalRow, typeRow, wordRows, typeOf, joined, listing, maxListing}
+use Rattle.listing.specs.Listing.{yes, firstRow, refusalRow, typeRow, wordRows, listedLetters, listing, maxListing}
 use Rattle.listing.specs.Placed.{placeBound}
 use Rattle.listing.proofs.Decimals.{decimal-length}
-use Rattle.listing.proofs.Bounds.{refusal-row-short}
-use Rattle.listing.proofs.Lengths.{row-of-four, word-rows-within, type-rows-within, TypeShort, empty-short, listed-type-short, joined-within, reading-length}
+use Rattle.listing.proofs.Bounds.{refusal-row-short, at-each, declares, name-short, few-words, few-simples, exponent-short}
+use Rattle.listing.proofs.Lengths.{row-of-four, row-of-five, word-rows-within, type-rows-within, shown-length}
 use Rattle.listing.proofs.Answers.{choice-joined, ListsReading, answer-listed}
-
--- What holds of all of a list, and of what counts where nothing is there, holds at every place.
-at-each : {A : Type 0} (P : A → Type 0) (l : List A) (d : A) → P d → ((x : A) → List·Memᴰ x l → P x) → (i : ℕ) → P (getD l i d)
-at-each P [] d none all i = none
-at-each P (x ∷ l) d none all zero = all x (List·Memᴰ·head refl)
-at-each P (x ∷ l) d none all (suc i) = at-each P l d none (λ y m. all y (List·Memᴰ·tail m)) i
 
 -- A partner is a position.
 partner-within : {Le : Relation} {s : Basic} {X : PregroupType} {P : List ℕ} → IsLinking Le s X P → (i : ℕ) → getD {A = ℕ} P i 0 ≤ length P
@@ -44,50 +37,34 @@ partner-within {X} {P} l i = by (less-or-not i (length P))
     by (inr h) = omega (arith, List·getD-eq-default P 0 {n = i} h)
 
 module _ (book line text : Bytes) (r : ListsReading book line text) where
-  abbrev names : List Bytes
-  names = r .contents .names
+  abbrev B : Book
+  B = r .contents
 
-  -- The simple types of the reading's choice.
-  abbrev string : PregroupType
-  string = joined (r .contents .entries) (r .entries)
+  parsed : parse book ≡ accepted B
+  parsed = r .readable .book-accepted
 
-  within : BookDeclares (r .contents)
-  within = accepted-declares book (r .contents) (r .readable .book-accepted)
+  passes : Passing B line (r .words)
+  passes = line-passing B line (r .words) (r .readable .line-passed)
 
-  name-short : (i : ℕ) → length (getD {A = Bytes} names i []) ≤ maxName
-  name-short = at-each (λ (name : Bytes). length name ≤ maxName) names [] (omega arith) (within .names-short)
+  few : length (wordsOf line) ≤ maxWords
+  few = few-words book B parsed (wordsOf line) (passes .words-fine) (r .entries)
 
-  type-short : (number : ℕ) → TypeShort 2 (typeOf (r .contents .entries) number)
-  type-short =
-      at-each (λ (e : Entry). TypeShort 2 (e .type)) (r .contents .entries) (record { word = []; type = [] })
-      (empty-short 2)
-      (λ e m. listed-type-short (e .type) (within .short e m) (within .exponents-listed e m))
-
-  passes : Passing (r .contents) line (r .words)
-  passes = line-passing (r .contents) line (r .words) (r .readable .line-passed)
-
-  few-words : length (wordsOf line) ≤ maxWords
-  few-words = omega (arith, words-few 0 (wordsOf line) (omega arith) (passes .words-fine))
-
-  few-simples : length string ≤ maxString
-  few-simples = omega (arith, joined-within 2 (r .contents .entries) type-short (r .entries) .0, r .entry-each, few-words)
-
-  partner-each : length (r .partners) ≡ length string
-  partner-each = omega (arith, r .partner-each, ap length (r .joins))
+  simples : length (r .type) ≤ maxString
+  simples = omega (arith, few-simples book B parsed (wordsOf line) (passes .words-fine) (r .entries), ap length (r .joins))
 
   entry-small : (i : ℕ) → getD {A = ℕ} (r .entries) i 0 < maxEntries
   entry-small =
       at-each (λ (number : ℕ). number < maxEntries) (r .entries) 0 (omega arith)
-      (λ number m. omega (arith, choice-joined (r .contents) (r .chosen) (wordsOf line) (passes .words-are) .2 number m, within .few))
+      (λ number m. omega (arith, choice-joined B (r .chosen) (wordsOf line) (passes .words-are) .2 number m, declares book B parsed .few))
 
   first-row-short : length (firstRow (length (r .entries)) (length (r .partners)) (r .target)) ≤ 13
   first-row-short =
       omega (
         arith,
         row-of-four yes (decimal (length (r .entries))) (decimal (length (r .partners))) (decimal (r .target)),
-        decimal-length 1 (length (r .entries)) (omega (arith, r .entry-each, few-words)),
-        decimal-length 2 (length (r .partners)) (omega (arith, partner-each, few-simples)),
-        decimal-length 0 (r .target) (omega (arith, r .first .reading .target-there, within .few-targets)),
+        decimal-length 1 (length (r .entries)) (omega (arith, r .entry-each, few)),
+        decimal-length 2 (length (r .partners)) (omega (arith, r .partner-each, simples)),
+        decimal-length 0 (r .target) (omega (arith, r .first .reading .target-there, declares book B parsed .few-targets)),
       )
 
   word-rows-short : length (wordRows (r .entries) 0 (wordsOf line)) ≤ length (wordsOf line) * 40
@@ -95,31 +72,32 @@ module _ (book line text : Bytes) (r : ListsReading book line text) where
       word-rows-within 40 (r .entries) (λ i. omega (arith, decimal-length 3 (getD {A = ℕ} (r .entries) i 0) (omega (arith, entry-small i)))) 0
       (wordsOf line) (passes .words-fine)
 
-  type-row-short : (j : ℕ) (x : Simple) → j < length string → List·Memᴰ x string
-      → length (typeRow (suc j) (getD {A = Bytes} names (x .base) []) (x .exponent) (getD {A = ℕ} (r .partners) j 0)) ≤ 27
-  type-row-short j x h m =
+  type-row-short : (j letter : ℕ) (x : Simple) → j < length (r .type) → List·Memᴰ x (r .type)
+      → length (typeRow (suc j) (getD {A = Bytes} (B .names) (x .base) []) (x .exponent) (getD {A = ℕ} (r .partners) j 0) letter) ≤ 29
+  type-row-short j letter x h m =
       let partner = getD {A = ℕ} (r .partners) j 0 in
       omega (
         arith,
-        row-of-four (decimal (suc j)) (getD {A = Bytes} names (x .base) []) (signed (x .exponent)) (decimal partner),
-        decimal-length 2 (suc j) (omega (arith, few-simples)),
-        name-short (x .base),
-        joined-within 2 (r .contents .entries) type-short (r .entries) .1 x m,
-        decimal-length 2 partner (omega (arith, partner-within (r .first .reading .linking) j, partner-each, few-simples)),
+        row-of-five (decimal (suc j)) (getD {A = Bytes} (B .names) (x .base) []) (signed (x .exponent)) (decimal partner) (letter ∷ []),
+        decimal-length 2 (suc j) (omega (arith, simples)),
+        name-short book B parsed (x .base),
+        exponent-short book B parsed (wordsOf line) (passes .words-fine) (r .entries) x (rw (← r .joins) at m),
+        decimal-length 2 partner (omega (arith, partner-within (r .first .reading .linking) j, r .partner-each, simples)),
       )
 
   -- The listing of a reading.
   reading-short : length text ≤ maxListing
   reading-short =
+      let letters = listedLetters B (r .target) (r .type) (r .partners) in
       omega (
         arith,
         ap length (r .rows),
-        reading-length names (r .contents .entries) (wordsOf line) (r .target) (r .entries) (r .partners),
+        shown-length (B .names) (wordsOf line) (r .target) (r .entries) (r .type) letters (r .partners),
         first-row-short,
         word-rows-short,
-        few-words,
-        type-rows-within 27 names (r .partners) 0 string (λ j x h m. type-row-short j x (omega arith) m),
-        few-simples,
+        few,
+        type-rows-within 29 (B .names) letters (r .partners) 0 (r .type) (λ j l x h m. type-row-short j l x (omega arith) m),
+        simples,
       )
 
 pub answer-short : (book line : Bytes) (buffer after : List ℕ) (n : ℕ) → Promised book line buffer (Read n) after

@@ -13,13 +13,8 @@ use Rattle.book.specs.declared.EntryType.{EntryType}
 use Rattle.book.specs.Kept.{entryFrom, entriesAt, HeldType}
 use Rattle.lookup.specs.Entries.{Entries}
 use Rattle.lookup.proofs.EntryLaws.{all-length, all-at}
+use Rattle.letters.proofs.LetterLaws.{getD-any}
 use Rattle.listing.specs.Listing.{typeOf, counted}
-
--- What is there does not depend on what counts where nothing is there.
-getD-any {ℓ} : {A : Type ℓ} (l : List A) (i : ℕ) (d e : A) → i < length l → getD l i d ≡ getD l i e
-getD-any [] i d e h = absurd (omega arith)
-getD-any (a ∷ l) zero d e h = refl
-getD-any (a ∷ l) (suc i) d e h = getD-any l i d e (omega arith)
 
 module _ (bytes : Bytes) (offsets : List ℕ) (count : ℕ) (w : Whole bytes offsets count) where
   pub name-at : (i : ℕ) → i < count → bodyAt bytes (getD {A = ℕ} offsets i 0) ≡ getD {A = Bytes} (bodiesAt bytes offsets count) i []

@@ -1,21 +1,31 @@
 -- Rendering: a piece that was counted is written if there is room for it; and the listing by its cases: book, line and values.
 use Prim.Native.Nat.{ℕ, suc, _+_, _≤_, _<_}
 use native.Mathlib.Omega.{arith}
-use mathlib.Core.Path.{_≡_, refl, ap, _∙_}
-use mathlib.Core.List.{List, _++_}
-use lib.ListN.{length, getD, drop}
+use mathlib.Core.Path.{_≡_, refl, sym, ap, _∙_}
+use mathlib.Core.Bool.{Bool, true, false}
+use mathlib.Core.List.{List, _++_, map}
+use lib.ListN.{length, getD, take, drop, length-map}
 use lib.Seq.{sets-eq}
+use Rattle.pregroup.specs.Order.{Relation}
+use Rattle.pregroup.specs.Tests.{Test, Decides}
+use Rattle.pregroup.specs.Held.{held, inRows}
+use Rattle.pregroup.proofs.LinkKinds.{rows-decide}
+use Rattle.linking.specs.Reading.{targetAt}
+use Rattle.letters.specs.Letters.{letters as lettersOf}
+use Rattle.letters.proofs.LetterTheorems.{letters-agree}
 use Rattle.format.specs.Records.{Bytes, bodiesAt}
-use Rattle.book.specs.Format.{Entry, Book, refused, parse}
-use Rattle.book.specs.Kept.{entriesAt, Store, Opened}
-use Rattle.book.proofs.Parsing.{accepted-short}
-use Rattle.line.specs.LineWords.{Word, wordsOf}
+use Rattle.book.specs.Format.{Book, accepted, refused, parse}
+use Rattle.book.specs.Kept.{entriesAt}
+use Rattle.lookup.specs.Entries.{Lexicon}
+use Rattle.line.specs.LineWords.{wordsOf}
 use Rattle.line.specs.Split.{SplitInto, Stopped, at-byte, at-word}
-use Rattle.lookup.proofs.EntryLaws.{opened-kept as opened-lexicon}
-use Rattle.listing.specs.Listing.{refusalRow, readingRows, counted, answerRows, lineRows, listed, Renders}
+use Rattle.line.proofs.LineLaws.{words-length}
+use Rattle.reader.specs.Runs.{Open}
+use Rattle.listing.specs.Listing.{refusalRow, joined, listedType, listedLetters, readingRows, counted, answerRows, listed, Renders}
 use Rattle.listing.specs.declared.Rendered.the-variants.{Written, TooShort}
-use Rattle.listing.specs.Placed.{Placed}
-use Rattle.listing.specs.Parts.{BookKept}
+use Rattle.listing.specs.Parts.{keptRows}
+use Rattle.listing.specs.Placed.{Countable, Placed}
+use Rattle.listing.proofs.Bounds.{Narrow, narrow-counted, few-counted, shown-countable}
 
 -- The piece was counted, with no room at all, and is then put where there is room.
 pub renders-written : (piece text : Bytes) {after : Bytes} {needed behind : ℕ} → needed ≡ 0 + length piece → needed ≤ length text
@@ -27,35 +37,73 @@ renders-written piece text size room p =
 pub renders-short : (piece text : Bytes) {needed : ℕ} → needed ≡ 0 + length piece → length text < needed → Renders piece text (TooShort needed) text
 renders-short piece text size short = (omega arith, omega arith, refl)
 
-module _ (names : List Bytes) (entries : List Entry) where
-  -- The parts of the values are those that are counted.
-  pub answer-parts : (words : List Word) (values : List ℕ) (target : ℕ) (chosen partners : List ℕ)
-      → target ≡ getD {A = ℕ} values 0 0 → chosen ≡ counted values 1 → partners ≡ counted values (length chosen + 2)
-      → readingRows names entries words target chosen partners ≡ answerRows names entries words values
-  answer-parts words values target chosen partners t c p =
-      let behind : length chosen + 2 ≡ suc (suc (length chosen)) = omega arith in
-      rw (p, behind, c, t)
-
-  pub line-stopped : {line : Bytes} {number value : ℕ} (values : List ℕ) → Stopped line number value → refusalRow number value ≡ lineRows names entries line values
-  line-stopped values (at-byte e) = rw e
-  line-stopped values (at-word e f) = rw (e, f)
-
-  pub line-split : (line : Bytes) (starts ends : List ℕ) (words : ℕ) (values : List ℕ) → SplitInto line starts ends words
-      → answerRows names entries (wordsOf line) values ≡ lineRows names entries line values
-  line-split line starts ends words values s = rw (s .bytes-fine, s .words-fine)
-
 pub book-refused : (book line : Bytes) (values : List ℕ) (number value : ℕ) → parse book ≡ refused number value → refusalRow number value ≡ listed book line values
 book-refused book line values number value e = rw e
 
--- What is kept of an accepted book serves its listings.
-module _ (book : Bytes) (s : Store) (types count goals : ℕ) (B : Book) (o : Opened book s types count goals B) where
-  pub opened-kept : BookKept book (s .names) types (s .entries) count
-  opened-kept =
-      record {
-        short = accepted-short book B (o .parsed);
-        named = o .named;
-        lexicon = rw (← o .names) (opened-lexicon o .lexicon);
-      }
+module _ (book line : Bytes) (values : List ℕ) {B : Book} (parsed : parse book ≡ accepted B) where
+  pub line-stopped : {number value : ℕ} → Stopped line number value → refusalRow number value ≡ listed book line values
+  line-stopped (at-byte e) = rw (parsed, e)
+  line-stopped (at-word e f) = rw (parsed, e, f)
 
-  pub book-opened : (line : Bytes) (values : List ℕ) → lineRows (bodiesAt book (s .names) types) (entriesAt book (bodiesAt book (s .names) types) (s .entries) count) line values ≡ listed book line values
-  book-opened line values = rw (o .parsed, o .entries, o .names)
+  line-split : {starts ends : List ℕ} {words : ℕ} → SplitInto line starts ends words → answerRows B (wordsOf line) values ≡ listed book line values
+  line-split s = rw (parsed, s .bytes-fine, s .words-fine)
+
+  -- The parts of the values are those that are counted.
+  answer-parts : {starts ends : List ℕ} {words : ℕ} → SplitInto line starts ends words → (target : ℕ) (chosen partners : List ℕ)
+      → target ≡ getD {A = ℕ} values 0 0 → chosen ≡ counted values 1 → partners ≡ counted values (length chosen + 2)
+      → readingRows B (wordsOf line) target chosen partners ≡ listed book line values
+  answer-parts s target chosen partners t c p =
+      let behind : length chosen + 2 ≡ suc (suc (length chosen)) = omega arith in
+      rw (p, behind, c, t) (line-split s)
+
+-- Two tests that decide one relation agree.
+tests-agree : {le le′ : Test} {Le : Relation} → Decides le Le → Decides le′ Le → (a b : ℕ) → le a b ≡ le′ a b
+tests-agree {le} {le′} d d′ a b = by (le a b) (le′ a b) (λ h. d′ a b .1 (d a b .0 h)) (λ h. d a b .1 (d′ a b .0 h))
+  where
+    by : (x y : Bool) → (x ≡ true → y ≡ true) → (y ≡ true → x ≡ true) → x ≡ y
+    by true y f g = sym (f refl)
+    by false true f g = g refl
+    by false false f g = refl
+
+-- What an open book keeps of its entries.
+module _ {book : Bytes} {names : List ℕ} {types : ℕ} {offsets : List ℕ} {count : ℕ} {alike order targets : List ℕ} {B : Book} (o : Open book names types offsets count alike order targets B) where
+  entries-kept : B .entries ≡ entriesAt book (bodiesAt book names types) offsets count
+  entries-kept = o .kept .all ∙ ap (λ (all : List Bytes). entriesAt book all offsets count) (o .type-names)
+
+  pub lexicon-kept : Lexicon book (bodiesAt book names types) offsets count
+  lexicon-kept = rw (← o .type-names) (o .kept .lexicon)
+
+-- What the code makes of an open book, a split line and the parts of the values: the string and its letters are those that are listed.
+module _ (book : Bytes) (names : List ℕ) (types : ℕ) (offsets : List ℕ) (count : ℕ) (alike order targets : List ℕ) (B : Book)
+    (o : Open book names types offsets count alike order targets B) (line : Bytes) (starts ends : List ℕ) (words : ℕ) (s : SplitInto line starts ends words)
+    (target : ℕ) (chosen partners string letters : List ℕ) where
+  module _ (spells : map held string ≡ joined (entriesAt book (bodiesAt book names types) offsets count) (take words chosen)) where
+    string-listed : map held string ≡ listedType B (wordsOf line) chosen
+    string-listed = rw (entries-kept o, words-length line starts ends words s) spells
+
+    letters-listed : {goal : ℕ} → goal ≡ targetAt targets target → letters ≡ lettersOf (inRows order) goal (map held string) partners (length string)
+        → letters ≡ listedLetters B target (listedType B (wordsOf line) chosen) partners
+    letters-listed {goal} is told =
+        let many : length string ≡ length (map held string) = sym (length-map string held) in
+        rw (o .chosen, ← is, ← string-listed, ← many)
+        (told ∙ letters-agree goal (map held string) partners (tests-agree (rows-decide order) (o .decides)) (length string))
+
+    shown-listed : {goal : ℕ} → goal ≡ targetAt targets target → letters ≡ lettersOf (inRows order) goal (map held string) partners (length string)
+        → keptRows book names types line target chosen string letters partners ≡ readingRows B (wordsOf line) target chosen partners
+    shown-listed is told = rw (letters-listed is told, string-listed, o .type-names)
+
+    -- The values are narrow, and the parts are counted from them.
+    module _ (values : List ℕ) (narrow : Narrow values) (t-is : target ≡ getD {A = ℕ} values 0 0) (c-is : chosen ≡ counted values 1)
+        (p-is : partners ≡ counted values (length chosen + 2)) where
+      pub kept-countable : Countable 0 (keptRows book names types line target chosen string letters partners)
+      kept-countable =
+          let behind = length chosen + 2 in
+          let c : Narrow chosen = rw c-is (narrow-counted values narrow 1) in
+          let p : Narrow partners = rw p-is (narrow-counted values narrow behind) in
+          rw (string-listed, ← o .type-names)
+          (shown-countable book B (o .parsed) (wordsOf line) (s .words-fine) chosen target letters partners (rw t-is (narrow 0)) c p
+          (omega (arith, ap length c-is, few-counted values narrow 1)) (omega (arith, ap length p-is, few-counted values narrow behind)))
+
+      pub kept-listed : {goal : ℕ} → goal ≡ targetAt targets target → letters ≡ lettersOf (inRows order) goal (map held string) partners (length string)
+          → keptRows book names types line target chosen string letters partners ≡ listed book line values
+      kept-listed is told = shown-listed is told ∙ answer-parts book line values (o .parsed) s target chosen partners t-is c-is p-is

@@ -9,7 +9,10 @@ use Rattle.figures.specs.Limits.{maxWords, maxString}
 use Rattle.figures.specs.Refusals.{badLineByte, badWord}
 use Rattle.pregroup.specs.Types.{PregroupType}
 use Rattle.format.specs.Records.{Bytes}
-use Rattle.book.specs.Format.{Entry, Parsed, accepted, refused, parse}
+use Rattle.linking.specs.Reading.{targetAt}
+use Rattle.order.specs.Closed.{below}
+use Rattle.letters.specs.Letters.{t, letters}
+use Rattle.book.specs.Format.{Entry, Book, Parsed, accepted, refused, parse}
 use Rattle.line.specs.LineWords.{Word, wordsOf}
 use Rattle.line.specs.LineFaults.{byteFault, wordFault}
 use Rattle.words.specs.declared.LineAnswer.{LineAnswer}
@@ -32,23 +35,25 @@ firstRow words simples target = row (yes ∷ decimal words ∷ decimal simples �
 abbrev pub wordRow : ℕ → Bytes → ℕ → Bytes
 wordRow number word entry = row (decimal number ∷ word ∷ decimal entry ∷ [])
 
--- A simple type's row: its position, its basic type's name, its exponent, its partner.
-abbrev pub typeRow : ℕ → Bytes → ℤ → ℕ → Bytes
-typeRow position name exponent partner = row (decimal position ∷ name ∷ signed exponent ∷ decimal partner ∷ [])
+-- A simple type's row: its position, its basic type's name, its exponent, its partner, the letter of its link.
+abbrev pub typeRow : ℕ → Bytes → ℤ → ℕ → ℕ → Bytes
+typeRow position name exponent partner letter = row (decimal position ∷ name ∷ signed exponent ∷ decimal partner ∷ (letter ∷ []) ∷ [])
 
 -- The row of a refusal: its number, its value.
 abbrev pub refusalRow : ℕ → ℕ → Bytes
 refusalRow number value = row (no ∷ decimal number ∷ decimal value ∷ [])
 
--- The rows of the words from number k + 1 on, and of the simple types from position k + 1 on. What has no entry or no partner shows 0.
+-- The rows of the words from number k + 1 on, and of the simple types from position k + 1 on, whose letters count from 0. What has no entry or no
+-- partner shows 0.
 unfoldable pub wordRows : List ℕ → ℕ → List Word → Bytes
 wordRows entries k [] = []
 wordRows entries k (w ∷ words) = wordRow (suc k) (w .bytes) (getD {A = ℕ} entries k 0) ++ wordRows entries (suc k) words
 
-unfoldable pub typeRows : List Bytes → List ℕ → ℕ → PregroupType → Bytes
-typeRows names partners k [] = []
-typeRows names partners k (x ∷ X) =
-    typeRow (suc k) (getD {A = Bytes} names (x .base) []) (x .exponent) (getD {A = ℕ} partners k 0) ++ typeRows names partners (suc k) X
+unfoldable pub typeRows : List Bytes → List ℕ → List ℕ → ℕ → PregroupType → Bytes
+typeRows names letters partners k [] = []
+typeRows names letters partners k (x ∷ X) =
+    typeRow (suc k) (getD {A = Bytes} names (x .base) []) (x .exponent) (getD {A = ℕ} partners k 0) (getD {A = ℕ} letters (suc k) t)
+    ++ typeRows names letters partners (suc k) X
 
 -- The type of an entry. A number that the book does not have stands for the empty type.
 abbrev pub typeOf : List Entry → ℕ → PregroupType
@@ -59,19 +64,33 @@ unfoldable pub joined : List Entry → List ℕ → PregroupType
 joined entries [] = []
 joined entries (number ∷ chosen) = typeOf entries number ++ joined entries chosen
 
--- The rows of a reading, by its target's number, its entry numbers and its partners, with the names and the entries of its book.
-abbrev pub readingRows : List Bytes → List Entry → List Word → ℕ → List ℕ → List ℕ → Bytes
-readingRows names entries words target chosen partners =
-    firstRow (length chosen) (length partners) target ++ (wordRows chosen 0 words ++ typeRows names partners 0 (joined entries chosen))
+-- The first row, the rows of the words and those of the simple types.
+abbrev pub shownRows : List Bytes → List Word → ℕ → List ℕ → PregroupType → List ℕ → List ℕ → Bytes
+shownRows names words target chosen string letters partners =
+    firstRow (length chosen) (length partners) target ++ (wordRows chosen 0 words ++ typeRows names letters partners 0 string)
+
+-- The simple types that are listed: those of the entries of the line's words.
+abbrev pub listedType : Book → List Word → List ℕ → PregroupType
+listedType B words chosen = joined (B .entries) (take (length words) chosen)
+
+-- Their letters, with that of position 0, for a target's number and partners.
+abbrev pub listedLetters : Book → ℕ → PregroupType → List ℕ → List ℕ
+listedLetters B target string partners = letters (below (length (B .names)) (B .pairs)) (targetAt (B .targets) target) string partners (length string)
+
+-- The rows of a reading, by its target's number, its entry numbers and its partners.
+abbrev pub readingRows : Book → List Word → ℕ → List ℕ → List ℕ → Bytes
+readingRows B words target chosen partners =
+    let string = listedType B words chosen in
+    shownRows (B .names) words target chosen string (listedLetters B target string partners) partners
 
 -- The values that stand behind their count.
 abbrev pub counted : List ℕ → ℕ → List ℕ
 counted values at = take (getD {A = ℕ} values at 0) (drop (suc at) values)
 
 -- The rows of an answer's values: the target's number, n, the n entry numbers, m, the m partners. A first value that is not there counts as 0.
-abbrev pub answerRows : List Bytes → List Entry → List Word → List ℕ → Bytes
-answerRows names entries words values =
-    readingRows names entries words (getD {A = ℕ} values 0 0) (counted values 1) (counted values (suc (suc (length (counted values 1)))))
+abbrev pub answerRows : Book → List Word → List ℕ → Bytes
+answerRows B words values =
+    readingRows B words (getD {A = ℕ} values 0 0) (counted values 1) (counted values (suc (suc (length (counted values 1)))))
 
 -- A line that breaks 11 or 12 has no words to list: its refusal is listed.
 abbrev pub orRefused : ℕ → Option ℕ → Bytes → Bytes
@@ -79,14 +98,14 @@ orRefused number none rows = rows
 orRefused number (some value) rows = refusalRow number value
 
 -- The rows of an answer's values for a line.
-abbrev pub lineRows : List Bytes → List Entry → Bytes → List ℕ → Bytes
-lineRows names entries line values =
-    orRefused badLineByte (byteFault 0 line) (orRefused badWord (wordFault 0 (wordsOf line)) (answerRows names entries (wordsOf line) values))
+abbrev pub lineRows : Book → Bytes → List ℕ → Bytes
+lineRows B line values =
+    orRefused badLineByte (byteFault 0 line) (orRefused badWord (wordFault 0 (wordsOf line)) (answerRows B (wordsOf line) values))
 
 -- The rows for what a book's bytes are. A book that is refused has no entries to list: its refusal is listed.
 abbrev pub parsedRows : Parsed → Bytes → List ℕ → Bytes
 parsedRows (refused number value) line values = refusalRow number value
-parsedRows (accepted B) line values = lineRows (B .names) (B .entries) line values
+parsedRows (accepted B) line values = lineRows B line values
 
 abbrev pub listed : Bytes → Bytes → List ℕ → Bytes
 listed book line values = parsedRows (parse book) line values
@@ -97,9 +116,9 @@ listing book line (Read n) buffer = listed book line (take n buffer)
 listing book line (Refused number value) buffer = refusalRow number value
 
 -- How many bytes the listing of what `read_line` answers has at most: 13 for its first row (`yes 24 288 7` and the byte that ends it),
--- 40 for each word and 27 for each simple type. `src/lib.rt` has the same figure.
+-- 40 for each word and 29 for each simple type. `src/lib.rt` has the same figure.
 abbrev pub maxListing : ℕ
-maxListing = 13 + 40 * maxWords + 27 * maxString
+maxListing = 13 + 40 * maxWords + 29 * maxString
 
 -- A listing for which there is room is written whole, and the bytes behind it stay. For a longer one the bytes needed are returned, and
 -- nothing is written.

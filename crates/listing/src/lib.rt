@@ -1,32 +1,37 @@
 // The listing of an answer or of a refusal, as text in a lent buffer: for any book, line and values. What it is, is defined in specs/Listing.
 mod parts;
 mod rows;
+mod strings;
 mod text;
 
 use book::Scan;
-use book::records::scan_book;
+use bytewise::widths::value_at;
 use figures::limits::MAX_ENTRIES;
 use figures::limits::MAX_STRING;
-use figures::limits::MAX_TARGETS;
-use figures::limits::MAX_TYPES;
 use figures::limits::MAX_WORDS;
 use format::names::NAME_PLACES;
+use letters::link_letters;
 use line::CheckedLine;
 use line::split::split;
+use lookup::keys::NO_ENTRY;
+use lookup::keys::PLACES;
 use parts::counted;
-use parts::value_at;
+use parts::first_values;
+use parts::target_at;
+use reader::open_book;
 use rows::put_reading;
 use rows::put_refusal_row;
+use strings::join_types;
 use words::LineAnswer;
-ghost use Rattle.format.specs.Records.{bodiesAt};
-ghost use Rattle.book.specs.Kept.{entriesAt};
-ghost use Rattle.line.specs.LineWords.{wordsOf};
-ghost use Rattle.listing.specs.Listing.{refusalRow, answerRows, lineRows, listed, listing, Renders};
-ghost use Rattle.listing.specs.Parts.{BookKept, LineKept};
+ghost use Rattle.listing.specs.Listing.{refusalRow, listed, listing, Renders};
+ghost use Rattle.listing.specs.Parts.{BookKept, LineKept, keptRows, Puttable};
 
 // How many bytes the listing of what `read_line` answers has at most: 13 for its first row (`yes 24 288 7` and the byte that ends it),
-// 40 for each word and 27 for each simple type. specs/Listing has the same figure; proofs/Longest proves it enough.
-pub const MAX_LISTING: usize = 13 + 40 * MAX_WORDS + 27 * MAX_STRING;
+// 40 for each word and 29 for each simple type. specs/Listing has the same figure; proofs/Longest proves it enough.
+pub const MAX_LISTING: usize = 13 + 40 * MAX_WORDS + 29 * MAX_STRING;
+
+// The letters of the longest string, behind that of position 0.
+const LETTERS: usize = MAX_STRING + 1;
 
 // What rendering a listing gives. `Written`: the buffer holds the listing, of so many bytes, and those behind it are as they were.
 // `TooShort`: the listing takes so many bytes, and the buffer is as it was.
@@ -49,40 +54,40 @@ fn render_refusal(number: u32, value: usize, text: &mut [u8]) -> Rendered
     Rendered::Written { bytes }
 }
 
-// Renders the rows of an answer's values, for a book and a line that are kept.
-fn render_values(
+// Renders the rows of a reading.
+fn render_rows(
     book: &[u8],
     names: &[u16],
     types: usize,
-    offsets: &[u16],
-    count: usize,
     line: &[u8],
     starts: &[usize],
     ends: &[usize],
     words: usize,
-    values: &[u16],
+    target: usize,
+    chosen: &[u16],
+    string: &[u16],
+    letters: &[u8],
+    partners: &[u16],
     text: &mut [u8],
 ) -> Rendered
-    requires { ⌜ BookKept (now book) (now names) types (now offsets) count × LineKept (now line) (now starts) (now ends) words ⌝ }
-    ensures { λ r. ⌜ Renders (answerRows (bodiesAt (now (book .entry)) (now (names .entry)) types) (entriesAt (now (book .entry)) (bodiesAt (now (book .entry)) (now (names .entry)) types) (now (offsets .entry)) count)
-        (wordsOf (now (line .entry))) (now (values .entry))) (now (text .entry)) r (now (text .exit)) ⌝ }
+    requires { ⌜ Puttable (now book) (now names) types (now line) (now starts) (now ends) words target (now chosen) (now string) (now letters) (now partners) ⌝ }
+    ensures { λ r. ⌜ Renders
+        (keptRows (now (book .entry)) (now (names .entry)) types (now (line .entry)) target (now (chosen .entry)) (now (string .entry)) (now (letters .entry)) (now (partners .entry)))
+        (now (text .entry)) r (now (text .exit)) ⌝ }
 {
-    let target = value_at(values, 0);
-    let chosen = counted(values, 1);
-    let partners = counted(values, chosen.len() + 2);
     let mut nothing = [0u8; 0];
     let needed = put_reading(
         book,
         names,
         types,
-        offsets,
-        count,
         line,
         starts,
         ends,
         words,
         target,
         chosen,
+        string,
+        letters,
         partners,
         &mut nothing,
     );
@@ -93,18 +98,63 @@ fn render_values(
         book,
         names,
         types,
-        offsets,
-        count,
         line,
         starts,
         ends,
         words,
         target,
         chosen,
+        string,
+        letters,
         partners,
         text,
     );
     Rendered::Written { bytes: needed }
+}
+
+// Renders the rows of an answer's values, for a book and a line that are kept.
+fn render_values(
+    book: &[u8],
+    names: &[u16],
+    types: usize,
+    offsets: &[u16],
+    count: usize,
+    order: &[u64],
+    targets: &[u8],
+    line: &[u8],
+    starts: &[usize],
+    ends: &[usize],
+    words: usize,
+    values: &[u16],
+    text: &mut [u8],
+) -> Rendered
+    requires { ⌜ BookKept (now book) (now names) types (now offsets) count (now order) (now targets) × LineKept (now line) (now starts) (now ends) words ⌝ }
+    ensures { λ r. ⌜ Renders (listed (now (book .entry)) (now (line .entry)) (now (values .entry))) (now (text .entry)) r (now (text .exit)) ⌝ }
+{
+    let target = value_at(values, 0);
+    let chosen = counted(values, 1);
+    let partners = counted(values, chosen.len() + 2);
+    let mut string = [0u16; MAX_STRING];
+    let shown = first_values(chosen, words);
+    let simples = join_types(book, names, types, offsets, count, shown, &mut string);
+    let mut letters = [0u8; LETTERS];
+    let goal = target_at(targets, target);
+    link_letters(order, &string[..simples], goal, partners, &mut letters);
+    render_rows(
+        book,
+        names,
+        types,
+        line,
+        starts,
+        ends,
+        words,
+        target,
+        chosen,
+        &string[..simples],
+        &letters[..simples + 1],
+        partners,
+        text,
+    )
 }
 
 // Renders an answer's values for a line and a book that is kept.
@@ -114,13 +164,14 @@ fn render_line(
     types: usize,
     offsets: &[u16],
     count: usize,
+    order: &[u64],
+    targets: &[u8],
     line: &[u8],
     values: &[u16],
     text: &mut [u8],
 ) -> Rendered
-    requires { ⌜ BookKept (now book) (now names) types (now offsets) count ⌝ }
-    ensures { λ r. ⌜ Renders (lineRows (bodiesAt (now (book .entry)) (now (names .entry)) types) (entriesAt (now (book .entry)) (bodiesAt (now (book .entry)) (now (names .entry)) types) (now (offsets .entry)) count)
-        (now (line .entry)) (now (values .entry))) (now (text .entry)) r (now (text .exit)) ⌝ }
+    requires { ⌜ BookKept (now book) (now names) types (now offsets) count (now order) (now targets) ⌝ }
+    ensures { λ r. ⌜ Renders (listed (now (book .entry)) (now (line .entry)) (now (values .entry))) (now (text .entry)) r (now (text .exit)) ⌝ }
 {
     let mut starts = [0usize; MAX_WORDS];
     let mut ends = [0usize; MAX_WORDS];
@@ -133,6 +184,8 @@ fn render_line(
             types,
             offsets,
             count,
+            order,
+            targets,
             line,
             &starts,
             &ends,
@@ -149,16 +202,29 @@ fn render_answer(book: &[u8], line: &[u8], values: &[u16], text: &mut [u8]) -> R
 {
     let mut names = [0u16; NAME_PLACES];
     let mut entries = [0u16; MAX_ENTRIES];
-    let mut direct = [0u64; MAX_TYPES];
-    let mut targets = [0u8; MAX_TARGETS];
-    let scan = scan_book(book, &mut names, &mut entries, &mut direct, &mut targets);
+    let mut alike = [NO_ENTRY; PLACES];
+    let opening = open_book(book, &mut names, &mut entries, &mut alike);
+    let rows = opening.rows;
+    let targets = opening.targets;
+    let scan = opening.scan;
     match scan {
         Scan::Refused { number, value } => render_refusal(number, value, text),
         Scan::Accepted {
             types,
             entries: count,
-            targets: _,
-        } => render_line(book, &names, types, &entries, count, line, values, text),
+            targets: goals,
+        } => render_line(
+            book,
+            &names,
+            types,
+            &entries,
+            count,
+            &rows,
+            &targets[..goals],
+            line,
+            values,
+            text,
+        ),
     }
 }
 

@@ -7,7 +7,8 @@ use figures::limits::MAX_ENTRY_SIMPLES;
 use format::layout::body_at;
 ghost use mathlib.Core.Path.{_≡_};
 ghost use mathlib.Core.List.{[]};
-ghost use lib.ListN.{getD};
+ghost use lib.ListN.{getD, take};
+ghost use Rattle.linking.specs.Reading.{targetAt};
 ghost use Rattle.format.specs.Records.{Whole, bodiesAt};
 ghost use Rattle.format.specs.Names.{Named};
 ghost use Rattle.book.specs.Kept.{entriesAt, HeldType};
@@ -46,14 +47,24 @@ pub(crate) fn type_of(
     entry_type(book, names, types, wide_number(offsets[entry]))
 }
 
-// A value of an answer.
-pub(crate) fn value_at(values: &[u16], at: usize) -> usize
-    ensures { λ r. ⌜ r ≡ getD (now (values .entry)) at 0 ⌝ }
+// The basic type of a target. A number that the book does not have stands for the first basic type.
+pub(crate) fn target_at(targets: &[u8], number: usize) -> u8
+    ensures { λ r. ⌜ r ≡ targetAt (now (targets .entry)) number ⌝ }
 {
-    if values.len() <= at {
+    if targets.len() <= number {
         return 0;
     }
-    wide_number(values[at])
+    targets[number]
+}
+
+// The first values, at most so many.
+pub(crate) fn first_values(values: &[u16], most: usize) -> &[u16]
+    ensures { λ r. ⌜ now r ≡ take most (now (values .entry)) ⌝ }
+{
+    if values.len() < most {
+        return values;
+    }
+    &values[..most]
 }
 
 // The values that stand behind their count.

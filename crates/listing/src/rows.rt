@@ -1,21 +1,20 @@
 // The rows of a listing, put into a lent buffer one behind another. specs/Listing says which fields a row has.
 use crate::parts::name_of;
-use crate::parts::type_of;
-use crate::parts::value_at;
 use crate::text::put_exponent;
+use crate::text::put_letter;
 use crate::text::put_number;
 use crate::text::put_text;
-use book::EntryType;
+use bytewise::widths::value_at;
 use bytewise::widths::wide_number;
-ghost use Prim.Native.Nat.{_≤_};
+ghost use Prim.Native.Nat.{_<_};
+ghost use mathlib.Core.List.{map};
 ghost use lib.IntN.{pos, _-ℤ_};
-ghost use Rattle.pregroup.specs.Types.{PregroupType};
-ghost use Rattle.pregroup.specs.Held.{bias};
+ghost use lib.ListN.{length};
+ghost use Rattle.pregroup.specs.Held.{bias, held};
 ghost use Rattle.format.specs.Records.{Whole, bodiesAt};
-ghost use Rattle.book.specs.Kept.{entriesAt, HeldType};
 ghost use Rattle.line.specs.LineWords.{wordsOf};
-ghost use Rattle.listing.specs.Listing.{firstRow, wordRow, typeRow, refusalRow, wordRows, typeRows, joined, readingRows};
-ghost use Rattle.listing.specs.Parts.{BookKept, LineKept, RowsCountable};
+ghost use Rattle.listing.specs.Listing.{firstRow, wordRow, typeRow, refusalRow, wordRows, typeRows};
+ghost use Rattle.listing.specs.Parts.{LineKept, keptRows, Puttable};
 ghost use Rattle.listing.specs.Placed.{Countable, Placed};
 
 const SPACE: u8 = 32;
@@ -59,16 +58,18 @@ fn put_type_row(
     name: &[u8],
     raised: usize,
     partner: usize,
+    letter: u8,
     text: &mut [u8],
     at: usize,
 ) -> usize
-    requires { ⌜ Countable at (typeRow position (now name) (pos raised -ℤ pos bias) partner) ⌝ }
-    ensures { λ r. ⌜ Placed (now (text .entry)) at (typeRow position (now (name .entry)) (pos raised -ℤ pos bias) partner) (now (text .exit)) r ⌝ }
+    requires { ⌜ Countable at (typeRow position (now name) (pos raised -ℤ pos bias) partner letter) ⌝ }
+    ensures { λ r. ⌜ Placed (now (text .entry)) at (typeRow position (now (name .entry)) (pos raised -ℤ pos bias) partner letter) (now (text .exit)) r ⌝ }
 {
     let at = put_number(position, SPACE, text, at);
     let at = put_text(name, SPACE, text, at);
     let at = put_exponent(raised, SPACE, text, at);
-    put_number(partner, ROW_END, text, at)
+    let at = put_number(partner, SPACE, text, at);
+    put_letter(letter, ROW_END, text, at)
 }
 
 // The rows of a line's words, which are split off.
@@ -97,63 +98,30 @@ fn put_word_rows(
     next
 }
 
-// The rows of an entry's simple types, which stand behind k others.
-fn put_simple_rows(
-    book: &[u8],
-    names: &[u16],
-    types: usize,
-    t: EntryType,
-    partners: &[u16],
-    k: usize,
-    text: &mut [u8],
-    at: usize,
-) -> usize
-    requires { ⌜ Whole (now book) (now names) types × (k ≤ at) × RowsCountable (bodiesAt (now book) (now names) types) (now partners) k t at ⌝ }
-    ensures { λ r. ⌜ ((X : PregroupType) → HeldType t X → Placed (now (text .entry)) at
-        (typeRows (bodiesAt (now (book .entry)) (now (names .entry)) types) (now (partners .entry)) k X) (now (text .exit)) r) ⌝ }
-{
-    let held = t.simples;
-    let count = t.count;
-    let mut next = at;
-    let mut position = k;
-    let mut j = 0;
-    while j < count {
-        let simple = wide_number(held[j]);
-        let name = name_of(book, names, types, simple % 256);
-        let partner = value_at(partners, position);
-        position += 1;
-        next = put_type_row(position, name, simple / 256, partner, text, next);
-        j += 1;
-    }
-    next
-}
-
-// The rows of all simple types of the chosen entries.
+// The rows of all simple types of a string, with their letters behind that of position 0.
 fn put_type_rows(
     book: &[u8],
     names: &[u16],
     types: usize,
-    offsets: &[u16],
-    count: usize,
-    chosen: &[u16],
+    string: &[u16],
+    letters: &[u8],
     partners: &[u16],
     text: &mut [u8],
     at: usize,
 ) -> usize
-    requires { ⌜ BookKept (now book) (now names) types (now offsets) count ⌝ }
-    requires { ⌜ Countable at (typeRows (bodiesAt (now book) (now names) types) (now partners) 0 (joined (entriesAt (now book) (bodiesAt (now book) (now names) types) (now offsets) count) (now chosen))) ⌝ }
+    requires { ⌜ Whole (now book) (now names) types × (length (now string) < length (now letters)) ⌝ }
+    requires { ⌜ Countable at (typeRows (bodiesAt (now book) (now names) types) (now letters) (now partners) 0 (map held (now string))) ⌝ }
     ensures { λ r. ⌜ Placed (now (text .entry)) at
-        (typeRows (bodiesAt (now (book .entry)) (now (names .entry)) types) (now (partners .entry)) 0
-        (joined (entriesAt (now (book .entry)) (bodiesAt (now (book .entry)) (now (names .entry)) types) (now (offsets .entry)) count) (now (chosen .entry)))) (now (text .exit)) r ⌝ }
+        (typeRows (bodiesAt (now (book .entry)) (now (names .entry)) types) (now (letters .entry)) (now (partners .entry)) 0 (map held (now (string .entry)))) (now (text .exit)) r ⌝ }
 {
     let mut next = at;
     let mut k = 0;
-    let mut i = 0;
-    while i < chosen.len() {
-        let t = type_of(book, names, types, offsets, count, wide_number(chosen[i]));
-        i += 1;
-        next = put_simple_rows(book, names, types, t, partners, k, text, next);
-        k += t.count;
+    while k < string.len() {
+        let simple = wide_number(string[k]);
+        let name = name_of(book, names, types, simple % 256);
+        let partner = value_at(partners, k);
+        k += 1;
+        next = put_type_row(k, name, simple / 256, partner, letters[k], text, next);
     }
     next
 }
@@ -163,34 +131,23 @@ pub(crate) fn put_reading(
     book: &[u8],
     names: &[u16],
     types: usize,
-    offsets: &[u16],
-    count: usize,
     line: &[u8],
     starts: &[usize],
     ends: &[usize],
     words: usize,
     target: usize,
     chosen: &[u16],
+    string: &[u16],
+    letters: &[u8],
     partners: &[u16],
     text: &mut [u8],
 ) -> usize
-    requires { ⌜ BookKept (now book) (now names) types (now offsets) count × LineKept (now line) (now starts) (now ends) words ⌝ }
-    requires { ⌜ Countable 0 (readingRows (bodiesAt (now book) (now names) types) (entriesAt (now book) (bodiesAt (now book) (now names) types) (now offsets) count) (wordsOf (now line)) target (now chosen) (now partners)) ⌝ }
+    requires { ⌜ Puttable (now book) (now names) types (now line) (now starts) (now ends) words target (now chosen) (now string) (now letters) (now partners) ⌝ }
     ensures { λ r. ⌜ Placed (now (text .entry)) 0
-        (readingRows (bodiesAt (now (book .entry)) (now (names .entry)) types) (entriesAt (now (book .entry)) (bodiesAt (now (book .entry)) (now (names .entry)) types) (now (offsets .entry)) count)
-        (wordsOf (now (line .entry))) target (now (chosen .entry)) (now (partners .entry))) (now (text .exit)) r ⌝ }
+        (keptRows (now (book .entry)) (now (names .entry)) types (now (line .entry)) target (now (chosen .entry)) (now (string .entry)) (now (letters .entry)) (now (partners .entry)))
+        (now (text .exit)) r ⌝ }
 {
     let at = put_first_row(chosen.len(), partners.len(), target, text, 0);
     let at = put_word_rows(line, starts, ends, words, chosen, text, at);
-    put_type_rows(
-        book,
-        names,
-        types,
-        offsets,
-        count,
-        chosen,
-        partners,
-        text,
-        at,
-    )
+    put_type_rows(book, names, types, string, letters, partners, text, at)
 }

@@ -65,6 +65,15 @@ pub(crate) fn put_text(bytes: &[u8], close: u8, text: &mut [u8], at: usize) -> u
     put_byte(close, text, end)
 }
 
+// Puts one letter and the byte that closes the field.
+pub(crate) fn put_letter(letter: u8, close: u8, text: &mut [u8], at: usize) -> usize
+    requires { ⌜ Countable at (letter ∷ close ∷ []) ⌝ }
+    ensures { λ r. ⌜ Placed (now (text .entry)) at (letter ∷ close ∷ []) (now (text .exit)) r ⌝ }
+{
+    let end = put_byte(letter, text, at);
+    put_byte(close, text, end)
+}
+
 // Puts a number and the byte that closes the field.
 pub(crate) fn put_number(number: usize, close: u8, text: &mut [u8], at: usize) -> usize
     requires { ⌜ Countable at (decimal number ++ (close ∷ [])) ⌝ }

@@ -1,9 +1,7 @@
 -- `listing::render_line` meets its contract: a line is split, or its refusal is rendered.
 use borrow.Author.Needs.{needs}
 use native.Mathlib.Omega.{arith}
-use Rattle.format.specs.Records.{bodiesAt}
-use Rattle.book.specs.Kept.{entriesAt}
-use Rattle.listing.proofs.Rendering.{line-stopped, line-split}
+use Rattle.listing.proofs.Rendering.{line-stopped}
 use Rattle.listing.proofs.render_line.Statement.{statement}
 use Rattle.listing.proofs.render_line.Tie as tie
 
@@ -34,24 +32,22 @@ slice-aggregate-render-values-2 c = search needs
 render-values-requires : tie.Need-render-values-requires
 render-values-requires c κs =
     let s = rw (c .before .before .before .before .found2 .given .1) at (c .before .before .before .before .before .before .before .before .split .ensures) in
-    (c .before .before .before .before .before .before .before .before .before .before .before .before .before .before .before .before .before .pre, record { split = s; starts-room = omega arith; ends-room = omega arith })
+    (c .before .before .before .before .before .before .before .before .before .before .before .before .before .before .before .before .before .before .before .pre, record { split = s; starts-room = omega arith; ends-room = omega arith })
 
 same-length : tie.Need-same-length
 same-length c = search needs
 
 returns : tie.Need-returns
 returns c =
-    let a = c .before .before .before .before .before .before .before .before .before .before .before .before .before .before .before .before .before .before .args in
-    rw (← line-stopped (bodiesAt (a .book .now) (a .names .now) (a .types)) (entriesAt (a .book .now) (bodiesAt (a .book .now) (a .names .now) (a .types)) (a .offsets .now) (a .count)) (a .values .now) (rw (c .before .before .before .before .before .found .given .1) at (c .before .before .before .before .before .before .before .before .before .split .ensures))) (c .before .before .render-refusal .ensures)
+    let a = c .before .before .before .before .before .before .before .before .before .before .before .before .before .before .before .before .before .before .before .before .args in
+    let stopped = rw (c .before .before .before .before .before .found .given .1) at (c .before .before .before .before .before .before .before .before .before .split .ensures) in
+    rw (← line-stopped (a .book .now) (a .line .now) (a .values .now) (c .before .before .before .before .before .before .before .before .before .before .before .before .before .before .before .before .before .before .before .before .pre .1 .1 .parsed) stopped) (c .before .before .render-refusal .ensures)
 
 same-length-2 : tie.Need-same-length-2
 same-length-2 c = search needs
 
 returns-2 : tie.Need-returns-2
-returns-2 c =
-    let a = c .before .before .before .before .before .before .before .before .before .before .before .before .before .before .before .before .before .before .before .before .args in
-    let s = rw (c .before .before .before .before .before .before .before .found2 .given .1) at (c .before .before .before .before .before .before .before .before .before .before .before .split .ensures) in
-    rw (← line-split (bodiesAt (a .book .now) (a .names .now) (a .types)) (entriesAt (a .book .now) (bodiesAt (a .book .now) (a .names .now) (a .types)) (a .offsets .now) (a .count)) (a .line .now) (c .before .before .before .before .before .before .before .before .before .before .before .split .last .1 .0) (c .before .before .before .before .before .before .before .before .before .before .before .split .last .1 .1 .0) (c .before .before .before .before .before .before .before .found2 .given .0 .0) (a .values .now) s) (c .before .before .render-values .ensures)
+returns-2 c = c .before .before .render-values .ensures
 
 pub render-line-spec : {M : Type 1} → statement M
 render-line-spec =

@@ -5,10 +5,10 @@ use Rattle.cases_listing.proofs.rooms.rooms.Statement.{statement}
 use Rattle.cases_listing.proofs.rooms.rooms.Tie as tie
 
 abbrev Inv-loop : tie.InvT-loop
-Inv-loop bytes length label line room₀ room = room ≤ 27
+Inv-loop bytes length label line room₀ room = room ≤ 29
 
 abbrev μ-loop : tie.MeasureT-loop
-μ-loop bytes length label line room₀ room = 27 - room
+μ-loop bytes length label line room₀ room = 29 - room
 
 loop-holds : tie.Need-loop-holds Inv-loop μ-loop
 loop-holds c = omega arith

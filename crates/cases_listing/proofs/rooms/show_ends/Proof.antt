@@ -5,10 +5,10 @@ use Rattle.cases_listing.proofs.rooms.show_ends.Statement.{statement}
 use Rattle.cases_listing.proofs.rooms.show_ends.Tie as tie
 
 abbrev Inv-loop : tie.InvT-loop
-Inv-loop text₀ i₀ text i = i ≤ 28
+Inv-loop text₀ i₀ text i = i ≤ 30
 
 abbrev μ-loop : tie.MeasureT-loop
-μ-loop text₀ i₀ text i = 28 - i
+μ-loop text₀ i₀ text i = 30 - i
 
 loop-holds : tie.Need-loop-holds Inv-loop μ-loop
 loop-holds c = omega arith

@@ -1,9 +1,9 @@
--- `listing::parts::value_at` meets its contract: past the end there is 0.
+-- `bytewise::widths::value_at` meets its contract: past the end there is 0.
 use borrow.Author.Needs.{needs}
 use mathlib.Core.Path.{sym}
 use lib.ListN.{List·getD-eq-default}
-use Rattle.listing.proofs.parts.value_at.Statement.{statement}
-use Rattle.listing.proofs.parts.value_at.Tie as tie
+use Rattle.bytewise.proofs.widths.value_at.Statement.{statement}
+use Rattle.bytewise.proofs.widths.value_at.Tie as tie
 
 returns : tie.Need-returns
 returns c = sym (List·getD-eq-default (c .before .before .args .values .now) 0 (c .if1 .taken))

@@ -1,0 +1,3 @@
+-- The letters of a listing, and what they say of a linking.
+pub mod Letters
+pub mod Lettered
