@@ -6,6 +6,8 @@ mod batches;
 mod borders;
 mod damaged_books;
 mod damaged_lines;
+mod links;
+mod listings;
 mod papers;
 #[cfg(test)]
 mod reached;
@@ -19,6 +21,7 @@ use crate::random::Random;
 use crate::types::Refusal;
 pub use ambiguous::ambiguous;
 pub use batches::{batch, Batch};
+pub use listings::{listing, Listing};
 pub use spellings::spellings;
 pub use ways::{way, words_of, Way};
 

@@ -1,8 +1,10 @@
 //! Runs cases through the independent reader and through others, compares what
 //! they return and what they leave in the lent buffer, and counts the outcomes.
+//! `listings` does so with what the program `reading` prints.
 
 mod batches;
 mod lines;
+pub mod listings;
 mod outcomes;
 mod ways;
 
@@ -76,6 +78,14 @@ struct Tallies {
     ways: ByKind<WayTally>,
 }
 
+impl Tallies {
+    fn add(&mut self, other: &Tallies) {
+        add(&mut self.lines, &other.lines);
+        add(&mut self.batches, &other.batches);
+        add(&mut self.ways, &other.ways);
+    }
+}
+
 /// What a buffer holds before it is lent.
 fn prefilled(lent: usize) -> Vec<u16> {
     (0..lent).map(|place| 0xa5c3 ^ place as u16).collect()
@@ -98,11 +108,20 @@ pub fn run(streams: &[Stream], cases: u64, seed: u64, readers: &[Reader]) -> boo
         readers,
         differ: AtomicBool::new(false),
     };
-    let tallies = progress::shown(cases, |done| {
+    let parts = progress::shown(cases, |done| {
         in_threads(|first| comparison.part(first, cases, done))
     });
+    let mut tallies = Tallies::default();
+    for part in &parts {
+        tallies.add(part);
+    }
     print_tallies(&tallies, start.elapsed());
-    let alike = !comparison.differ.into_inner();
+    told_alike(comparison.differ)
+}
+
+/// Whether there was no difference, which then is printed.
+fn told_alike(differ: AtomicBool) -> bool {
+    let alike = !differ.into_inner();
     if alike {
         println!("no difference");
     }
@@ -148,22 +167,17 @@ impl Comparison<'_> {
     }
 }
 
-/// Runs each thread's part and puts the tallies together.
-fn in_threads(part: impl Fn(u64) -> Tallies + Sync) -> Tallies {
-    let mut tallies = Tallies::default();
+/// Runs each thread's part and gives what comes of them.
+fn in_threads<T: Send>(part: impl Fn(u64) -> T + Sync) -> Vec<T> {
     std::thread::scope(|scope| {
         let part = &part;
         let threads: Vec<_> = (0..THREADS)
             .map(|first| scope.spawn(move || part(first)))
             .collect();
-        for thread in threads {
-            let other = thread.join().expect("a thread ends well");
-            add(&mut tallies.lines, &other.lines);
-            add(&mut tallies.batches, &other.batches);
-            add(&mut tallies.ways, &other.ways);
-        }
-    });
-    tallies
+        let joined = threads.into_iter().map(|thread| thread.join());
+        let ended = joined.map(|part| part.expect("a thread ends well"));
+        ended.collect()
+    })
 }
 
 fn add<T: Tally>(tallies: &mut ByKind<T>, others: &ByKind<T>) {
@@ -175,6 +189,10 @@ fn add<T: Tally>(tallies: &mut ByKind<T>, others: &ByKind<T>) {
 fn print_tallies(tallies: &Tallies, time: Duration) {
     let cases =
         print_lines(&tallies.lines) + print_batches(&tallies.batches) + print_ways(&tallies.ways);
+    print_rate(cases, time);
+}
+
+fn print_rate(cases: u64, time: Duration) {
     let seconds = time.as_secs_f64();
     let rate = cases as f64 / seconds;
     println!("{seconds:.2} seconds, {rate:.0} cases a second");

@@ -1,10 +1,12 @@
-//! The book check and the line reader of document 01 with requests 2.1, 2.2,
-//! 2.4, 2.5 and 2.6 of document 02, straight from their definitions: a second
-//! implementation, to be compared with the first.
+//! The book check, the line reader and the listing of document 01 with requests
+//! 2.1, 2.2 and 2.4 to 2.7 of document 02, straight from their definitions: a
+//! second implementation, to be compared with the first.
 
+mod listing;
 mod slashes;
 
 use crate::types::{Counts, InTheWay, Refusal};
+pub use listing::reading;
 
 const MOST_BOOK_BYTES: usize = 65_535;
 const MOST_BASIC_TYPES: usize = 64;
@@ -33,13 +35,7 @@ pub fn check_book(book: &[u8]) -> Result<Counts, Refusal> {
 /// with the answer untouched.
 pub fn read_line(book: &[u8], line: &[u8], answer: &mut [u16]) -> Result<u64, Refusal> {
     let book = parse_book(book)?;
-    let places = places_of(&book, line)?;
-    let number = first_target(&book, &places).ok_or((15, 0))?;
-    let target = book.targets[number];
-    let choice = first_choice(&book.order, places, target);
-    let string: Vec<SimpleType> = choice.iter().flat_map(|e| e.simple_types.clone()).collect();
-    let partners = first_linking(&book.order, &string, target).expect("the choice has a linking");
-    let values = answer_values(number, &choice, &partners);
+    let values = answer_values(&first_reading(&book, line)?);
     if answer.len() < values.len() {
         return Err((16, values.len() as u64));
     }
@@ -128,12 +124,38 @@ fn value_of(number: u64) -> u16 {
 }
 
 /// The target's number, n, the n entry numbers, m, the m partners counted from 1.
-fn answer_values(target_number: usize, choice: &[&Entry], partners: &[usize]) -> Vec<u16> {
-    let mut values = vec![target_number as u16, choice.len() as u16];
+fn answer_values(reading: &Reading) -> Vec<u16> {
+    let (choice, partners) = (&reading.choice, &reading.partners);
+    let mut values = vec![reading.target_number as u16, choice.len() as u16];
     values.extend(choice.iter().map(|entry| entry.number as u16));
     values.push(partners.len() as u16);
     values.extend(partners.iter().map(|partner| *partner as u16 + 1));
     values
+}
+
+/// A reading: the target's number, an entry for each word, their types joined
+/// and the partner of each position, counted from 0.
+struct Reading<'b> {
+    target_number: usize,
+    choice: Vec<&'b Entry<'b>>,
+    string: Vec<SimpleType>,
+    partners: Vec<usize>,
+}
+
+/// The first of a line's readings: refusals 11 to 15.
+fn first_reading<'b>(book: &'b Book<'b>, line: &[u8]) -> Result<Reading<'b>, Refusal> {
+    let places = places_of(book, line)?;
+    let target_number = first_target(book, &places).ok_or((15, 0))?;
+    let target = book.targets[target_number];
+    let choice = first_choice(&book.order, places, target);
+    let string: Vec<SimpleType> = choice.iter().flat_map(|e| e.simple_types.clone()).collect();
+    let partners = first_linking(&book.order, &string, target).expect("the choice has a linking");
+    Ok(Reading {
+        target_number,
+        choice,
+        string,
+        partners,
+    })
 }
 
 // The book

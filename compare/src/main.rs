@@ -3,6 +3,8 @@
 //! - `compare cases [CASES] [SEED]`: the comparison, on lines, on batches of lines and on lines with the words in their way; it ends with
 //!   status 1 at the first difference. Standard error shows how far it has come.
 //! - `compare ways [CASES] [SEED]`: the same on lines with the words in their way alone, most of which have no reading.
+//! - `compare listings PROGRAM [CASES] [SEED]`: what the program `reading` prints, run once for each case, compared with the independent
+//!   reader's listing byte for byte, in the same way.
 //! - `compare bench`: the times.
 //! - `compare once library|twin SAMPLE`: one sample read once, for a tool that counts instructions.
 //! - `compare way library|twin SAMPLE`: the same with the words in its way.
@@ -22,6 +24,8 @@ mod document_batches;
 #[cfg(test)]
 mod document_cases;
 #[cfg(test)]
+mod document_listings;
+#[cfg(test)]
 mod document_slashes;
 #[cfg(test)]
 mod document_targets;
@@ -40,9 +44,9 @@ mod types;
 use readers::{LIBRARY, TWIN};
 use std::process::ExitCode;
 
-const USAGE: &str =
-    "compare cases|ways [CASES] [SEED] | bench | once|way library|twin SAMPLE | samples \
-    | batch library|twin together|alone | check library|twin BOOK | books | search [STEPS] [SEED]";
+const USAGE: &str = "compare cases|ways [CASES] [SEED] | listings PROGRAM [CASES] [SEED] | bench \
+    | once|way library|twin SAMPLE | samples | batch library|twin together|alone \
+    | check library|twin BOOK | books | search [STEPS] [SEED]";
 
 fn main() -> ExitCode {
     let arguments: Vec<String> = std::env::args().skip(1).collect();
@@ -50,6 +54,7 @@ fn main() -> ExitCode {
     let done = match arguments[..] {
         ["cases", ref rest @ ..] => cases(compare::ALL, rest),
         ["ways", ref rest @ ..] => cases(compare::WAYS_ALONE, rest),
+        ["listings", program, ref rest @ ..] => listings(program, rest),
         ["bench"] => {
             bench::tables();
             true
@@ -87,15 +92,27 @@ fn main() -> ExitCode {
 
 /// Compares so many cases of a seed, a million of seed 1 where nothing is said.
 fn cases(streams: &[compare::Stream], arguments: &[&str]) -> bool {
-    let (count, seed) = match arguments[..] {
-        [] => (Ok(1_000_000), Ok(1)),
-        [count] => (count.parse(), Ok(1)),
-        [count, seed] => (count.parse(), seed.parse()),
-        _ => return usage(),
-    };
-    match (count, seed) {
-        (Ok(count), Ok(seed)) => compare::run(streams, count, seed, &[LIBRARY, TWIN]),
-        _ => usage(),
+    match count_and_seed(arguments, 1_000_000) {
+        Some((count, seed)) => compare::run(streams, count, seed, &[LIBRARY, TWIN]),
+        None => usage(),
+    }
+}
+
+/// Compares so many listings of a program, a hundred thousand of seed 1 where nothing is said.
+fn listings(program: &str, arguments: &[&str]) -> bool {
+    match count_and_seed(arguments, 100_000) {
+        Some((count, seed)) => compare::listings::run(program, count, seed),
+        None => usage(),
+    }
+}
+
+/// The number of cases and the seed that arguments say, or so many cases and seed 1.
+fn count_and_seed(arguments: &[&str], usual: u64) -> Option<(u64, u64)> {
+    match arguments[..] {
+        [] => Some((usual, 1)),
+        [count] => Some((count.parse().ok()?, 1)),
+        [count, seed] => Some((count.parse().ok()?, seed.parse().ok()?)),
+        _ => None,
     }
 }
 

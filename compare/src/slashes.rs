@@ -213,7 +213,7 @@ fn ways(string: &[Simple]) -> Vec<Way> {
 }
 
 /// The string reversed, with every exponent moved by one.
-fn adjoint(string: &[Simple], by: i8) -> Vec<Simple> {
+pub fn adjoint(string: &[Simple], by: i8) -> Vec<Simple> {
     let moved = |simple: &Simple| (simple.0, simple.1.wrapping_add(by));
     string.iter().rev().map(moved).collect()
 }

@@ -8,7 +8,7 @@ use crate::random::Random;
 pub type TypeString = Vec<(u8, i8)>;
 
 /// Short words, and longer ones of which some differ in one byte at the front, in the middle or at the end.
-const WORDS: [&str; 16] = [
+pub const WORDS: [&str; 16] = [
     "a",
     "b",
     "ab",
@@ -62,7 +62,7 @@ impl Types {
     }
 
     /// A type at or above the given one, by a few steps along the pairs.
-    fn above(&self, random: &mut Random, mut basic: u8) -> u8 {
+    pub fn above(&self, random: &mut Random, mut basic: u8) -> u8 {
         for _ in 0..random.below(3) {
             let up: Vec<&(u8, u8)> = self.pairs.iter().filter(|p| p.0 == basic).collect();
             if !up.is_empty() {
@@ -73,8 +73,13 @@ impl Types {
     }
 
     /// A type at or below some target, by a few steps along the pairs.
-    fn below_target(&self, random: &mut Random) -> u8 {
-        let mut basic = self.any_target(random);
+    pub fn below_target(&self, random: &mut Random) -> u8 {
+        let target = self.any_target(random);
+        self.below(random, target)
+    }
+
+    /// A type at or below the given one, by a few steps along the pairs.
+    pub fn below(&self, random: &mut Random, mut basic: u8) -> u8 {
         for _ in 0..random.below(3) {
             let down: Vec<&(u8, u8)> = self.pairs.iter().filter(|p| p.1 == basic).collect();
             if !down.is_empty() {
@@ -240,7 +245,7 @@ impl Small {
         self.records_with(random, &NAMES)
     }
 
-    /// The same with other names for the basic types, seven of them.
+    /// The same with other names for the basic types: seven, or one more than there are types.
     pub fn records_with(&self, random: &mut Random, names: &[&str]) -> Records {
         let mut others = Records::default();
         for (lower, upper) in &self.types.pairs {
@@ -250,7 +255,7 @@ impl Small {
             others.target(*target);
         }
         if random.chance(1, 4) {
-            others.basic_type(names[6].as_bytes());
+            others.basic_type(names[self.types.count.max(6)].as_bytes());
         }
         random.shuffle(&mut others.list);
         let mut records = Records::default();
