@@ -27,7 +27,8 @@ use Rattle.reader.specs.Demands.{OrderOf, Readable, Promised}
 use Rattle.letters.specs.Letters.{t}
 use Rattle.letters.specs.Lettered.{Lettered}
 use Rattle.letters.proofs.LetterTheorems.{linking-lettered}
-use Rattle.listing.specs.Listing.{typeOf, joined, shownRows, listedType, listedLetters, readingRows, counted, answerRows, listing}
+use Rattle.printing.specs.Rows.{shownRows}
+use Rattle.listing.specs.Listing.{typeOf, joined, listedType, listedLetters, readingRows, counted, answerRows, listing}
 
 -- An entry of a word, by its number: n entries stand before these.
 abbrev Typed : ℕ → List Entry → NumberedEntry → Type 0

@@ -16,10 +16,11 @@ use Rattle.book.proofs.Accepted.{BookDeclares, accepted-declares}
 use Rattle.line.specs.LineWords.{Word}
 use Rattle.line.specs.LineFaults.{wordFault}
 use Rattle.line.proofs.Passed.{words-few}
-use Rattle.listing.specs.Text.{decimal, signed}
-use Rattle.listing.specs.Listing.{yes, no, refusalRow, typeRow, wordRows, typeOf, shownRows, listedType, counted}
-use Rattle.listing.specs.Placed.{placeBound, Countable}
-use Rattle.listing.proofs.Decimals.{decimal-length}
+use Rattle.printing.specs.Text.{decimal, signed}
+use Rattle.printing.specs.Rows.{yes, no, refusalRow, typeRow, wordRows, shownRows}
+use Rattle.listing.specs.Listing.{typeOf, listedType, counted}
+use Rattle.printing.specs.Placed.{placeBound, Countable}
+use Rattle.printing.proofs.Decimals.{decimal-length}
 use Rattle.listing.proofs.Lengths.{row-of-three, row-of-four, row-of-five, word-rows-within, type-rows-within, TypeShort, empty-short, listed-type-short, joined-within, shown-length}
 
 -- A number of 64 bits has at most 20 digits.

@@ -16,8 +16,9 @@ use Rattle.book.proofs.PaperBooks.{firstBook}
 use Rattle.line.specs.LineWords.{wordsFrom}
 use Rattle.line.specs.LineFaults.{byteFault, wordFault}
 use Rattle.words.specs.declared.LineAnswer.the-variants.{Read, Refused}
-use Rattle.listing.specs.Text.{lastDigits, decimal, signed}
-use Rattle.listing.specs.Listing.{wordRows, typeRows, joined, listing}
+use Rattle.printing.specs.Text.{lastDigits, decimal, signed}
+use Rattle.printing.specs.Rows.{wordRows, typeRows}
+use Rattle.listing.specs.Listing.{joined, listing}
 
 digits-of-0 : decimal 0 ≡ 48 ∷ []
 unfolding lastDigits

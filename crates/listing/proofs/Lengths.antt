@@ -22,9 +22,10 @@ use Rattle.line.specs.LineWords.{Word}
 use Rattle.line.specs.LineFaults.{wordFault}
 use Rattle.line.proofs.Passed.{word-fine}
 use Rattle.letters.specs.Letters.{t}
-use Rattle.listing.specs.Text.{decimal, signed, row}
-use Rattle.listing.specs.Listing.{firstRow, wordRow, typeRow, wordRows, typeRows, typeOf, joined, shownRows}
-use Rattle.listing.proofs.Decimals.{decimal-length}
+use Rattle.printing.specs.Text.{decimal, signed, row}
+use Rattle.printing.specs.Rows.{firstRow, wordRow, typeRow, wordRows, typeRows, shownRows}
+use Rattle.listing.specs.Listing.{typeOf, joined}
+use Rattle.printing.proofs.Decimals.{decimal-length}
 
 -- A byte behind each field.
 pub row-of-three : (a b c : Bytes) → length (row (a ∷ b ∷ c ∷ [])) ≡ length a + length b + length c + 3

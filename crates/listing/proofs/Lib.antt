@@ -1,9 +1,5 @@
-pub mod Placing
-pub mod Decimals
-pub mod Fields
 pub mod PartLaws
 pub mod StringLaws
-pub mod RowLaws
 pub mod Lengths
 pub mod Bounds
 pub mod Rendering

@@ -17,10 +17,11 @@ use Rattle.line.specs.LineWords.{wordsOf}
 use Rattle.line.proofs.Passed.{Passing, line-passing}
 use Rattle.words.specs.declared.LineAnswer.the-variants.{Read}
 use Rattle.reader.specs.Demands.{Promised}
-use Rattle.listing.specs.Text.{decimal, signed}
-use Rattle.listing.specs.Listing.{yes, firstRow, refusalRow, typeRow, wordRows, listedLetters, listing, maxListing}
-use Rattle.listing.specs.Placed.{placeBound}
-use Rattle.listing.proofs.Decimals.{decimal-length}
+use Rattle.printing.specs.Text.{decimal, signed}
+use Rattle.printing.specs.Rows.{yes, firstRow, refusalRow, typeRow, wordRows}
+use Rattle.listing.specs.Listing.{listedLetters, listing, maxListing}
+use Rattle.printing.specs.Placed.{placeBound}
+use Rattle.printing.proofs.Decimals.{decimal-length}
 use Rattle.listing.proofs.Bounds.{refusal-row-short, at-each, declares, name-short, few-words, few-simples, exponent-short}
 use Rattle.listing.proofs.Lengths.{row-of-four, row-of-five, word-rows-within, type-rows-within, shown-length}
 use Rattle.listing.proofs.Answers.{choice-joined, ListsReading, answer-listed}

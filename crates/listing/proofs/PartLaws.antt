@@ -6,8 +6,7 @@ use mathlib.Core.Path.{_≡_, refl, sym, ap, _∙_}
 use mathlib.Core.List.{List, [], _∷_}
 use lib.ListN.{length, getD, take, drop, length-drop, List·getD-eq-default, drop-of-length-le}
 use lib.Seq.{take-all, take-nil}
-use Rattle.format.specs.Records.{Bytes, bodyAt, Whole, bodiesAt}
-use Rattle.format.proofs.NameLaws.{bodies-length, bodies-at}
+use Rattle.format.specs.Records.{Bytes}
 use Rattle.book.specs.Format.{Entry}
 use Rattle.book.specs.declared.EntryType.{EntryType}
 use Rattle.book.specs.Kept.{entryFrom, entriesAt, HeldType}
@@ -15,15 +14,6 @@ use Rattle.lookup.specs.Entries.{Entries}
 use Rattle.lookup.proofs.EntryLaws.{all-length, all-at}
 use Rattle.letters.proofs.LetterLaws.{getD-any}
 use Rattle.listing.specs.Listing.{typeOf, counted}
-
-module _ (bytes : Bytes) (offsets : List ℕ) (count : ℕ) (w : Whole bytes offsets count) where
-  pub name-at : (i : ℕ) → i < count → bodyAt bytes (getD {A = ℕ} offsets i 0) ≡ getD {A = Bytes} (bodiesAt bytes offsets count) i []
-  name-at i h =
-      sym (bodies-at bytes offsets count i h)
-      ∙ getD-any (bodiesAt bytes offsets count) i (bodyAt bytes 0) [] (omega (arith, bodies-length bytes offsets count (w .room)))
-
-  pub no-name : (i : ℕ) → count ≤ i → [] ≡ getD {A = Bytes} (bodiesAt bytes offsets count) i []
-  no-name i h = sym (List·getD-eq-default (bodiesAt bytes offsets count) [] {n = i} (omega (arith, bodies-length bytes offsets count (w .room))))
 
 module _ (bytes : Bytes) (names : List Bytes) (offsets : List ℕ) (count : ℕ) (kept : Entries bytes offsets count) where
   abbrev none : Entry

@@ -21,10 +21,11 @@ use Rattle.line.specs.LineWords.{wordsOf}
 use Rattle.line.specs.Split.{SplitInto, Stopped, at-byte, at-word}
 use Rattle.line.proofs.LineLaws.{words-length}
 use Rattle.reader.specs.Runs.{Open}
-use Rattle.listing.specs.Listing.{refusalRow, joined, listedType, listedLetters, readingRows, counted, answerRows, listed, Renders}
+use Rattle.printing.specs.Rows.{refusalRow}
+use Rattle.listing.specs.Listing.{joined, listedType, listedLetters, readingRows, counted, answerRows, listed, Renders}
 use Rattle.listing.specs.declared.Rendered.the-variants.{Written, TooShort}
-use Rattle.listing.specs.Parts.{keptRows}
-use Rattle.listing.specs.Placed.{Countable, Placed}
+use Rattle.printing.specs.Kept.{keptRows}
+use Rattle.printing.specs.Placed.{Countable, Placed}
 use Rattle.listing.proofs.Bounds.{Narrow, narrow-counted, few-counted, shown-countable}
 
 -- The piece was counted, with no room at all, and is then put where there is room.

@@ -1,5 +1,3 @@
--- The listing of an answer or a refusal: its rows, and how they are written into a lent buffer.
-pub mod Text
+-- The listing of an answer or a refusal.
 pub mod Listing
-pub mod Placed
 pub mod Parts

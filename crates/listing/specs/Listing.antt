@@ -1,9 +1,8 @@
--- Document 01, "A book to try": what `reading` prints of an answer or a refusal. Each kind of row is one definition, its fields in their order.
+-- Document 01, "A book to try": what `reading` prints of an answer or a refusal, in rows as `printing` defines them.
 use Prim.Native.Nat.{ℕ, suc, _+_, _*_, _≤_, _<_}
 use mathlib.Core.Path.{_≡_}
 use mathlib.Core.List.{List, [], _∷_, _++_}
 use mathlib.Core.Option.{Option, none, some}
-use lib.IntN.{ℤ}
 use lib.ListN.{length, getD, take, drop}
 use Rattle.figures.specs.Limits.{maxWords, maxString}
 use Rattle.figures.specs.Refusals.{badLineByte, badWord}
@@ -11,7 +10,7 @@ use Rattle.pregroup.specs.Types.{PregroupType}
 use Rattle.format.specs.Records.{Bytes}
 use Rattle.linking.specs.Reading.{targetAt}
 use Rattle.order.specs.Closed.{below}
-use Rattle.letters.specs.Letters.{t, letters}
+use Rattle.letters.specs.Letters.{letters}
 use Rattle.book.specs.Format.{Entry, Book, Parsed, accepted, refused, parse}
 use Rattle.line.specs.LineWords.{Word, wordsOf}
 use Rattle.line.specs.LineFaults.{byteFault, wordFault}
@@ -19,41 +18,7 @@ use Rattle.words.specs.declared.LineAnswer.{LineAnswer}
 use Rattle.words.specs.declared.LineAnswer.the-variants.{Read, Refused}
 use Rattle.listing.specs.declared.Rendered.{Rendered}
 use Rattle.listing.specs.declared.Rendered.the-variants.{Written, TooShort}
-use Rattle.listing.specs.Text.{decimal, signed, row}
-
-abbrev pub yes : Bytes
-yes = 121 ∷ 101 ∷ 115 ∷ []
-
-abbrev pub no : Bytes
-no = 110 ∷ 111 ∷ []
-
--- The first row of an answer: word count, simple type count, the target's number.
-abbrev pub firstRow : ℕ → ℕ → ℕ → Bytes
-firstRow words simples target = row (yes ∷ decimal words ∷ decimal simples ∷ decimal target ∷ [])
-
--- A word's row: its number, the word as it is typed, its entry.
-abbrev pub wordRow : ℕ → Bytes → ℕ → Bytes
-wordRow number word entry = row (decimal number ∷ word ∷ decimal entry ∷ [])
-
--- A simple type's row: its position, its basic type's name, its exponent, its partner, the letter of its link.
-abbrev pub typeRow : ℕ → Bytes → ℤ → ℕ → ℕ → Bytes
-typeRow position name exponent partner letter = row (decimal position ∷ name ∷ signed exponent ∷ decimal partner ∷ (letter ∷ []) ∷ [])
-
--- The row of a refusal: its number, its value.
-abbrev pub refusalRow : ℕ → ℕ → Bytes
-refusalRow number value = row (no ∷ decimal number ∷ decimal value ∷ [])
-
--- The rows of the words from number k + 1 on, and of the simple types from position k + 1 on, whose letters count from 0. What has no entry or no
--- partner shows 0.
-unfoldable pub wordRows : List ℕ → ℕ → List Word → Bytes
-wordRows entries k [] = []
-wordRows entries k (w ∷ words) = wordRow (suc k) (w .bytes) (getD {A = ℕ} entries k 0) ++ wordRows entries (suc k) words
-
-unfoldable pub typeRows : List Bytes → List ℕ → List ℕ → ℕ → PregroupType → Bytes
-typeRows names letters partners k [] = []
-typeRows names letters partners k (x ∷ X) =
-    typeRow (suc k) (getD {A = Bytes} names (x .base) []) (x .exponent) (getD {A = ℕ} partners k 0) (getD {A = ℕ} letters (suc k) t)
-    ++ typeRows names letters partners (suc k) X
+use Rattle.printing.specs.Rows.{refusalRow, shownRows}
 
 -- The type of an entry. A number that the book does not have stands for the empty type.
 abbrev pub typeOf : List Entry → ℕ → PregroupType
@@ -63,11 +28,6 @@ typeOf entries number = getD {A = Entry} entries number (record { word = []; typ
 unfoldable pub joined : List Entry → List ℕ → PregroupType
 joined entries [] = []
 joined entries (number ∷ chosen) = typeOf entries number ++ joined entries chosen
-
--- The first row, the rows of the words and those of the simple types.
-abbrev pub shownRows : List Bytes → List Word → ℕ → List ℕ → PregroupType → List ℕ → List ℕ → Bytes
-shownRows names words target chosen string letters partners =
-    firstRow (length chosen) (length partners) target ++ (wordRows chosen 0 words ++ typeRows names letters partners 0 string)
 
 -- The simple types that are listed: those of the entries of the line's words.
 abbrev pub listedType : Book → List Word → List ℕ → PregroupType

@@ -1,8 +1,6 @@
 // The listing of an answer or of a refusal, as text in a lent buffer: for any book, line and values. What it is, is defined in specs/Listing.
 mod parts;
-mod rows;
 mod strings;
-mod text;
 
 use book::Scan;
 use bytewise::widths::value_at;
@@ -18,13 +16,15 @@ use lookup::keys::PLACES;
 use parts::counted;
 use parts::first_values;
 use parts::target_at;
+use printing::put_reading;
+use printing::put_refusal_row;
 use reader::open_book;
-use rows::put_reading;
-use rows::put_refusal_row;
 use strings::join_types;
 use words::LineAnswer;
-ghost use Rattle.listing.specs.Listing.{refusalRow, listed, listing, Renders};
-ghost use Rattle.listing.specs.Parts.{BookKept, LineKept, keptRows, Puttable};
+ghost use Rattle.printing.specs.Rows.{refusalRow};
+ghost use Rattle.listing.specs.Listing.{listed, listing, Renders};
+ghost use Rattle.printing.specs.Kept.{LineKept, keptRows, Puttable};
+ghost use Rattle.listing.specs.Parts.{BookKept};
 
 // How many bytes the listing of what `read_line` answers has at most: 13 for its first row (`yes 24 288 7` and the byte that ends it),
 // 40 for each word and 29 for each simple type. specs/Listing has the same figure; proofs/Longest proves it enough.

@@ -1,30 +1,17 @@
-// What the rows of a listing show, found where it stands: names and types in the book, counted values in the answer. Nothing is taken on
-// trust: what is not there counts as empty, or as 0.
+// What a listing shows, found where it stands: types and targets of the book, counted values of the answer. Nothing is taken on trust: what is
+// not there counts as empty, or as 0.
 use book::EntryType;
 use book::entries::entry_type;
 use bytewise::widths::wide_number;
 use figures::limits::MAX_ENTRY_SIMPLES;
-use format::layout::body_at;
 ghost use mathlib.Core.Path.{_≡_};
-ghost use mathlib.Core.List.{[]};
 ghost use lib.ListN.{getD, take};
 ghost use Rattle.linking.specs.Reading.{targetAt};
-ghost use Rattle.format.specs.Records.{Whole, bodiesAt};
+ghost use Rattle.format.specs.Records.{bodiesAt};
 ghost use Rattle.format.specs.Names.{Named};
 ghost use Rattle.book.specs.Kept.{entriesAt, HeldType};
 ghost use Rattle.lookup.specs.Entries.{Lexicon};
 ghost use Rattle.listing.specs.Listing.{typeOf, counted as Listing·counted};
-
-// The name of a basic type.
-pub(crate) fn name_of<'a>(book: &'a [u8], names: &[u16], types: usize, base: usize) -> &'a [u8]
-    requires { ⌜ Whole (now book) (now names) types ⌝ }
-    ensures { λ r. ⌜ now r ≡ getD (bodiesAt (now (book .entry)) (now (names .entry)) types) base [] ⌝ }
-{
-    if types <= base {
-        return &book[..0];
-    }
-    body_at(book, wide_number(names[base]))
-}
 
 // The type of an entry. A number that the book does not have stands for the empty type.
 pub(crate) fn type_of(

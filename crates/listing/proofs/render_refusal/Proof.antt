@@ -1,7 +1,7 @@
 -- `listing::render_refusal` meets its contract: the row is counted, and put where there is room for it.
 use borrow.Author.Needs.{needs}
 use native.Mathlib.Omega.{arith}
-use Rattle.listing.specs.Listing.{refusalRow}
+use Rattle.printing.specs.Rows.{refusalRow}
 use Rattle.listing.proofs.Bounds.{refusal-countable}
 use Rattle.listing.proofs.Rendering.{renders-short, renders-written}
 use Rattle.listing.proofs.render_refusal.Statement.{statement}

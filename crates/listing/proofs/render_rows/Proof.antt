@@ -1,6 +1,6 @@
 -- `listing::render_rows` meets its contract: the rows are counted, and put where there is room for them.
 use borrow.Author.Needs.{needs}
-use Rattle.listing.specs.Parts.{keptRows}
+use Rattle.printing.specs.Kept.{keptRows}
 use Rattle.listing.proofs.Rendering.{renders-short, renders-written}
 use Rattle.listing.proofs.render_rows.Statement.{statement}
 use Rattle.listing.proofs.render_rows.Tie as tie

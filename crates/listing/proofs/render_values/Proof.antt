@@ -11,8 +11,8 @@ use Rattle.pregroup.specs.Held.{held}
 use Rattle.format.specs.Records.{Bytes, bodiesAt}
 use Rattle.book.specs.Kept.{entriesAt}
 use Rattle.listing.specs.Listing.{joined, listed}
-use Rattle.listing.specs.Parts.{keptRows}
-use Rattle.listing.specs.Placed.{Countable}
+use Rattle.printing.specs.Kept.{keptRows}
+use Rattle.printing.specs.Placed.{Countable}
 use Rattle.listing.proofs.Bounds.{Narrow}
 use Rattle.listing.proofs.Rendering.{lexicon-kept, kept-countable, kept-listed}
 use Rattle.listing.proofs.render_values.Statement.{statement}

@@ -1,0 +1,5 @@
+pub mod Placing
+pub mod Decimals
+pub mod Fields
+pub mod NameLaws
+pub mod RowLaws
