@@ -24,11 +24,10 @@ use Rattle.line.proofs.Passed.{line-passing}
 use Rattle.words.specs.declared.LineAnswer.the-variants.{Read}
 use Rattle.words.specs.Answers.{valuesOf}
 use Rattle.reader.specs.Demands.{OrderOf, Readable, Promised}
-use Rattle.letters.specs.Letters.{t}
-use Rattle.letters.specs.Lettered.{Lettered}
 use Rattle.letters.proofs.LetterTheorems.{linking-lettered}
 use Rattle.printing.specs.Rows.{shownRows}
 use Rattle.listing.specs.Listing.{typeOf, joined, listedType, listedLetters, readingRows, counted, answerRows, listing}
+use Rattle.listing.specs.ListingDemands.{ListsReading}
 
 -- An entry of a word, by its number: n entries stand before these.
 abbrev Typed : ℕ → List Entry → NumberedEntry → Type 0
@@ -93,26 +92,6 @@ module _ (target : ℕ) (entries partners : List ℕ) where
       ap (λ (chosen : List ℕ). readingRows B words target chosen (counted values (suc (suc (length chosen))))) entries-counted
       ∙ ap (readingRows B words target entries) partners-counted
 
--- The listing of a reading.
-pub record ListsReading (book line text : Bytes) : Type 0 where
-  pub contents : Book
-  pub words : Words
-  pub target : ℕ
-  pub entries : List ℕ
-  pub partners : List ℕ
-  pub type : PregroupType
-  -- It is the first reading of the line, by this choice.
-  pub readable : Readable book line contents words
-  pub first : IsFirst (OrderOf contents) (contents .targets) words target entries partners
-  pub chosen : Choice words entries type
-  -- Each word has an entry, each simple type a partner, and the simple types that are listed are those of the choice.
-  pub entry-each : length entries ≡ length (wordsOf line)
-  pub partner-each : length partners ≡ length type
-  pub joins : listedType contents (wordsOf line) entries ≡ type
-  -- Each row of a simple type ends with the letter of its link: `t` exactly where the link needs the order.
-  pub lettered : Lettered (OrderOf contents) (targetAt (contents .targets) target) type partners (λ i. getD {A = ℕ} (listedLetters contents target type partners) i t)
-  pub rows : text ≡ shownRows (contents .names) (wordsOf line) target entries type (listedLetters contents target type partners) partners
-
 -- What is promised of an answer makes its listing that of the first reading.
 pub answer-listed : (book line : Bytes) (buffer after : List ℕ) (n : ℕ) → Promised book line buffer (Read n) after → ListsReading book line (listing book line (Read n) after)
 answer-listed book line buffer after n p =
@@ -137,6 +116,7 @@ answer-listed book line buffer after n p =
       entry-each = each .1;
       partner-each = reading .linking .count;
       joins = joins;
+      letters = listedLetters B (w .target) (reading .type) (w .partners);
       lettered = linking-lettered (below-decides (length (B .names)) (B .pairs) (accepted-declares book B (a .2 .book-accepted) .pairs)) (reading .linking);
       rows = rw (a .2 .book-accepted, passes .bytes-fine, passes .words-fine, w .whole) (answer-rows (w .target) (w .entries) (w .partners) B (wordsOf line)) ∙ ap shown joins;
     }

@@ -5,4 +5,5 @@ pub mod Bounds
 pub mod Rendering
 pub mod Answers
 pub mod Longest
+pub mod ListingPromises
 pub mod Examples

@@ -19,12 +19,13 @@ use Rattle.words.specs.declared.LineAnswer.the-variants.{Read}
 use Rattle.reader.specs.Demands.{Promised}
 use Rattle.printing.specs.Text.{decimal, signed}
 use Rattle.printing.specs.Rows.{yes, firstRow, refusalRow, typeRow, wordRows}
-use Rattle.listing.specs.Listing.{listedLetters, listing, maxListing}
+use Rattle.listing.specs.ListingDemands.{ListsReading}
+use Rattle.listing.specs.Listing.{listing, maxListing}
 use Rattle.printing.specs.Placed.{placeBound}
 use Rattle.printing.proofs.Decimals.{decimal-length}
 use Rattle.listing.proofs.Bounds.{refusal-row-short, at-each, declares, name-short, few-words, few-simples, exponent-short}
 use Rattle.listing.proofs.Lengths.{row-of-four, row-of-five, word-rows-within, type-rows-within, shown-length}
-use Rattle.listing.proofs.Answers.{choice-joined, ListsReading, answer-listed}
+use Rattle.listing.proofs.Answers.{choice-joined, answer-listed}
 
 -- A partner is a position.
 partner-within : {Le : Relation} {s : Basic} {X : PregroupType} {P : List ℕ} → IsLinking Le s X P → (i : ℕ) → getD {A = ℕ} P i 0 ≤ length P
@@ -89,15 +90,14 @@ module _ (book line text : Bytes) (r : ListsReading book line text) where
   -- The listing of a reading.
   reading-short : length text ≤ maxListing
   reading-short =
-      let letters = listedLetters B (r .target) (r .type) (r .partners) in
       omega (
         arith,
         ap length (r .rows),
-        shown-length (B .names) (wordsOf line) (r .target) (r .entries) (r .type) letters (r .partners),
+        shown-length (B .names) (wordsOf line) (r .target) (r .entries) (r .type) (r .letters) (r .partners),
         first-row-short,
         word-rows-short,
         few,
-        type-rows-within 29 (B .names) letters (r .partners) 0 (r .type) (λ j l x h m. type-row-short j l x (omega arith) m),
+        type-rows-within 29 (B .names) (r .letters) (r .partners) 0 (r .type) (λ j l x h m. type-row-short j l x (omega arith) m),
         simples,
       )
 

@@ -24,6 +24,7 @@ use words::LineAnswer;
 ghost use Rattle.printing.specs.Rows.{refusalRow};
 ghost use Rattle.listing.specs.Listing.{listed, listing, Renders};
 ghost use Rattle.printing.specs.Kept.{LineKept, keptRows, Puttable};
+ghost use Rattle.listing.specs.ListingDemands.{ListingPromised};
 ghost use Rattle.listing.specs.Parts.{BookKept};
 
 // How many bytes the listing of what `read_line` answers has at most: 13 for its first row (`yes 24 288 7` and the byte that ends it),
@@ -238,6 +239,7 @@ pub fn render(
     text: &mut [u8],
 ) -> Rendered
     ensures { λ r. ⌜ Renders (listing (now (book .entry)) (now (line .entry)) answer (now (buffer .entry))) (now (text .entry)) r (now (text .exit)) ⌝ }
+    ensures { λ r. ⌜ ListingPromised (now (book .entry)) (now (line .entry)) answer (now (buffer .entry)) (now (text .entry)) r (now (text .exit)) ⌝ }
 {
     match answer {
         LineAnswer::Refused { number, value } => render_refusal(number, value, text),

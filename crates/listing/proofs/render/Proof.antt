@@ -3,6 +3,7 @@ use borrow.Author.Needs.{needs}
 use native.Mathlib.Omega.{arith}
 use native.Mathlib.Nat.{sub-zero}
 use lib.Seq.{take-all}
+use Rattle.listing.proofs.ListingPromises.{with-promises}
 use Rattle.listing.proofs.render.Statement.{statement}
 use Rattle.listing.proofs.render.Tie as tie
 
@@ -22,7 +23,10 @@ same-length : tie.Need-same-length
 same-length c = search needs
 
 returns : tie.Need-returns
-returns c = rw (c .before .before .before .before .before .before .answer2 .given .1, take-all (c .before .before .before .before .before .before .answer2 .given .0 .0) (c .before .before .before .before .before .before .before .before .before .before .before .before .args .buffer .now) (omega arith)) (c .before .before .render-answer .ensures)
+returns c =
+    let a = c .before .before .before .before .before .before .before .before .before .before .before .before .args in
+    with-promises (a .book .now) (a .line .now) (a .answer) (a .buffer .now)
+    (rw (c .before .before .before .before .before .before .answer2 .given .1, take-all (c .before .before .before .before .before .before .answer2 .given .0 .0) (c .before .before .before .before .before .before .before .before .before .before .before .before .args .buffer .now) (omega arith)) (c .before .before .render-answer .ensures))
 
 sub-render-answer : tie.Need-sub-render-answer
 sub-render-answer c = search needs
@@ -40,13 +44,19 @@ same-length-2 : tie.Need-same-length-2
 same-length-2 c = search needs
 
 returns-2 : tie.Need-returns-2
-returns-2 c = rw (c .before .before .before .before .before .answer .given .1) (c .before .before .render-refusal .ensures)
+returns-2 c =
+    let a = c .before .before .before .before .before .before .before .before .before .before .before .args in
+    with-promises (a .book .now) (a .line .now) (a .answer) (a .buffer .now)
+    (rw (c .before .before .before .before .before .answer .given .1) (c .before .before .render-refusal .ensures))
 
 same-length-3 : tie.Need-same-length-3
 same-length-3 c = search needs
 
 returns-3 : tie.Need-returns-3
-returns-3 c = rw (c .before .before .before .before .before .before .before .answer2 .given .1) (rw sub-zero at (c .before .before .render-answer2 .ensures))
+returns-3 c =
+    let a = c .before .before .before .before .before .before .before .before .before .before .before .before .before .args in
+    with-promises (a .book .now) (a .line .now) (a .answer) (a .buffer .now)
+    (rw (c .before .before .before .before .before .before .before .answer2 .given .1) (rw sub-zero at (c .before .before .render-answer2 .ensures)))
 
 pub render-spec : {M : Type 1} → statement M
 render-spec =

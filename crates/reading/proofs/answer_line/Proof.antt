@@ -36,7 +36,7 @@ part-write-all-start c = search needs
 
 part-write-all-end : tie.Need-part-write-all-end
 part-write-all-end c =
-    let w = rw (c .before .before .rendered .given .1) at (c .before .before .before .before .before .render .ensures) in
+    let w = rw (c .before .before .rendered .given .1) at (c .before .before .before .before .before .render .ensures .0) in
     omega (arith, w .0, w .1)
 
 write-all-requires : tie.Need-write-all-requires

@@ -41,7 +41,7 @@ part-write-all-end : tie.Need-part-write-all-end
 part-write-all-end c =
     let r = c .before .before in
     let rendered = r .before .before .before .before .before .before .before in
-    let w = rw (r .result .given .1) at (rendered .render .ensures) in
+    let w = rw (r .result .given .1) at (rendered .render .ensures .0) in
     omega (arith, w .0, w .1)
 
 write-all-requires-3 : tie.Need-write-all-requires-3
