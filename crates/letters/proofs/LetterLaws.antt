@@ -4,7 +4,7 @@ use native.Mathlib.Omega.{arith}
 use native.Mathlib.Numerals.{add-one}
 use mathlib.Core.Path.{_≡_, refl, sym, ap, _∙_}
 use mathlib.Core.List.{List, [], _∷_, map}
-use lib.ListN.{length, getD, take, set, length-map, length-set}
+use lib.ListN.{length, getD, take, set, length-map, length-set, List·getD-map}
 use lib.Seq.{getD-take, take-suc-set}
 use borrow.Author.Tests.{lt-ltb, le-ltb, eq-eqb, ne-eqb, le-leb, lt-leb}
 use Rattle.pregroup.specs.Types.{Basic, PregroupType, plain, simpleRight}
@@ -15,11 +15,15 @@ use Rattle.pregroup.specs.declared.LinkKind.the-variants.{Not}
 use Rattle.linking.specs.Linking.{simpleAt, partner}
 use Rattle.letters.specs.Letters.{t, letterOf, linkAt, nextLetter, letters}
 
+-- What is there does not depend on what counts where nothing is there.
+pub getD-any {ℓ} : {A : Type ℓ} (l : List A) (n : ℕ) (a b : A) → n < length l → getD l n a ≡ getD l n b
+getD-any [] n a b h = absurd (omega arith)
+getD-any (x ∷ l) zero a b h = refl
+getD-any (x ∷ l) (suc n) a b h = getD-any l n a b (omega arith)
+
 -- The simple type at a place of a held string.
 held-at : (string : List ℕ) (n : ℕ) → n < length string → getD (map held string) n (plain 0) ≡ held (getD string n 0)
-held-at [] n h = absurd (omega arith)
-held-at (x ∷ string) zero h = refl
-held-at (x ∷ string) (suc n) h = held-at string n (omega arith)
+held-at string n h = getD-any (map held string) n (plain 0) (held 0) (omega (arith, length-map string held)) ∙ List·getD-map held string n 0
 
 module _ (le : Test) (s : Basic) (X : PregroupType) (i k : ℕ) where
   -- The three cases of `linkAt`.
@@ -56,12 +60,6 @@ module _ (le : Test) (s : Basic) (X : PregroupType) (P before : List ℕ) (i : �
 
   pub letter-linked : i ≤ partner P i → nextLetter le s X P before i ≡ letterOf (linkAt le s X i (partner P i))
   letter-linked h = rw (le-ltb (partner P i) i h) refl
-
--- What is there does not depend on what counts where nothing is there.
-pub getD-any {ℓ} : {A : Type ℓ} (l : List A) (n : ℕ) (a b : A) → n < length l → getD l n a ≡ getD l n b
-getD-any [] n a b h = absurd (omega arith)
-getD-any (x ∷ l) zero a b h = refl
-getD-any (x ∷ l) (suc n) a b h = getD-any l n a b (omega arith)
 
 -- What `next_letter` gives, by the partner k that it reads: the letter that stands there, or that of the link.
 module _ (le : Test) (s : Basic) (X : PregroupType) (P row : List ℕ) (i k : ℕ) (read : k ≡ partner P i) where

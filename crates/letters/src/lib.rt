@@ -7,9 +7,9 @@ use pregroup::may_contract;
 ghost use Prim.Native.Nat.{suc, _≤_, _<_};
 ghost use mathlib.Core.Path.{_≡_};
 ghost use mathlib.Core.List.{map};
-ghost use lib.ListN.{length, getD, take};
+ghost use lib.ListN.{length, take};
 ghost use Rattle.pregroup.specs.Held.{held, inRows};
-ghost use Rattle.letters.specs.Letters.{t, letterOf, linkAt, nextLetter, letters as Letters·letters};
+ghost use Rattle.letters.specs.Letters.{letterOf, linkAt, nextLetter, letters as Letters·letters};
 
 const SAME: u8 = b'e';
 

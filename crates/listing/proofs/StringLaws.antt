@@ -1,27 +1,18 @@
 -- How the string of a reading is written: the simple types of one entry, and those of the entries one behind another.
-use Prim.Native.Nat.{ℕ, zero, suc, _+_, _≤_, _<_}
+use Prim.Native.Nat.{ℕ, suc, _+_, _≤_, _<_}
 use native.Mathlib.Numerals.{add-one}
 use native.Mathlib.Omega.{arith}
-use mathlib.Core.Path.{_≡_, refl, sym, ap, _∙_}
-use mathlib.Core.List.{List, [], _∷_, _++_, map, append-nil, append-assoc}
+use mathlib.Core.Path.{_≡_, sym, ap, _∙_}
+use mathlib.Core.List.{List, [], _∷_, _++_, map, append-nil, append-assoc, map-append}
 use lib.ListN.{length, getD, set, take, drop, drop-of-length-le}
-use lib.Seq.{take-suc-set, take-all, drop-cons}
-use Rattle.pregroup.specs.Types.{Simple, PregroupType, plain}
+use lib.Seq.{take-suc, take-suc-set, take-all, drop-cons}
+use Rattle.pregroup.specs.Types.{PregroupType, plain}
 use Rattle.pregroup.specs.Held.{held}
 use Rattle.book.specs.Format.{Entry}
 use Rattle.book.specs.declared.EntryType.{EntryType}
 use Rattle.book.specs.Kept.{HeldType}
 use Rattle.rules.proofs.HeldDeclared.{holds-at}
 use Rattle.listing.specs.Listing.{typeOf, joined}
-
-map-append : (xs ys : List ℕ) → map held (xs ++ ys) ≡ map held xs ++ map held ys
-map-append [] ys = refl
-map-append (x ∷ xs) ys = ap (λ (rest : PregroupType). held x ∷ rest) (map-append xs ys)
-
-take-next : (X : PregroupType) (j : ℕ) → j < length X → take (suc j) X ≡ take j X ++ (getD X j (plain 0) ∷ [])
-take-next [] j h = absurd (omega arith)
-take-next (x ∷ X) zero h = refl
-take-next (x ∷ X) (suc j) h = ap (λ (rest : PregroupType). x ∷ rest) (take-next X j (omega arith))
 
 -- The first j simple types of the type that is held stand behind the first places.
 module _ (t : EntryType) (X : PregroupType) (holds : HeldType t X) (before : List ℕ) (from : ℕ) where
@@ -37,7 +28,7 @@ module _ (t : EntryType) (X : PregroupType) (holds : HeldType t X) (before : Lis
       let inside : j < length X = omega (arith, holds .count) in
       let next : from + (j + 1) ≡ suc (from + j) = omega arith in
       let x = getD {A = ℕ} (t .simples) j 0 in
-      rw (next, take-suc-set string (from + j) x room, map-append (take (from + j) string) (x ∷ []), a, holds-at (holds .simples) j inside, add-one j, take-next X j inside)
+      rw (next, take-suc-set string (from + j) x room, map-append held (take (from + j) string) (x ∷ []), a, holds-at (holds .simples) j inside, add-one j, take-suc X j (plain 0) inside)
       (append-assoc (map held (take from before)) (take j X) (getD X j (plain 0) ∷ []))
 
   pub appended-all : (string : List ℕ) → Appended string (t .count) → map held (take (from + t .count) string) ≡ map held (take from before) ++ X
