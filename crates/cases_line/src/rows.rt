@@ -49,8 +49,19 @@ fn values(list: &[u16], count: usize) {
     }
 }
 
-// Writes the values of an answer, or no, a number and a value.
-fn answer(result: LineAnswer, list: &[u16]) {
+// Writes the values of an answer, or no, a number and a value, and behind 15 the number of the words in the way.
+fn answer(result: WayAnswer, list: &[u16]) {
+    match result {
+        WayAnswer::Ordinary(ordinary) => ordinary_answer(ordinary, list),
+        WayAnswer::NoReading { words } => {
+            io::write_all(1, b" no 15 0 words");
+            number(words as u64);
+        }
+    }
+}
+
+// The same for an answer without that number.
+fn ordinary_answer(result: LineAnswer, list: &[u16]) {
     match result {
         LineAnswer::Read { values: count } => values(list, count),
         LineAnswer::Refused {
@@ -65,19 +76,24 @@ fn answer(result: LineAnswer, list: &[u16]) {
 }
 
 // Writes yes or no.
-fn whether(result: LineAnswer) {
+fn whether(result: WayAnswer) {
     match result {
-        LineAnswer::Read { .. } => {
-            io::write_all(1, b" yes");
-        }
-        LineAnswer::Refused { .. } => {
+        WayAnswer::Ordinary(ordinary) => match ordinary {
+            LineAnswer::Read { .. } => {
+                io::write_all(1, b" yes");
+            }
+            LineAnswer::Refused { .. } => {
+                io::write_all(1, b" no");
+            }
+        },
+        WayAnswer::NoReading { .. } => {
             io::write_all(1, b" no");
         }
     }
 }
 
 // Writes what a row says of a result and the buffer behind it.
-fn shown(result: LineAnswer, list: &[u16], lent: usize, show: Show) {
+fn shown(result: WayAnswer, list: &[u16], lent: usize, show: Show) {
     match show {
         Show::Answer => answer(result, list),
         Show::Whether => whether(result),
@@ -91,19 +107,12 @@ fn shown(result: LineAnswer, list: &[u16], lent: usize, show: Show) {
     }
 }
 
-// Writes what a row says of the words in the way, and the buffer behind it.
-fn shown_in_the_way(result: WayAnswer, list: &[u16], lent: usize) {
-    io::write_all(1, b" lent");
-    number(lent as u64);
-    match result {
-        WayAnswer::Ordinary(ordinary) => answer(ordinary, list),
-        WayAnswer::NoReading { words } => {
-            io::write_all(1, b" no 15 0 words");
-            number(words as u64);
-        }
+// Reads a line by the entry that a row is about.
+fn read(book: &[u8], line: &[u8], answer: &mut [u16], show: Show) -> WayAnswer {
+    match show {
+        Show::InTheWay => in_the_way::words_in_the_way(book, line, answer),
+        _ => WayAnswer::Ordinary(reader::read_line(book, line, answer)),
     }
-    io::write_all(1, b" buffer");
-    values(list, SHOWN);
 }
 
 // Writes the row of a line, with so many values lent.
@@ -111,19 +120,8 @@ fn row(book: &[u8], label: &[u8], line: &[u8], lent: usize, show: Show) {
     if lent <= VALUES {
         let mut buffer = [MARK; VALUES];
         io::write_all(1, label);
-        let result = reader::read_line(book, line, &mut buffer[..lent]);
+        let result = read(book, line, &mut buffer[..lent], show);
         shown(result, &buffer, lent, show);
-        io::write_all(1, b"\n");
-    }
-}
-
-// Writes the row of a line with the words in its way, with so many values lent.
-fn row_in_the_way(book: &[u8], label: &[u8], line: &[u8], lent: usize) {
-    if lent <= VALUES {
-        let mut buffer = [MARK; VALUES];
-        io::write_all(1, label);
-        let result = in_the_way::words_in_the_way(book, line, &mut buffer[..lent]);
-        shown_in_the_way(result, &buffer, lent);
         io::write_all(1, b"\n");
     }
 }
@@ -131,14 +129,8 @@ fn row_in_the_way(book: &[u8], label: &[u8], line: &[u8], lent: usize) {
 // Writes the row of a case.
 fn row_of_case(book: &[u8], case: &[u8], lent: usize, show: Show) {
     let colon = find(case, b':');
-    if colon >= case.len() {
-        return;
-    }
-    let line = colon + 1;
-    if let Show::InTheWay = show {
-        row_in_the_way(book, &case[0..colon], &case[line..], lent);
-    } else {
-        row(book, &case[0..colon], &case[line..], lent, show);
+    if colon < case.len() {
+        row(book, &case[0..colon], &case[colon + 1..], lent, show);
     }
 }
 

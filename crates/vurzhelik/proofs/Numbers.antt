@@ -1,4 +1,4 @@
--- A refusal handed on as numbers stands for itself: its number is not 0.
+-- Answers handed on as numbers stand for themselves: the number of a refusal is not 0.
 use Prim.Native.Nat.{ℕ}
 use native.Mathlib.Omega.{arith}
 use mathlib.Core.Path.{_≡_, refl, sym, ap, subst}
@@ -11,8 +11,11 @@ use Rattle.book.specs.Format.{Parsed, accepted, refused, parse}
 use Rattle.book.specs.Check.{bookCheck, answerFor, checkReply}
 use Rattle.book.specs.declared.BookCheck.{BookCheck}
 use Rattle.book.specs.declared.BookCheck.the-variants.{Accepted, Refused}
-use Rattle.words.specs.declared.LineAnswer.the-variants.{Refused as RefusedLine}
+use Rattle.words.specs.Answers.{Gives}
+use Rattle.words.specs.declared.LineAnswer.{LineAnswer}
+use Rattle.words.specs.declared.LineAnswer.the-variants.{Read, Refused as RefusedLine}
 use Rattle.reader.specs.Outcome.{outcome}
+use Rattle.reader.specs.Demands.{Promised}
 use Rattle.reader.proofs.Refusals.{book-some, line-some, NamedParse, parse-named}
 use Rattle.reader.proofs.Promises.{refusals-within}
 use Rattle.batch.specs.declared.BatchAnswer.the-variants.{Refused as RefusedBatch}
@@ -20,8 +23,9 @@ use Rattle.batch.specs.Batch.{batchOutcome}
 use Rattle.batch.proofs.BatchPromises.{batch-refusals}
 use Rattle.in_the_way.specs.declared.WayAnswer.the-variants.{Ordinary}
 use Rattle.in_the_way.specs.Way.{wayParsed, wayOutcome}
+use Rattle.in_the_way.specs.WayDemands.{WayPromised}
 use Rattle.in_the_way.proofs.WayPromises.{ordinary-apart}
-use Rattle.vurzhelik.specs.Calls.{Checks, answerOf, batchAnswerOf, wayAnswerOf, WithFifteen}
+use Rattle.vurzhelik.specs.Calls.{Checks, numberFor, valueFor, answerOf, batchAnswerOf, wayAnswerOf, WithFifteen}
 
 abbrev NamedCheck : BookCheck → Type 0
 NamedCheck (Accepted types entries pairs) = Unit {0}
@@ -47,22 +51,29 @@ accepted-checks bytes before types entries pairs e =
     subst (λ check. Checks (checkReply check) before 0 0 (types ∷ entries ∷ pairs ∷ [])) e
     (record { same-number = refl; accepted = λ _. (refl, refl); refused = λ some. absurd (some refl) })
 
-pub refused-answers : (book line : Bytes) (buffer : List ℕ) (number value : ℕ) → RefusedLine number value ≡ outcome book line buffer .answer → RefusedLine number value ≡ answerOf number value
-refused-answers book line buffer number value e = rw (ne-eqb number 0 (λ z. omega (arith, line-some (refusals-within book line buffer number value (sym e)))))
+-- A number and a value that an answer is handed on by stand for that answer.
+answer-handed : (book line : Bytes) (buffer : List ℕ) (a : LineAnswer) → a ≡ outcome book line buffer .answer → answerOf (numberFor a) (valueFor a) ≡ a
+answer-handed book line buffer (Read values) e = refl
+answer-handed book line buffer (RefusedLine number value) e = rw (ne-eqb number 0 (λ z. omega (arith, line-some (refusals-within book line buffer number value (sym e))))) refl
 
--- Of the words in the way: 15 with the number, another refusal, an answer.
+pub line-handed : (book line : Bytes) (buffer : List ℕ) {a : LineAnswer} {after : List ℕ} {number value : ℕ} → (number ≡ numberFor a) × (value ≡ valueFor a)
+    → Gives (outcome book line buffer) a after × Promised book line buffer a after
+    → Gives (outcome book line buffer) (answerOf number value) after × Promised book line buffer (answerOf number value) after
+line-handed book line buffer h said = rw (h .0, h .1, answer-handed book line buffer _ (said .0 .returned)) said
+
+-- The same with the words in the way, for an answer that has no number of theirs.
 module _ (book line : Bytes) (buffer : List ℕ) where
-  another : (number value : ℕ) → Ordinary (RefusedLine number value) ≡ wayOutcome book line buffer .answer → number ≡ noReading → ⊥
-  another number value e = ordinary-apart (wayParsed (parse book) line) (outcome book line buffer .answer) number value (sym e)
+  another : (a : LineAnswer) → Ordinary a ≡ wayOutcome book line buffer .answer → numberFor a ≡ noReading → ⊥
+  another (Read values) e z = omega arith
+  another (RefusedLine number value) e z = ordinary-apart (wayParsed (parse book) line) (outcome book line buffer .answer) number value (sym e) z
 
-  pub ordinary-answers : (number value words : ℕ) → Ordinary (RefusedLine number value) ≡ wayOutcome book line buffer .answer
-      → RefusedLine number value ≡ outcome book line buffer .answer
-      → Ordinary (RefusedLine number value) ≡ wayAnswerOf number value words
-  ordinary-answers number value words e f =
-      rw (ne-eqb number noReading (another number value e)) (ap Ordinary (refused-answers book line buffer number value f))
-
-  pub apart-fifteen : (number value : ℕ) → Ordinary (RefusedLine number value) ≡ wayOutcome book line buffer .answer → (with before : ℕ) → WithFifteen number with before before
-  apart-fifteen number value e with before = record { no-value = λ z. absurd (another number value e z); as-it-was = λ _. refl }
+  pub way-handed : {a : LineAnswer} {after : List ℕ} {number value : ℕ} (words : ℕ) → (number ≡ numberFor a) × (value ≡ valueFor a)
+      → Gives (wayOutcome book line buffer) (Ordinary a) after × WayPromised book line buffer (Ordinary a) after
+      → Gives (wayOutcome book line buffer) (wayAnswerOf number value words) after × (WayPromised book line buffer (wayAnswerOf number value words) after × WithFifteen number value words words)
+  way-handed {a} words h said =
+      let other = another a (said .0 .returned) in
+      rw (h .0, h .1, ne-eqb (numberFor a) noReading other, answer-handed book line buffer a (said .1 .as-read .returned))
+      (said .0, (said .1, record { no-value = λ z. absurd (other z); as-it-was = λ _. refl }))
 
 pub refused-batch : (book batch : Bytes) (buffer : List ℕ) (number value : ℕ) → RefusedBatch number value ≡ batchOutcome book batch buffer .answer
     → RefusedBatch number value ≡ batchAnswerOf number value

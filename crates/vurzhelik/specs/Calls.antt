@@ -18,6 +18,15 @@ pub record Checks (reply : Reply) (before : List ℕ) (number value : ℕ) (afte
   pub accepted : number ≡ 0 → (value ≡ 0) × (after ≡ reply .values)
   pub refused : (number ≡ 0 → ⊥) → (value ∷ [] ≡ reply .values) × (after ≡ before)
 
+-- The number and the value that an answer to a line is handed on by.
+abbrev pub numberFor : LineAnswer → ℕ
+numberFor (Read values) = 0
+numberFor (Refused number value) = number
+
+abbrev pub valueFor : LineAnswer → ℕ
+valueFor (Read values) = values
+valueFor (Refused number value) = value
+
 -- The answer to a line that a number and a value stand for.
 abbrev pub answerOf : ℕ → ℕ → LineAnswer
 answerOf number value = cond (eqb number 0) (Read value) (Refused number value)

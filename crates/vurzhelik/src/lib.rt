@@ -19,7 +19,7 @@ ghost use Rattle.batch.specs.Batch.{batchOutcome};
 ghost use Rattle.batch.specs.BatchDemands.{BatchPromised};
 ghost use Rattle.in_the_way.specs.Way.{wayOutcome};
 ghost use Rattle.in_the_way.specs.WayDemands.{WayPromised};
-ghost use Rattle.vurzhelik.specs.Calls.{answerOf, batchAnswerOf, wayAnswerOf, Checks, WithFifteen};
+ghost use Rattle.vurzhelik.specs.Calls.{numberFor, valueFor, answerOf, batchAnswerOf, wayAnswerOf, Checks, WithFifteen};
 ghost use Rattle.vurzhelik.specs.Version.{version};
 
 // The version of the interface. `specs/Version` has the same numbers for the contract, and `include/vurzhelik.h` for callers.
@@ -73,6 +73,25 @@ pub extern "C" fn vurzhelik_check_book(
     }
 }
 
+// Hands a line's answer on as a number, which is returned, and a value.
+fn hand_on(answer: LineAnswer, value: &mut u64) -> u32
+    ensures { λ r. ⌜ (r ≡ numberFor answer) × (now (value .exit) ≡ valueFor answer) ⌝ }
+{
+    match answer {
+        LineAnswer::Refused {
+            number,
+            value: with,
+        } => {
+            *value = with as u64;
+            number
+        }
+        LineAnswer::Read { values } => {
+            *value = values as u64;
+            0
+        }
+    }
+}
+
 // Reads a line against a book: any bytes, of any length, and any lent buffer. 0: the buffer holds the answer, and `value` holds how many
 // of its values are the answer's. Else it is refused: the number of the refusal is returned, `value` holds the value returned with it,
 // and the buffer is as it was. Book and line are not written to.
@@ -86,19 +105,7 @@ pub extern "C" fn vurzhelik_read_line(
     ensures { λ r. ⌜ Gives (outcome (now (book .entry)) (now (line .entry)) (now (answer .entry))) (answerOf r (now (value .exit))) (now (answer .exit)) ⌝ }
     ensures { λ r. ⌜ Promised (now (book .entry)) (now (line .entry)) (now (answer .entry)) (answerOf r (now (value .exit))) (now (answer .exit)) ⌝ }
 {
-    match read_line(book, line, answer) {
-        LineAnswer::Refused {
-            number,
-            value: with,
-        } => {
-            *value = with as u64;
-            number
-        }
-        LineAnswer::Read { values } => {
-            *value = values as u64;
-            0
-        }
-    }
+    hand_on(read_line(book, line, answer), value)
 }
 
 // Reads a line against a book, as `vurzhelik_read_line` does, and tells which words are in the way of one without a reading. 15: bit k of `words` is set where
@@ -121,19 +128,7 @@ pub extern "C" fn vurzhelik_words_in_the_way(
             *words = in_the_way;
             NO_READING
         }
-        WayAnswer::Ordinary(ordinary) => match ordinary {
-            LineAnswer::Refused {
-                number,
-                value: with,
-            } => {
-                *value = with as u64;
-                number
-            }
-            LineAnswer::Read { values: written } => {
-                *value = written as u64;
-                0
-            }
-        },
+        WayAnswer::Ordinary(ordinary) => hand_on(ordinary, value),
     }
 }
 

@@ -1,8 +1,7 @@
 -- `vurzhelik::vurzhelik_words_in_the_way` meets its contract: what is answered is handed on as numbers, and that of the words only with 15.
 use borrow.Author.Needs.{needs}
-use native.Mathlib.Omega.{arith}
-use mathlib.Core.Path.{refl, sym}
-use Rattle.vurzhelik.proofs.Numbers.{ordinary-answers, apart-fifteen}
+use mathlib.Core.Path.{refl}
+use Rattle.vurzhelik.proofs.Numbers.{way-handed}
 use Rattle.vurzhelik.proofs.vurzhelik_words_in_the_way.Statement.{statement}
 use Rattle.vurzhelik.proofs.vurzhelik_words_in_the_way.Tie as tie
 
@@ -15,11 +14,8 @@ enum-known-in-the-way c = search needs
 enum-known-ordinary : tie.Need-enum-known-ordinary
 enum-known-ordinary c = search needs
 
-enum-known-ordinary-2 : tie.Need-enum-known-ordinary-2
-enum-known-ordinary-2 c = search needs
-
-enum-known-ordinary-3 : tie.Need-enum-known-ordinary-3
-enum-known-ordinary-3 c = search needs
+hand-on-requires : tie.Need-hand-on-requires
+hand-on-requires c κs = search needs
 
 same-length : tie.Need-same-length
 same-length c = search needs
@@ -34,19 +30,8 @@ same-length-2 c = search needs
 
 returns-2 : tie.Need-returns-2
 returns-2 c =
-    let told = rw (c .before .before .before .before .ordinary .given .1) at (c .before .before .before .before .before .before .before .before .words-in-the-way .ensures) in
-    let said = rw (c .before .ordinary2 .given .1) at told in
-    let same = ordinary-answers _ _ _ _ _ (c .before .before .before .before .before .before .before .before .before .before .before .before .before .args .words .now) (said .0 .returned) (said .1 .as-read .returned) in
-    (rw (sym same) (said .0), (rw (sym same) (said .1), apart-fifteen _ _ _ _ _ (said .0 .returned) _ _))
-
-same-length-3 : tie.Need-same-length-3
-same-length-3 c = search needs
-
-returns-3 : tie.Need-returns-3
-returns-3 c =
-    let told = rw (c .before .before .before .before .ordinary .given .1) at (c .before .before .before .before .before .before .before .before .words-in-the-way .ensures) in
-    let said = rw (c .before .ordinary3 .given .1) at told in
-    (said .0, (said .1, record { no-value = λ z. absurd (omega arith); as-it-was = λ _. refl }))
+    let said = rw (c .before .before .before .ordinary .given .1) at (c .before .before .before .before .before .before .before .words-in-the-way .ensures) in
+    way-handed _ _ _ (c .before .before .before .before .before .before .before .before .before .before .before .before .args .words .now) (c .hand-on .ensures) said
 
 pub vurzhelik-words-in-the-way-spec : {M : Type 1} → statement M
 vurzhelik-words-in-the-way-spec =
@@ -55,11 +40,8 @@ vurzhelik-words-in-the-way-spec =
     words-in-the-way-requires
     enum-known-in-the-way
     enum-known-ordinary
-    enum-known-ordinary-2
-    enum-known-ordinary-3
+    hand-on-requires
     same-length
     returns
     same-length-2
-    returns-2
-    same-length-3
-    returns-3)
+    returns-2)

@@ -13,17 +13,17 @@ write-all-requires c κs = search needs
 array-borrow-prefix-buffer : tie.Need-array-borrow-prefix-buffer
 array-borrow-prefix-buffer c = search needs
 
-slice-aggregate-read-line : tie.Need-slice-aggregate-read-line
-slice-aggregate-read-line c = sym (length-take-le _ _ (omega arith))
+slice-aggregate-read : tie.Need-slice-aggregate-read
+slice-aggregate-read c = sym (length-take-le _ _ (omega arith))
 
-read-line-requires : tie.Need-read-line-requires
-read-line-requires c κs = search needs
+read-requires : tie.Need-read-requires
+read-requires c κs = search needs
 
 slice-aggregate-shown : tie.Need-slice-aggregate-shown
 slice-aggregate-shown c =
     let r = c .before .before in
     let lent = r .before .before .before .before .before .before .before .args .lent in
-    sym (length-front (replicate 512 9999) (r .read-line .last .1 .1 .0) lent (r .read-line .kept .1 .1 .0))
+    sym (length-front (replicate 512 9999) (r .read .last .1 .1 .0) lent (r .read .kept .1 .1 .0))
 
 shown-requires : tie.Need-shown-requires
 shown-requires c κs = search needs
@@ -46,8 +46,8 @@ row-spec =
     (tie.spec
     write-all-requires
     array-borrow-prefix-buffer
-    slice-aggregate-read-line
-    read-line-requires
+    slice-aggregate-read
+    read-requires
     slice-aggregate-shown
     shown-requires
     slice-aggregate-write-all
