@@ -17,7 +17,7 @@ use Rattle.book.specs.Format.{add, ended, recordsFrom, parse}
 use Rattle.book.proofs.PaperBooks.{fetch, bed4, ward7, site, go, firstBook}
 use Rattle.line.specs.LineWords.{wordsFrom}
 use Rattle.line.specs.Remaining.{without}
-use Rattle.lookup.specs.Capitals.{small, sameWord}
+use Rattle.capitals.specs.Capitals.{small, sameWord}
 use Rattle.line.specs.LineFaults.{byteFault, wordFault, entryFault, lineCheck}
 use Rattle.lookup.specs.Entries.{entriesFrom, simplesIn, simplesOfWords}
 use Rattle.words.specs.Answers.{Outcome, given}

@@ -22,7 +22,7 @@ use Rattle.line.specs.Passing.{AllKnown, no-word, known, Brief, AllBrief
 use Rattle.line.specs.LineWords.{Word, wordsOf}
 use Rattle.line.specs.LineFaults.{entriesOf, entriesOfLine, byteFault, wordFault, entryFault, LineCheck, passed, stopped, orElse, lineCheck}
 use Rattle.lookup.specs.Entries.{entriesFrom, simplesOfWords}
-use Rattle.lookup.specs.Capitals.{sameWord}
+use Rattle.capitals.specs.Capitals.{sameWord}
 use Rattle.lookup.proofs.ExactLaws.{entries-ascend}
 
 words-ascend : (B : Book) (words : List Word) → AllAscending (map (entriesOf B) words)

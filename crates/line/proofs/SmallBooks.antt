@@ -15,8 +15,9 @@ use Rattle.book.specs.Format.{Book, Entry, Parsed, accepted, refused, entryOf, 
 use Rattle.format.proofs.RecordLaws.{size-first, kind-first, body-first, rest-first, size-at, kind-at, body-at, rest-at}
 use Rattle.rules.proofs.EntryLaws.{word-part, type-part}
 use Rattle.book.proofs.GoodEntries.{add-entry}
-use Rattle.lookup.specs.Capitals.{smallBytes, DifferInCase, same-rest, same-record, respelt}
-use Rattle.lookup.proofs.CapitalLaws.{small-every, same-exactly, same-length}
+use Rattle.capitals.specs.Capitals.{smallBytes}
+use Rattle.lookup.specs.Respelt.{DifferInCase, same-rest, same-record, respelt}
+use Rattle.capitals.proofs.CapitalLaws.{small-every, same-exactly, same-length}
 use Rattle.line.proofs.SmallLines.{smallEntry, smallBook}
 
 -- What a list of bytes is as a book, with the capitals of words made small.

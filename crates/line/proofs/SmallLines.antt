@@ -9,11 +9,11 @@ use lib.ListN.{length-map}
 use Rattle.linking.specs.Reading.{NumberedEntry, Words}
 use Rattle.format.specs.Records.{Bytes}
 use Rattle.book.specs.Format.{Book, Entry}
-use Rattle.lookup.specs.Capitals.{small, smallBytes}
+use Rattle.capitals.specs.Capitals.{small, smallBytes}
 use Rattle.line.specs.LineWords.{Word, putBefore, wordsFrom, wordsOf}
 use Rattle.line.specs.LineFaults.{entriesOf, byteFault, wordFault, entryFault, lineCheck}
 use Rattle.lookup.specs.Entries.{entriesFrom}
-use Rattle.lookup.proofs.CapitalLaws.{small-space, small-between, small-bytes-twice, same-respelt}
+use Rattle.capitals.proofs.CapitalLaws.{small-space, small-between, small-bytes-twice, same-respelt}
 
 -- An entry, a book and a word of a line with capitals made small.
 abbrev pub smallEntry : Entry → Entry

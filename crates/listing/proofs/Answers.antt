@@ -19,7 +19,7 @@ use Rattle.book.proofs.Accepted.{accepted-declares}
 use Rattle.line.specs.LineWords.{Word, wordsOf}
 use Rattle.line.specs.LineFaults.{entriesOf}
 use Rattle.lookup.specs.Entries.{entriesFrom}
-use Rattle.lookup.specs.Capitals.{sameWord}
+use Rattle.capitals.specs.Capitals.{sameWord}
 use Rattle.line.proofs.Passed.{line-passing}
 use Rattle.words.specs.declared.LineAnswer.the-variants.{Read}
 use Rattle.words.specs.Answers.{valuesOf}

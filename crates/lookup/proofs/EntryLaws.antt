@@ -12,7 +12,7 @@ use Rattle.format.specs.Records.{Bytes}
 use Rattle.book.specs.Format.{Entry, Book}
 use Rattle.book.specs.Kept.{entryFrom, entriesAt, Store, Opened}
 use Rattle.lookup.specs.Entries.{Entries, KeptOf, entryAt, entriesFrom}
-use Rattle.lookup.specs.Capitals.{sameWord}
+use Rattle.capitals.specs.Capitals.{sameWord}
 
 -- An accepted book's entries are kept.
 pub opened-kept : {bytes : Bytes} {s : Store} {types count goals : ℕ} {B : Book} → Opened bytes s types count goals B → KeptOf bytes (s .entries) count B

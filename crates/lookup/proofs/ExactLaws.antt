@@ -9,7 +9,7 @@ use Rattle.linking.specs.Reading.{NumberedEntry}
 use Rattle.linking.specs.Ascending.{Ascending, empty, more}
 use Rattle.format.specs.Records.{Bytes}
 use Rattle.book.specs.Format.{Entry}
-use Rattle.lookup.specs.Capitals.{sameWord}
+use Rattle.capitals.specs.Capitals.{sameWord}
 use Rattle.lookup.specs.Entries.{entriesFrom}
 use Rattle.lookup.specs.Found.{Stands, first, later, IsEntryOf, FindsAll}
 

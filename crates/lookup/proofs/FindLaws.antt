@@ -9,12 +9,12 @@ use lib.ListN.{length, getD, set, length-set}
 use lib.Seq.{getD-set-same, getD-set-other}
 use Rattle.figures.specs.Limits.{maxEntries}
 use Rattle.format.specs.Records.{Bytes}
-use Rattle.lookup.specs.Capitals.{sameWord}
+use Rattle.capitals.specs.Capitals.{sameWord}
 use Rattle.lookup.specs.Entries.{Entries, entriesFrom}
 use Rattle.book.specs.Kept.{entriesAt}
 use Rattle.bytewise.specs.First.{First}
 use Rattle.lookup.specs.Threads.{key, wordKept, OfWord, OfKey, Alike, Knows, Same, Joined, Found, Finds, Thread, ends, goes}
-use Rattle.lookup.proofs.CapitalLaws.{same-symmetric, same-transitive}
+use Rattle.capitals.proofs.CapitalLaws.{same-symmetric, same-transitive}
 use Rattle.lookup.proofs.KeyLaws.{same-key}
 use Rattle.lookup.proofs.EntryLaws.{left, left-same, left-other, left-end}
 

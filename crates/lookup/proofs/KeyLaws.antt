@@ -12,12 +12,12 @@ use Rattle.figures.specs.Limits.{maxEntries, maxWord}
 use Rattle.format.specs.Records.{Bytes, bodyAt}
 use Rattle.rules.specs.Layouts.{wordLength}
 use Rattle.rules.proofs.Layouts.{word-shape}
-use Rattle.lookup.specs.Capitals.{sameWord}
+use Rattle.capitals.specs.Capitals.{sameWord}
 use Rattle.lookup.specs.Entries.{Entries}
 use Rattle.bytewise.specs.First.{First}
 use Rattle.lookup.specs.Threads.{keys, key, wordKept, OfWord, OfKey, AlikeFrom, Alike, NoneAlike}
-use Rattle.lookup.proofs.CapitalLaws.{same-exactly, same-length}
-use Rattle.lookup.proofs.LetterLaws.{letter-of}
+use Rattle.capitals.proofs.CapitalLaws.{same-exactly, same-length}
+use Rattle.capitals.proofs.LetterLaws.{letter-of}
 
 -- Words that are the same have the same key.
 pub same-key : (a b : Bytes) → sameWord a b ≡ true → key a ≡ key b

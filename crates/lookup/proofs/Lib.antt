@@ -1,7 +1,4 @@
 -- Laws that the proofs of several functions cite.
-pub mod CapitalLaws
-pub mod EightLaws
-pub mod LetterLaws
 pub mod KeyLaws
 pub mod EntryLaws
 pub mod ThreadLaws

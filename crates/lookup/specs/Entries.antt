@@ -10,7 +10,7 @@ use Rattle.format.specs.Records.{Bytes, bodyAt, Whole}
 use Rattle.rules.specs.Layouts.{isWorded}
 use Rattle.book.specs.Format.{Entry, Book}
 use Rattle.book.specs.Kept.{entryFrom, entriesAt, AllFormed}
-use Rattle.lookup.specs.Capitals.{sameWord}
+use Rattle.capitals.specs.Capitals.{sameWord}
 
 -- The entries of a word, numbered as they stand in the book: the rest of its entries, and the number of the first of them.
 unfoldable pub entriesFrom : ℕ → List Entry → Bytes → List NumberedEntry

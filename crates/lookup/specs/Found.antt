@@ -7,7 +7,7 @@ use Rattle.linking.specs.Reading.{NumberedEntry}
 use Rattle.linking.specs.Ascending.{Ascending}
 use Rattle.format.specs.Records.{Bytes}
 use Rattle.book.specs.Format.{Entry}
-use Rattle.lookup.specs.Capitals.{sameWord}
+use Rattle.capitals.specs.Capitals.{sameWord}
 
 -- The entry that stands at a place of a book's entries, counted from 0: the place is its number.
 pub data Stands (e : Entry) : ℕ → List Entry → Type 0 where

@@ -1,6 +1,5 @@
--- When two words are the same, a word's entries, and how the entries of a book are threaded for the look-up.
-pub mod Capitals
-pub mod Letters
+-- A word's entries, how the entries of a book are threaded for the look-up, and books that spell their words in other letters.
 pub mod Entries
 pub mod Found
 pub mod Threads
+pub mod Respelt

@@ -9,7 +9,7 @@ use Rattle.figures.specs.Limits.{maxEntries, maxEntrySimples}
 use Rattle.linking.specs.Reading.{NumberedEntry, Words}
 use Rattle.format.specs.Records.{Bytes, bodyAt}
 use Rattle.rules.specs.Layouts.{wordOf}
-use Rattle.lookup.specs.Capitals.{small, sameWord}
+use Rattle.capitals.specs.Capitals.{small, sameWord}
 use Rattle.bytewise.specs.First.{First}
 use Rattle.lookup.specs.Entries.{entryAt, simplesIn}
 

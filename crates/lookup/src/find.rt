@@ -1,9 +1,9 @@
 // A word found in a book: the thread of its entries, and how many simple types these have.
 use crate::keys::key_of;
-use crate::letters::same_word;
 use book::entries::entry_length;
 use book::entries::entry_word;
 use bytewise::widths::wide_number;
+use capitals::same_word;
 use figures::limits::MAX_ENTRIES;
 ghost use mathlib.Core.List.{List};
 ghost use Prim.Native.Nat.{ℕ, _≤_};

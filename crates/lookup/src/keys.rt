@@ -1,8 +1,8 @@
 // Keys of words, and the entries of a book threaded by them.
-use crate::letters::small_letter;
 use book::entries::entry_word;
 use bytewise::widths::wide_byte;
 use bytewise::widths::wide_number;
+use capitals::small_letter;
 use figures::limits::MAX_ENTRIES;
 ghost use mathlib.Core.Path.{_≡_};
 ghost use Prim.Native.Nat.{_≤_};

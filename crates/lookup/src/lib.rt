@@ -2,4 +2,3 @@
 // of entries: threads of the entries that are alike by a key, made once for a book, and threads of those of the same word.
 pub mod find;
 pub mod keys;
-pub mod letters;

@@ -4,7 +4,8 @@ use mathlib.Core.Path.{_≡_, refl, sym, ap, _∙_}
 use mathlib.Core.List.{List}
 use Rattle.format.specs.Records.{Bytes}
 use Rattle.book.specs.Format.{Book, Parsed, accepted, refused, parse}
-use Rattle.lookup.specs.Capitals.{smallBytes, DifferInCase}
+use Rattle.capitals.specs.Capitals.{smallBytes}
+use Rattle.lookup.specs.Respelt.{DifferInCase}
 use Rattle.line.specs.LineFaults.{LineCheck, passed, stopped, lineCheck}
 use Rattle.line.proofs.SmallLines.{smallBook, line-small, book-small}
 use Rattle.line.proofs.SmallBooks.{smallParsed, parse-same}

@@ -19,7 +19,8 @@ use Rattle.rules.specs.Rules.{exponentListed, bodyRules, recordRules, firstBrok
 use Rattle.book.specs.Format.{Entry, add, ended, recordsFrom, parse}
 use Rattle.book.proofs.PaperBooks.{typeRecord, entryRecord, targetRecord, join, types, entries, fetch, bed4, ward7, firstBook}
 use Rattle.line.specs.LineWords.{wordsFrom}
-use Rattle.lookup.specs.Capitals.{small, sameWord, DifferInCase, same-rest, same-record, respelt}
+use Rattle.capitals.specs.Capitals.{small, sameWord}
+use Rattle.lookup.specs.Respelt.{DifferInCase, same-rest, same-record, respelt}
 use Rattle.line.specs.LineFaults.{byteFault, wordFault, entryFault, lineCheck}
 use Rattle.lookup.specs.Entries.{entriesFrom, simplesIn, simplesOfWords}
 use Rattle.words.specs.Answers.{Outcome, given}

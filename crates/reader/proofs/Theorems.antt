@@ -42,8 +42,9 @@ use Rattle.book.proofs.Parsing.{bound-never-ends}
 use Rattle.book.proofs.Promises.{check-promised, one-answer}
 use Rattle.rules.proofs.Slashed.{no-exponent-fault}
 use Rattle.rules.proofs.TextRules.{text-ruled}
-use Rattle.lookup.specs.Capitals.{small, smallBytes, sameWord, DifferInCase}
-use Rattle.lookup.proofs.CapitalLaws.{CapitalOf, NoCapital, alike-exactly, same-reflexive, same-symmetric, same-transitive, equal-words, same-without-capitals}
+use Rattle.capitals.specs.Capitals.{small, smallBytes, sameWord}
+use Rattle.lookup.specs.Respelt.{DifferInCase}
+use Rattle.capitals.proofs.CapitalLaws.{CapitalOf, NoCapital, alike-exactly, same-reflexive, same-symmetric, same-transitive, equal-words, same-without-capitals}
 use Rattle.line.specs.LineFaults.{entriesOfLine}
 use Rattle.line.specs.Promise.{LookUpPromised}
 use Rattle.line.proofs.PromiseLaws.{look-up-kept}

@@ -1,9 +1,9 @@
 -- `lookup::letters::same_word` meets its contract: words of two lengths differ, and the letters of a short word are compared from first to last.
 use borrow.Author.Needs.{needs}
 use native.Mathlib.Omega.{arith}
-use Rattle.lookup.proofs.LetterLaws.{no-letters, other-length, rest-tells}
-use Rattle.lookup.proofs.letters.same_word.Statement.{statement}
-use Rattle.lookup.proofs.letters.same_word.Tie as tie
+use Rattle.capitals.proofs.LetterLaws.{no-letters, other-length, rest-tells}
+use Rattle.capitals.proofs.same_word.Statement.{statement}
+use Rattle.capitals.proofs.same_word.Tie as tie
 
 returns : tie.Need-returns
 returns c = other-length _ _ (c .if1 .taken)

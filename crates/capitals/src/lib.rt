@@ -7,8 +7,8 @@ ghost use mathlib.Core.Bool.{true};
 ghost use mathlib.Core.Logic.{_↔_};
 ghost use Prim.Native.Nat.{_+_, _≤_};
 ghost use lib.ListN.{length};
-ghost use Rattle.lookup.specs.Capitals.{small, sameWord};
-ghost use Rattle.lookup.specs.Letters.{SameLetters, smallNumber};
+ghost use Rattle.capitals.specs.Capitals.{small, sameWord};
+ghost use Rattle.capitals.specs.Letters.{SameLetters, smallNumber};
 
 // The bit by which a capital and its small letter differ, and the same in each of eight bytes.
 const CASE_BIT: u8 = 0x20;

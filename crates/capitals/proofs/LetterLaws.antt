@@ -13,10 +13,10 @@ use Rattle.format.specs.Records.{Bytes}
 use Rattle.bytewise.specs.Compare.{littleEndian, ReadsNumber, FirstOther}
 use Rattle.bytewise.proofs.Comparing.{Bytewise, equal-stretch, same-number}
 use Rattle.format.proofs.NameLaws.{same-test}
-use Rattle.lookup.specs.Capitals.{small, smallBytes, sameWord}
-use Rattle.lookup.specs.Letters.{SameLetters, smallNumber}
-use Rattle.lookup.proofs.CapitalLaws.{CapitalOf, alike-exactly, small-below, same-length}
-use Rattle.lookup.proofs.EightLaws.{each, number-below}
+use Rattle.capitals.specs.Capitals.{small, smallBytes, sameWord}
+use Rattle.capitals.specs.Letters.{SameLetters, smallNumber}
+use Rattle.capitals.proofs.CapitalLaws.{CapitalOf, alike-exactly, small-below, same-length}
+use Rattle.capitals.proofs.EightLaws.{each, number-below}
 
 -- A capital and its small letter are equal but for the bit of case ..
 or-capital : (x : ℕ) → 65 ≤ x → x ≤ 90 → bitOr x 32 ≡ bitOr (x + 32) 32

@@ -9,9 +9,9 @@ use lib.Bits.{bitAnd, bitXor, and-le-r, and-lt, xor-lt, and-block, xor-block}
 use lib.Dec.{eqb}
 use borrow.Author.Tests.{eqb-true}
 use Rattle.format.proofs.Bools.{both}
-use Rattle.lookup.specs.Capitals.{isCapital, small}
-use Rattle.lookup.specs.Letters.{smallNumber}
-use Rattle.lookup.proofs.CapitalLaws.{small-below}
+use Rattle.capitals.specs.Capitals.{isCapital, small}
+use Rattle.capitals.specs.Letters.{smallNumber}
+use Rattle.capitals.proofs.CapitalLaws.{small-below}
 
 -- A byte in each of n bytes.
 abbrev pub each : ℕ → ℕ → ℕ

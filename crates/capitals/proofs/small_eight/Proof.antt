@@ -1,9 +1,9 @@
 -- `lookup::letters::small_eight` meets its contract: the sums stay within each byte, and what is added is 32 to each capital.
 use native.Mathlib.Omega.{arith}
 use lib.Bits.{and-le-r}
-use Rattle.lookup.proofs.EightLaws.{each, number-small, number-below}
-use Rattle.lookup.proofs.letters.small_eight.Statement.{statement}
-use Rattle.lookup.proofs.letters.small_eight.Tie as tie
+use Rattle.capitals.proofs.EightLaws.{each, number-small, number-below}
+use Rattle.capitals.proofs.small_eight.Statement.{statement}
+use Rattle.capitals.proofs.small_eight.Tie as tie
 
 add-like : tie.Need-add-like
 add-like c = let low = and-le-r (c .args .bytes) (each 127 8) in omega (arith, low)

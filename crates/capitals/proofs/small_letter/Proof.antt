@@ -1,9 +1,9 @@
 -- `lookup::letters::small_letter` meets its contract: a capital is made small, and any other byte stays.
 use native.Mathlib.Omega.{arith}
 use mathlib.Core.Path.{sym}
-use Rattle.lookup.proofs.CapitalLaws.{small-capital, small-other}
-use Rattle.lookup.proofs.letters.small_letter.Statement.{statement}
-use Rattle.lookup.proofs.letters.small_letter.Tie as tie
+use Rattle.capitals.proofs.CapitalLaws.{small-capital, small-other}
+use Rattle.capitals.proofs.small_letter.Statement.{statement}
+use Rattle.capitals.proofs.small_letter.Tie as tie
 
 add-result : tie.Need-add-result
 add-result c = omega arith

@@ -4,10 +4,10 @@ use Prim.Native.Nat.{_-_, _≤_, _<_}
 use mathlib.Core.Bool.{false≢true}
 use lib.ListN.{length}
 use borrow.Author.Tests.{eqb-true, eq-eqb}
-use Rattle.lookup.specs.Letters.{SameLetters}
-use Rattle.lookup.proofs.LetterLaws.{small-eights-tell, letters-within, letters-more, no-letters}
-use Rattle.lookup.proofs.letters.same_eights.Statement.{statement}
-use Rattle.lookup.proofs.letters.same_eights.Tie as tie
+use Rattle.capitals.specs.Letters.{SameLetters}
+use Rattle.capitals.proofs.LetterLaws.{small-eights-tell, letters-within, letters-more, no-letters}
+use Rattle.capitals.proofs.same_eights.Statement.{statement}
+use Rattle.capitals.proofs.same_eights.Tie as tie
 
 abbrev Inv-loop : tie.InvT-loop
 Inv-loop a b from last i₀ i = (from ≤ i) × (i < length a) × SameLetters a b from i

@@ -5,10 +5,10 @@ use mathlib.Core.Path.{refl, sym, _∙_}
 use mathlib.Core.Bool.{false≢true}
 use lib.ListN.{length}
 use borrow.Author.Tests.{not-true, not-false}
-use Rattle.lookup.specs.Letters.{SameLetters}
-use Rattle.lookup.proofs.LetterLaws.{no-letters, one-letter, letters-more}
-use Rattle.lookup.proofs.letters.same_letters.Statement.{statement}
-use Rattle.lookup.proofs.letters.same_letters.Tie as tie
+use Rattle.capitals.specs.Letters.{SameLetters}
+use Rattle.capitals.proofs.LetterLaws.{no-letters, one-letter, letters-more}
+use Rattle.capitals.proofs.same_letters.Statement.{statement}
+use Rattle.capitals.proofs.same_letters.Tie as tie
 
 abbrev Inv-loop : tie.InvT-loop
 Inv-loop a b from i₀ i = (from ≤ i) × (i ≤ length a) × SameLetters a b from i

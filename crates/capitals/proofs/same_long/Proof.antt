@@ -3,9 +3,9 @@
 use borrow.Author.Needs.{needs}
 use native.Mathlib.Omega.{arith}
 use mathlib.Core.Path.{refl, sym, _∙_}
-use Rattle.lookup.proofs.LetterLaws.{equal-letters, other-letters, letters-before, other-somewhere, rest-tells}
-use Rattle.lookup.proofs.letters.same_long.Statement.{statement}
-use Rattle.lookup.proofs.letters.same_long.Tie as tie
+use Rattle.capitals.proofs.LetterLaws.{equal-letters, other-letters, letters-before, other-somewhere, rest-tells}
+use Rattle.capitals.proofs.same_long.Statement.{statement}
+use Rattle.capitals.proofs.same_long.Tie as tie
 
 first-other-requires : tie.Need-first-other-requires
 first-other-requires c κs = search needs

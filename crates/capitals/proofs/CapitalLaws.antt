@@ -13,7 +13,7 @@ use borrow.Author.Tests.{ne-eqb}
 use Rattle.format.specs.Records.{Bytes, between, every, sameBytes}
 use Rattle.format.proofs.Bools.{both, inside, outside}
 use Rattle.format.proofs.NameLaws.{same-equal, equal-same}
-use Rattle.lookup.specs.Capitals.{isCapital, small, smallBytes, sameWord}
+use Rattle.capitals.specs.Capitals.{isCapital, small, smallBytes, sameWord}
 
 pub small-capital : (b : ℕ) → 65 ≤ b → b ≤ 90 → small b ≡ b + 32
 unfolding small

@@ -4,10 +4,10 @@ use borrow.Author.Needs.{needs}
 use borrow.Author.Tests.{eqb-true, eq-eqb}
 use mathlib.Core.Path.{refl, sym, ap, _∙_}
 use mathlib.Core.Bool.{false≢true}
-use Rattle.lookup.specs.Capitals.{small}
-use Rattle.lookup.proofs.LetterLaws.{or-byte}
-use Rattle.lookup.proofs.letters.same_letter.Statement.{statement}
-use Rattle.lookup.proofs.letters.same_letter.Tie as tie
+use Rattle.capitals.specs.Capitals.{small}
+use Rattle.capitals.proofs.LetterLaws.{or-byte}
+use Rattle.capitals.proofs.same_letter.Statement.{statement}
+use Rattle.capitals.proofs.same_letter.Tie as tie
 
 returns : tie.Need-returns
 returns c = (λ e. ap small (c .if1 .taken), λ e. refl)

@@ -3,7 +3,7 @@ use Prim.Native.Nat.{ℕ, zero, suc, _+_, _*_, _/_, _%_, _≤_, _<_}
 use mathlib.Core.Path.{_≡_}
 use lib.ListN.{getD}
 use Rattle.format.specs.Records.{Bytes}
-use Rattle.lookup.specs.Capitals.{small}
+use Rattle.capitals.specs.Capitals.{small}
 
 -- From a place up to another, the bytes of two words are equal with capitals made small.
 pub record SameLetters (a b : Bytes) (from to : ℕ) : Type 0 where
