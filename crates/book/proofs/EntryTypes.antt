@@ -9,8 +9,8 @@ use borrow.Author.Tests.{eq-eqb, ne-eqb}
 use Rattle.figures.specs.Limits.{maxEntrySimples}
 use Rattle.pregroup.specs.Types.{PregroupType}
 use Rattle.format.specs.Records.{Bytes, every, kindAt, bodyAt}
-use Rattle.slash.specs.Brackets.{tooDeep}
-use Rattle.slash.specs.Trees.{hasTree, textType, slashes}
+use Rattle.notation.specs.Brackets.{tooDeep}
+use Rattle.notation.specs.Trees.{hasTree, textType, slashes}
 use Rattle.book.specs.declared.EntryType.{EntryType}
 use Rattle.rules.specs.Layouts.{typePart, simplesOf, slashed}
 use Rattle.rules.specs.Rules.{exponents, exponentListed}

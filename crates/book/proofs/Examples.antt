@@ -11,9 +11,9 @@ use Rattle.pregroup.specs.Types.{PregroupType, _⁽_⁾, plain, adjointBy}
 use Rattle.order.specs.Closed.{below, closedCount}
 use Rattle.format.specs.Records.{Bytes, recordOf, every, twoBytes, sameBytes}
 use Rattle.format.specs.Names.{nameByte, isName, nameFront, nameBehind, numberOf}
-use Rattle.slash.specs.Grammar.{meaning}
-use Rattle.slash.specs.Brackets.{deepBehind}
-use Rattle.slash.specs.Trees.{nameAt, closedBy, closed, unitBy, joined, secondBy, behindFirst, unitAt, wholeBy, whole, treeOf, isSome, meaningOf}
+use Rattle.notation.specs.Grammar.{meaning}
+use Rattle.notation.specs.Brackets.{deepBehind}
+use Rattle.notation.specs.Trees.{nameAt, closedBy, closed, unitBy, joined, secondBy, behindFirst, unitAt, wholeBy, whole, treeOf, isSome, meaningOf}
 use Rattle.rules.specs.Layouts.{entryBody, exponentOf, simplesOf, isWorded, isEntry}
 use Rattle.rules.specs.Rules.{exponentListed, bodyRules, recordRules, firstBroken}
 use Rattle.book.specs.Format.{Entry, accepted, nothingYet, add, ended, recordsFrom, parse}

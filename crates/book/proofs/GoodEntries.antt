@@ -14,9 +14,9 @@ use Rattle.figures.specs.Limits.{maxEntries, maxEntrySimples}
 use Rattle.pregroup.specs.Types.{Simple, PregroupType}
 use Rattle.format.specs.Records.{Bytes, every, kindAt, bodyAt}
 use Rattle.format.proofs.Bools.{both}
-use Rattle.slash.specs.Grammar.{Tree}
-use Rattle.slash.specs.Trees.{treeOf, meaningOf, textType}
-use Rattle.slash.proofs.MeaningLaws.{meaning-more}
+use Rattle.notation.specs.Grammar.{Tree}
+use Rattle.notation.specs.Trees.{treeOf, meaningOf, textType}
+use Rattle.notation.proofs.MeaningLaws.{meaning-more}
 use Rattle.rules.specs.Layouts.{EntryKind, of-simples, of-text, simplesOf, slashed, typePart, isWorded}
 use Rattle.rules.specs.Rules.{bases, exponents, declaredAmong, exponentListed, bodyRules, firstBroken}
 use Rattle.book.specs.Format.{Book, Entry, typeBy, entryOf, add}

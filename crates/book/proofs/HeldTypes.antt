@@ -10,7 +10,7 @@ use Rattle.figures.specs.Limits.{maxEntrySimples}
 use Rattle.pregroup.specs.Types.{PregroupType, plain, _⁽_⁾}
 use Rattle.pregroup.specs.Held.{held}
 use Rattle.format.specs.Records.{Bytes}
-use Rattle.slash.specs.Places.{Holds}
+use Rattle.notation.specs.Places.{Holds}
 use Rattle.book.specs.declared.EntryType.{EntryType}
 use Rattle.rules.specs.Layouts.{exponentOf, simplesOf}
 use Rattle.book.specs.Kept.{HeldType}

@@ -18,7 +18,7 @@ use Rattle.order.specs.Rows.{Hold}
 use Rattle.format.specs.Records.{Bytes, sameBytes, twoBytes, bodyAt, nextAt, kindAt, bodiesAt, Whole}
 use Rattle.format.specs.Names.{numberOf, isAmong, Named, Keeping}
 use Rattle.format.proofs.NameLaws.{equal-same, bodies-length, bodies-at, name-short}
-use Rattle.slash.proofs.Counting.{name-form}
+use Rattle.notation.proofs.Counting.{name-form}
 use Rattle.rules.specs.Rules.{bodyRules, recordRules, firstBroken}
 use Rattle.book.specs.Format.{Book, Entry, add}
 use Rattle.book.specs.Kept.{entryFrom, entriesAt, Formed, AllFormed, TargetsDeclared, Store, store, Sound, Keeps, Taking, nextFault}

@@ -15,8 +15,8 @@ use Rattle.figures.specs.Limits.{maxBook, maxEntrySimples}
 use Rattle.figures.specs.Refusals.{noTarget}
 use Rattle.pregroup.specs.Types.{PregroupType}
 use Rattle.format.specs.Records.{Bytes, every, headLength, twoBytes, nextAt, recordOf}
-use Rattle.slash.specs.Brackets.{tooDeep}
-use Rattle.slash.specs.Trees.{hasTree, textType}
+use Rattle.notation.specs.Brackets.{tooDeep}
+use Rattle.notation.specs.Trees.{hasTree, textType}
 use Rattle.rules.specs.Layouts.{entryBody, isWorded, isEntry, simplesOf, typePart, slashed, of-simples, of-text}
 use Rattle.rules.specs.Rules.{bases, exponents, declaredAmong, exponentListed, bodyRules, recordRules, firstBroken}
 use Rattle.book.specs.Format.{Book, Entry, Parsed, accepted, refused, entryOf, add, withNext, ended, recordsFrom, parse, nothingYet}

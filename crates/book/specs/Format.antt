@@ -11,7 +11,7 @@ use Rattle.figures.specs.Refusals.{bookTooLong, noTarget}
 use Rattle.pregroup.specs.Types.{Basic, PregroupType}
 use Rattle.order.specs.Closed.{Pair}
 use Rattle.format.specs.Records.{Bytes, kindAt, bodyAt, nextAt}
-use Rattle.slash.specs.Trees.{textType}
+use Rattle.notation.specs.Trees.{textType}
 use Rattle.rules.specs.Layouts.{byKind, wordOf, typePart, simplesOf, slashed}
 use Rattle.rules.specs.Rules.{recordRules, firstBroken}
 

@@ -11,9 +11,9 @@ use Rattle.figures.specs.Limits.{maxTypes, maxEntries, maxTargets, maxBook, max
 use Rattle.order.specs.Rows.{Hold}
 use Rattle.format.specs.Records.{Bytes, every, kindAt, bodyAt, nextAt, bodiesAt, Whole}
 use Rattle.format.specs.Names.{namePlaces, Named}
-use Rattle.slash.specs.Brackets.{tooDeep}
-use Rattle.slash.specs.Trees.{hasTree}
-use Rattle.slash.specs.Places.{Holds}
+use Rattle.notation.specs.Brackets.{tooDeep}
+use Rattle.notation.specs.Trees.{hasTree}
+use Rattle.notation.specs.Places.{Holds}
 use Rattle.pregroup.specs.Types.{PregroupType}
 use Rattle.rules.specs.Layouts.{typePart, isWorded}
 use Rattle.rules.specs.Rules.{declaredAmong, bases, exponents, exponentListed, firstBroken}

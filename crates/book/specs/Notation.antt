@@ -6,8 +6,8 @@ use mathlib.Core.List.{_++_}
 use lib.ListN.{length}
 use Rattle.figures.specs.Limits.{maxEntrySimples}
 use Rattle.format.specs.Records.{Bytes, recordOf}
-use Rattle.slash.specs.Brackets.{tooDeep}
-use Rattle.slash.specs.Trees.{hasTree, textType}
+use Rattle.notation.specs.Brackets.{tooDeep}
+use Rattle.notation.specs.Trees.{hasTree, textType}
 use Rattle.rules.specs.Layouts.{entryBody, simplesOf, slashed}
 use Rattle.book.specs.Format.{Book, Parsed, accepted, refused, add}
 

@@ -9,9 +9,9 @@ use Rattle.figures.specs.Limits.{maxBook}
 use Rattle.format.specs.Records.{Bytes, every, sameBytes}
 use Rattle.format.specs.Names.{nameByte, isName, nameFront, nameBehind, numberOf}
 use Rattle.pregroup.specs.Types.{adjointBy}
-use Rattle.slash.specs.Grammar.{opening, closing, slash, backslash, meaning}
-use Rattle.slash.specs.Brackets.{deepBehind}
-use Rattle.slash.specs.Trees.{nameAt, closedBy, closed, unitBy, joined, secondBy, behindFirst, unitAt, wholeBy, whole, treeOf, isSome, meaningOf}
+use Rattle.notation.specs.Grammar.{opening, closing, slash, backslash, meaning}
+use Rattle.notation.specs.Brackets.{deepBehind}
+use Rattle.notation.specs.Trees.{nameAt, closedBy, closed, unitBy, joined, secondBy, behindFirst, unitAt, wholeBy, whole, treeOf, isSome, meaningOf}
 use Rattle.rules.specs.Layouts.{exponentOf, simplesOf}
 use Rattle.book.specs.Format.{Parsed, refused, parse, nothingYet, add}
 use Rattle.book.specs.Notation.{DifferInNotation, same-rest, same-record, in-slashes, AlikeParsed, both-accepted, both-refused}

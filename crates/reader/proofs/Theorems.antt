@@ -28,11 +28,11 @@ use Rattle.order.specs.Rows.{Hold, pairsIn}
 use Rattle.order.proofs.Decision.{below-decides}
 use Rattle.order.proofs.Counting.{pairs-in-closed}
 use Rattle.format.specs.Records.{Bytes, recordOf}
-use Rattle.slash.specs.Grammar.{Tree, IsType}
-use Rattle.slash.specs.Brackets.{TooDeep, tooDeep}
-use Rattle.slash.specs.Trees.{treeOf}
-use Rattle.slash.proofs.BracketLaws.{deep-exactly}
-use Rattle.slash.proofs.TreeLaws.{tree-sound, tree-complete, one-tree}
+use Rattle.notation.specs.Grammar.{Tree, IsType}
+use Rattle.notation.specs.Brackets.{TooDeep, tooDeep}
+use Rattle.notation.specs.Trees.{treeOf}
+use Rattle.notation.proofs.BracketLaws.{deep-exactly}
+use Rattle.notation.proofs.TreeLaws.{tree-sound, tree-complete, one-tree}
 use Rattle.rules.specs.Layouts.{slashed, typePart}
 use Rattle.rules.specs.Rules.{bodyRules, firstBroken}
 use Rattle.book.specs.Format.{Book, accepted, parse, nothingYet, recordsFrom}

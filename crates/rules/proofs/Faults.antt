@@ -12,8 +12,8 @@ use Rattle.figures.specs.Refusals.{kindNotListed, badLayout, undeclaredType, ex
 use Rattle.format.proofs.Bools.{and-true}
 use Rattle.format.specs.Records.{Bytes, every, between}
 use Rattle.format.specs.Names.{isName, isAmong}
-use Rattle.slash.specs.Brackets.{tooDeep}
-use Rattle.slash.specs.Trees.{hasTree, textType}
+use Rattle.notation.specs.Brackets.{tooDeep}
+use Rattle.notation.specs.Trees.{hasTree, textType}
 use Rattle.rules.specs.Layouts.{isWorded, isEntry, simplesOf, typePart}
 use Rattle.rules.specs.Rules.{declaredAmong, exponentListed, bodyRules, firstBroken, bases, exponents}
 

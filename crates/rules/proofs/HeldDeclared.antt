@@ -10,7 +10,7 @@ use Rattle.pregroup.specs.Types.{Simple, PregroupType, plain}
 use Rattle.pregroup.specs.Held.{held}
 use Rattle.pregroup.proofs.HeldLaws.{held-base}
 use Rattle.format.specs.Records.{every}
-use Rattle.slash.specs.Places.{Holds}
+use Rattle.notation.specs.Places.{Holds}
 use Rattle.rules.specs.Rules.{bases, declaredAmong}
 
 -- The k-th place holds the k-th simple type.

@@ -11,8 +11,8 @@ use Rattle.figures.specs.Limits.{maxTypes, maxEntries, maxTargets, maxEntrySimp
 use Rattle.figures.specs.Refusals.{cutShort, kindNotListed, badLayout, undeclaredType, exponentOutside, nameUsed, tooManyTargets, tooManyRecords, bracketsTooDeep, notAType, typeTooLong}
 use Rattle.format.specs.Records.{Bytes, every, between, kindAt, bodyAt, nextAt}
 use Rattle.format.specs.Names.{isName, isAmong}
-use Rattle.slash.specs.Brackets.{tooDeep}
-use Rattle.slash.specs.Trees.{hasTree, textType}
+use Rattle.notation.specs.Brackets.{tooDeep}
+use Rattle.notation.specs.Trees.{hasTree, textType}
 use Rattle.rules.specs.Layouts.{isWorded, isEntry, simplesOf, typePart}
 use Rattle.rules.specs.Rules.{declaredAmong, bases, exponents, exponentListed, bodyRules, recordRules, firstBroken}
 use Rattle.format.proofs.Bools.{outside, both}

@@ -9,8 +9,8 @@ use lib.ListN.{length}
 use Rattle.figures.specs.Limits.{maxEntries, maxEntrySimples}
 use Rattle.figures.specs.Refusals.{badLayout, undeclaredType, exponentOutside, tooManyRecords, bracketsTooDeep, notAType, typeTooLong}
 use Rattle.format.specs.Records.{Bytes, every}
-use Rattle.slash.specs.Brackets.{tooDeep}
-use Rattle.slash.specs.Trees.{hasTree, textType}
+use Rattle.notation.specs.Brackets.{tooDeep}
+use Rattle.notation.specs.Trees.{hasTree, textType}
 use Rattle.rules.proofs.Texts.{text-exponents-listed}
 use Rattle.rules.specs.Layouts.{typePart, isWorded}
 use Rattle.rules.specs.Rules.{bases, exponents, declaredAmong, exponentListed, bodyRules, firstBroken}

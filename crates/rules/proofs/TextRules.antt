@@ -15,11 +15,11 @@ use Rattle.pregroup.specs.Types.{Simple, PregroupType, simpleLeft, simpleRight,
 use Rattle.format.specs.Records.{Bytes, every}
 use Rattle.format.specs.Names.{isAmong}
 use Rattle.format.proofs.Bools.{and-true, both}
-use Rattle.slash.specs.Grammar.{Tree, named, over, under, IsType, meaning}
-use Rattle.slash.specs.Brackets.{TooDeep, tooDeep}
-use Rattle.slash.specs.Trees.{treeOf, isSome, hasTree, meaningOf, textType}
-use Rattle.slash.proofs.BracketLaws.{deep-exactly}
-use Rattle.slash.proofs.TreeLaws.{tree-sound, tree-complete, no-tree}
+use Rattle.notation.specs.Grammar.{Tree, named, over, under, IsType, meaning}
+use Rattle.notation.specs.Brackets.{TooDeep, tooDeep}
+use Rattle.notation.specs.Trees.{treeOf, isSome, hasTree, meaningOf, textType}
+use Rattle.notation.proofs.BracketLaws.{deep-exactly}
+use Rattle.notation.proofs.TreeLaws.{tree-sound, tree-complete, no-tree}
 use Rattle.rules.specs.Layouts.{typePart, slashed}
 use Rattle.rules.specs.Rules.{bases, exponents, declaredAmong, exponentListed, bodyRules}
 use Rattle.rules.specs.TextRules.{Names, here, over-first, over-second, under-first, under-second, TextRuled}

@@ -14,12 +14,13 @@ use Rattle.figures.specs.Limits.{maxEntries, maxEntrySimples, maxExponent, maxD
 use Rattle.figures.specs.Refusals.{undeclaredType, exponentOutside, tooManyRecords, bracketsTooDeep, notAType, typeTooLong}
 use Rattle.pregroup.specs.Types.{Simple, PregroupType}
 use Rattle.format.specs.Records.{Bytes, every}
-use Rattle.slash.specs.Grammar.{Tree}
-use Rattle.slash.specs.Brackets.{tooDeep}
-use Rattle.slash.specs.Trees.{treeOf, isSome, hasTree, meaningOf, textType, shallowType, slashes}
-use Rattle.slash.specs.Places.{Holds, room, TextSays}
-use Rattle.slash.proofs.TreeLaws.{tree-sound}
-use Rattle.slash.proofs.MeaningLaws.{Within, exponents-within, simples-count}
+use Rattle.notation.specs.Grammar.{Tree}
+use Rattle.notation.specs.Brackets.{tooDeep}
+use Rattle.notation.specs.Trees.{treeOf, isSome, hasTree, meaningOf, textType, shallowType, slashes}
+use Rattle.notation.specs.Places.{Holds}
+use Rattle.slash.specs.Parsing.{room, TextSays}
+use Rattle.notation.proofs.TreeLaws.{tree-sound}
+use Rattle.notation.proofs.MeaningLaws.{Within, exponents-within, simples-count}
 use Rattle.rules.specs.Layouts.{typePart, isWorded}
 use Rattle.rules.specs.Rules.{bases, declaredAmong, exponents, exponentListed, bodyRules, firstBroken}
 use Rattle.rules.proofs.Faults.{slashed-faults}

@@ -11,8 +11,8 @@ use Rattle.figures.specs.Refusals.{cutShort, kindNotListed, badLayout, undeclar
 use Rattle.pregroup.specs.Types.{Basic, Simple, PregroupType}
 use Rattle.format.specs.Records.{Bytes, every, between, headLength, kindAt, bodyAt, nextAt}
 use Rattle.format.specs.Names.{isName, isAmong}
-use Rattle.slash.specs.Brackets.{tooDeep}
-use Rattle.slash.specs.Trees.{hasTree, textType}
+use Rattle.notation.specs.Brackets.{tooDeep}
+use Rattle.notation.specs.Trees.{hasTree, textType}
 use Rattle.rules.specs.Layouts.{byKind, typePart, simplesOf, isWorded, isEntry}
 
 -- What the rules ask of type numbers, exponents and names.

@@ -9,8 +9,8 @@ use Rattle.figures.specs.Limits.{maxEntrySimples}
 use Rattle.figures.specs.Refusals.{undeclaredType, exponentOutside, bracketsTooDeep, notAType, typeTooLong}
 use Rattle.format.specs.Records.{Bytes}
 use Rattle.format.specs.Names.{isAmong}
-use Rattle.slash.specs.Grammar.{Tree, named, over, under, IsType, meaning}
-use Rattle.slash.specs.Brackets.{TooDeep}
+use Rattle.notation.specs.Grammar.{Tree, named, over, under, IsType, meaning}
+use Rattle.notation.specs.Brackets.{TooDeep}
 
 -- A name stands in a tree.
 pub data Names : Bytes → Tree → Type 0 where

@@ -9,11 +9,12 @@ use lib.ListN.{length, getD, drop, length-append}
 use Rattle.figures.specs.Limits.{maxDepth}
 use Rattle.pregroup.specs.Types.{PregroupType, simpleLeft, simpleRight, leftAdjoint, rightAdjoint}
 use Rattle.format.specs.Records.{Bytes}
-use Rattle.slash.specs.Grammar.{opening, closing, slash, backslash, Tree, over, under, meaning}
-use Rattle.slash.specs.Trees.{Front, front, joined, closed, behindFirst, unitAt, typeAt}
-use Rattle.slash.specs.Places.{Turned, Written, Says, neither, written}
+use Rattle.notation.specs.Grammar.{opening, closing, slash, backslash, Tree, over, under, meaning}
+use Rattle.notation.specs.Trees.{Front, front, joined, closed, behindFirst, unitAt, typeAt}
+use Rattle.notation.specs.Places.{Turned}
+use Rattle.slash.specs.Parsing.{Written, Says, neither, written}
 use Rattle.slash.specs.declared.Found.{Found}
-use Rattle.slash.proofs.TurnLaws.{adjoint-length, turned-holds, turned-tame, tame-turnable}
+use Rattle.notation.proofs.TurnLaws.{adjoint-length, turned-holds, turned-tame, tame-turnable}
 use Rattle.slash.proofs.PlaceLaws.{holds-kept, holds-append, tame-kept, tame-more, tame-join, tame-most, room-none, room-some, room-twice}
 use Rattle.slash.proofs.ParserLaws.{Read, says-nothing, says-front, unit-inside, closed-there, closed-empty, closed-other, second-empty, second-over, second-under, second-none}
 

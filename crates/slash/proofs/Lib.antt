@@ -1,13 +1,4 @@
--- Laws of texts, and of what the parsers write.
-pub mod BracketLaws
-pub mod Induction
-pub mod Counting
-pub mod Fronts
-pub mod Completeness
-pub mod TreeLaws
-pub mod MeaningLaws
-pub mod Examples
-pub mod TurnLaws
+-- Laws of what the parsers write.
 pub mod PlaceLaws
 pub mod ParserLaws
 pub mod Composing

@@ -16,9 +16,10 @@ use Rattle.format.specs.Records.{Bytes, every, between, bodiesAt}
 use Rattle.format.specs.Names.{nameByte, isName, numberOf, Named, nameFront, NameEnds}
 use Rattle.format.proofs.NameFronts.{front-bytes}
 use Rattle.format.proofs.NameLaws.{bodies-length, name-length-no, name-first-no, name-rest, number-bound}
-use Rattle.slash.specs.Grammar.{named, meaning}
-use Rattle.slash.specs.Trees.{front, nameAt}
-use Rattle.slash.specs.Places.{Holds, Tame, Written}
+use Rattle.notation.specs.Grammar.{named, meaning}
+use Rattle.notation.specs.Trees.{front, nameAt}
+use Rattle.notation.specs.Places.{Holds, Tame}
+use Rattle.slash.specs.Parsing.{Written}
 use Rattle.slash.proofs.PlaceLaws.{room-some}
 
 -- A name's number is small enough for a byte.

@@ -10,9 +10,9 @@ use lib.ListN.{length, getD, drop, drop-of-length-le}
 use lib.Seq.{drop-cons}
 use Rattle.pregroup.specs.Types.{PregroupType}
 use Rattle.format.specs.Records.{Bytes}
-use Rattle.slash.specs.Grammar.{opening, closing, slash, backslash, Tree, over, under}
-use Rattle.slash.specs.Trees.{Front, front, nameAt, closedBy, closed, unitBy, joined, secondBy, behindFirst, unitAt, typeAt}
-use Rattle.slash.specs.Places.{Written, Says, neither, written}
+use Rattle.notation.specs.Grammar.{opening, closing, slash, backslash, Tree, over, under}
+use Rattle.notation.specs.Trees.{Front, front, nameAt, closedBy, closed, unitBy, joined, secondBy, behindFirst, unitAt, typeAt}
+use Rattle.slash.specs.Parsing.{Written, Says, neither, written}
 use Rattle.slash.specs.declared.Found.{Found}
 
 -- What a parser says, by what stands at the front.

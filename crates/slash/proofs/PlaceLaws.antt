@@ -7,8 +7,9 @@ use mathlib.Core.List.{List, _++_}
 use lib.ListN.{length, getD, length-append, List·getD-append}
 use Rattle.pregroup.specs.Types.{PregroupType, plain}
 use Rattle.pregroup.specs.Held.{bias, held}
-use Rattle.slash.specs.Places.{Holds, one, Tame, room}
-use Rattle.slash.proofs.TurnLaws.{simple-behind}
+use Rattle.notation.specs.Places.{Holds, one, Tame}
+use Rattle.slash.specs.Parsing.{room}
+use Rattle.notation.proofs.TurnLaws.{simple-behind}
 
 -- The same below a place.
 abbrev pub SameBelow : ℕ → List ℕ → List ℕ → Type 0

@@ -7,9 +7,10 @@ use mathlib.Core.List.{List}
 use lib.ListN.{length, getD, drop}
 use Rattle.figures.specs.Limits.{maxDepth}
 use Rattle.format.specs.Records.{Bytes}
-use Rattle.slash.specs.Grammar.{slash, backslash, meaning}
-use Rattle.slash.specs.Trees.{unitAt, typeAt}
-use Rattle.slash.specs.Places.{Turned, room, SignAt, a-slash, a-backslash, ended, no-sign, Says}
+use Rattle.notation.specs.Grammar.{slash, backslash, meaning}
+use Rattle.notation.specs.Trees.{unitAt, typeAt}
+use Rattle.notation.specs.Places.{Turned}
+use Rattle.slash.specs.Parsing.{room, SignAt, a-slash, a-backslash, ended, no-sign, Says}
 use Rattle.slash.specs.declared.Found.{Found}
 use Rattle.slash.proofs.PlaceLaws.{room-twice}
 use Rattle.slash.proofs.ParserLaws.{Read, says-nothing, said-nothing}

@@ -11,12 +11,12 @@ use lib.Seq.{drop-cons}
 use Rattle.figures.specs.Limits.{maxDepth}
 use Rattle.pregroup.specs.Types.{PregroupType}
 use Rattle.format.specs.Records.{Bytes}
-use Rattle.slash.specs.Grammar.{Tree, meaning}
-use Rattle.slash.specs.Brackets.{tooDeep}
-use Rattle.slash.specs.Trees.{typeAt, wholeBy, whole, meaningOf, textType, shallowType}
-use Rattle.slash.specs.Places.{Says, TextSays}
+use Rattle.notation.specs.Grammar.{Tree, meaning}
+use Rattle.notation.specs.Brackets.{tooDeep}
+use Rattle.notation.specs.Trees.{typeAt, wholeBy, whole, meaningOf, textType, shallowType}
+use Rattle.slash.specs.Parsing.{Says, TextSays}
 use Rattle.slash.specs.declared.Found.{Found}
-use Rattle.slash.proofs.TreeLaws.{shallow-tree, deep-not-read}
+use Rattle.notation.proofs.TreeLaws.{shallow-tree, deep-not-read}
 use Rattle.slash.proofs.ParserLaws.{said-nothing, Read, said-front}
 
 -- A tree with the rest of a text behind it.

@@ -8,7 +8,7 @@ use lib.ListN.{length}
 use borrow.Author.Tests.{not-true, not-false}
 use Rattle.format.specs.Records.{Bytes, every, bodiesAt}
 use Rattle.format.proofs.NameLaws.{bodies-length}
-use Rattle.slash.specs.Trees.{textType}
+use Rattle.notation.specs.Trees.{textType}
 use Rattle.rules.specs.Rules.{declaredAmong, bases}
 use Rattle.rules.proofs.Texts.{room-all, Shown, text-shown, text-unread, text-undeclared, text-long, text-full, text-clean}
 use Rattle.rules.proofs.text_fault.Statement.{statement}

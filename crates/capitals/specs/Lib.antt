@@ -1,0 +1,3 @@
+-- When two words are the same.
+pub mod Capitals
+pub mod Letters
