@@ -7,3 +7,4 @@ pub mod LinkSteps
 pub mod LinkWriting
 pub mod FirstLinked
 pub mod WrittenLaws
+pub mod GivenLaws

@@ -1,4 +1,4 @@
-// Writes an answer into the lent buffer of 16-bit numbers: the target's number, the number of words, the numbers of their entries, the number
+// What reading answers, and an answer written into the lent buffer of 16-bit numbers: the target's number, the number of words, the numbers of their entries, the number
 // of simple types, and their partners, which are found and written by `links`.
 mod links;
 
@@ -10,6 +10,13 @@ ghost use Rattle.pregroup.specs.Held.{InRows};
 ghost use Rattle.figures.specs.Limits.{valueBound};
 ghost use Rattle.answer.specs.Entries.{entryNumbers, Enterable};
 ghost use Rattle.answer.specs.Written.{Linkable, Writable, WroteAnswer};
+
+// What reading answers. `Read`: the buffer holds the answer, and `values` of its values are the answer's. `Refused`: the number
+// of the refusal and the value returned with it; the buffer is as it was.
+pub enum LineAnswer {
+    Read { values: usize },
+    Refused { number: u32, value: usize },
+}
 
 // Writes the target's number, the number of words and the number of each word's entry: value 0 is t, value 1 is n, value 2 + i is the number of
 // slot i of the choice.

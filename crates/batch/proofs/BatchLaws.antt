@@ -11,7 +11,7 @@ use Rattle.figures.specs.Limits.{maxBatchValues}
 use Rattle.figures.specs.Refusals.{badBatch, answersTooLong}
 use Rattle.format.specs.Records.{Bytes}
 use Rattle.book.specs.Format.{Book, accepted, refused, parse}
-use Rattle.words.specs.Answers.{Outcome, Gives}
+use Rattle.answer.specs.Answers.{Outcome, Gives}
 use Rattle.batch.specs.declared.BatchAnswer.{BatchAnswer}
 use Rattle.batch.specs.declared.BatchAnswer.the-variants.{Answered, Refused}
 use Rattle.batch.specs.Lines.{batchLines}

@@ -15,7 +15,7 @@ use Rattle.bits.proofs.Cases.{some-same, none-some}
 use Rattle.format.specs.Records.{Bytes}
 use Rattle.book.specs.Format.{Book, Parsed, accepted, refused, parse}
 use Rattle.linking.specs.Reading.{Words}
-use Rattle.words.specs.Answers.{Outcome, Gives}
+use Rattle.answer.specs.Answers.{Outcome, Gives}
 use Rattle.reader.specs.Outcome.{outcome}
 use Rattle.reader.specs.Demands.{Readable, TooShort, NoChain}
 use Rattle.reader.proofs.Refusals.{book-some, NamedParse, parse-named}

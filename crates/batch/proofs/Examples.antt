@@ -23,7 +23,7 @@ use Rattle.line.specs.LineWords.{wordsFrom}
 use Rattle.capitals.specs.Capitals.{small, sameWord}
 use Rattle.line.specs.LineFaults.{byteFault, wordFault, entryFault, lineCheck}
 use Rattle.lookup.specs.Entries.{entriesFrom, simplesIn, simplesOfWords}
-use Rattle.words.specs.Answers.{Outcome, given}
+use Rattle.answer.specs.Answers.{Outcome, given}
 use Rattle.reader.specs.Outcome.{readAgainst, readParsed}
 use Rattle.reader.proofs.Table.{lineOf}
 use Rattle.batch.specs.declared.BatchAnswer.{BatchAnswer}

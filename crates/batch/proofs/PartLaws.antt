@@ -10,9 +10,9 @@ use Rattle.figures.specs.Limits.{maxValues, maxBatch, maxPart, valueBound}
 use Rattle.figures.specs.Refusals.{Reply, refusal}
 use Rattle.format.specs.Records.{Bytes}
 use Rattle.book.specs.Format.{Book, accepted, refused, parse}
-use Rattle.words.specs.declared.LineAnswer.{LineAnswer}
-use Rattle.words.specs.declared.LineAnswer.the-variants.{Read, Refused}
-use Rattle.words.specs.Answers.{lineReply, outcomeReply, Gives}
+use Rattle.answer.specs.declared.LineAnswer.{LineAnswer}
+use Rattle.answer.specs.declared.LineAnswer.the-variants.{Read, Refused}
+use Rattle.answer.specs.Answers.{lineReply, outcomeReply, Gives}
 use Rattle.reader.specs.Outcome.{outcome}
 use Rattle.reader.proofs.Promises.{refusals-within}
 use Rattle.reader.proofs.Refusals.{line-some, line-small}

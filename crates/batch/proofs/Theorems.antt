@@ -11,8 +11,8 @@ use Rattle.figures.specs.Refusals.{refusal, noReading, bufferTooShort, badBatch
 use Rattle.format.specs.Records.{Bytes}
 use Rattle.book.specs.Format.{Book}
 use Rattle.linking.specs.Reading.{Words}
-use Rattle.words.specs.declared.LineAnswer.the-variants.{Refused as RefusedLine}
-use Rattle.words.specs.Answers.{lineReply, outcomeReply}
+use Rattle.answer.specs.declared.LineAnswer.the-variants.{Refused as RefusedLine}
+use Rattle.answer.specs.Answers.{lineReply, outcomeReply}
 use Rattle.reader.specs.Outcome.{outcome}
 use Rattle.reader.specs.Demands.{Readable, NoChain}
 use Rattle.book.specs.Check.{BookNumber}

@@ -10,7 +10,7 @@ use Rattle.figures.specs.Limits.{maxValues}
 use Rattle.figures.specs.Refusals.{Reply, refusal, badBatch, answersTooLong}
 use Rattle.format.specs.Records.{Bytes}
 use Rattle.book.specs.Format.{Parsed, accepted, refused, parse}
-use Rattle.words.specs.Answers.{Outcome, outcomeReply}
+use Rattle.answer.specs.Answers.{Outcome, outcomeReply}
 use Rattle.reader.specs.Outcome.{outcome}
 use Rattle.batch.specs.declared.BatchAnswer.{BatchAnswer}
 use Rattle.batch.specs.declared.BatchAnswer.the-variants.{Answered, Refused}

@@ -10,7 +10,7 @@ use Rattle.figures.specs.Refusals.{Reply, refusal, noReading, bufferTooShort, b
 use Rattle.format.specs.Records.{Bytes}
 use Rattle.book.specs.Format.{Book, accepted, refused, parse}
 use Rattle.linking.specs.Reading.{Words, IsReading, IsFirst, answer}
-use Rattle.words.specs.Answers.{outcomeReply, valuesOf}
+use Rattle.answer.specs.Answers.{outcomeReply, valuesOf}
 use Rattle.reader.specs.Outcome.{outcome}
 use Rattle.reader.specs.Demands.{OrderOf, Readable, NoChain}
 use Rattle.batch.specs.declared.BatchAnswer.{BatchAnswer}

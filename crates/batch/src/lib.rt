@@ -10,7 +10,7 @@ use format::names::NAME_PLACES;
 use lookup::keys::NO_ENTRY;
 use lookup::keys::PLACES;
 use reader::open_book;
-ghost use Rattle.words.specs.Answers.{Gives};
+ghost use Rattle.answer.specs.Answers.{Gives};
 ghost use Rattle.batch.specs.Batch.{batchOutcome};
 ghost use Rattle.batch.specs.BatchDemands.{BatchPromised};
 

@@ -1,8 +1,8 @@
 // The parts of a batch's answers, each a count, a number and the values of a line's answer or refusal, one behind another in a store.
 use crate::lines::LINE_BREAK;
+use answer::LineAnswer;
 use bytewise::search::find_byte;
 use reader::read_open;
-use words::LineAnswer;
 ghost use Prim.Native.Nat.{_+_, _≤_, _<_};
 ghost use mathlib.Core.Path.{_≡_};
 ghost use mathlib.Core.List.{[], _∷_, _++_};

@@ -2,11 +2,11 @@
 //
 //     =ITEMS       the book of the cases behind it, as `cases::items` reads it
 //     NAME:LINE    a case: its name, which holds no colon, and its line
+use answer::LineAnswer;
 use cases::buffer::Space;
 use cases::items::put_items;
 use cases::text::find;
 use in_the_way::WayAnswer;
-use words::LineAnswer;
 
 // How many values there are to lend.
 pub const VALUES: usize = 512;

@@ -1,9 +1,9 @@
 // Listings of what is not the reader's answer for a line: refusals, and values with the paper's first book.
 use crate::rows::list;
 use crate::rows::listings;
+use answer::LineAnswer;
 use cases::books::first_book;
 use cases::buffer::Space;
-use words::LineAnswer;
 
 pub fn rows(buf: &mut Space) {
     refusals();

@@ -1,11 +1,11 @@
 // Listings of lines against a book. A list of cases is written as text: for each case its name, a colon, its line, and a semicolon. Behind the
 // line may stand a colon and numbers in digits with a space between them: how many values were read, and the values of the buffer. They are
 // listed in the place of what the reader answers. No name and no line holds a colon or a semicolon.
+use answer::LineAnswer;
 use cases::text::find;
 use cases::text::number;
 use listing::MAX_LISTING;
 use listing::Rendered;
-use words::LineAnswer;
 
 // How many values there are to lend.
 pub const VALUES: usize = 512;

@@ -20,9 +20,9 @@ use Rattle.line.specs.Remaining.{without}
 use Rattle.capitals.specs.Capitals.{small, sameWord}
 use Rattle.line.specs.LineFaults.{byteFault, wordFault, entryFault, lineCheck}
 use Rattle.lookup.specs.Entries.{entriesFrom, simplesIn, simplesOfWords}
-use Rattle.words.specs.Answers.{Outcome, given}
+use Rattle.answer.specs.Answers.{Outcome, given}
 use Rattle.reader.specs.Outcome.{readAgainst, readParsed}
-use Rattle.words.specs.declared.LineAnswer.the-variants.{Read, Refused}
+use Rattle.answer.specs.declared.LineAnswer.the-variants.{Read, Refused}
 use Rattle.reader.proofs.Table.{lineOf}
 use Rattle.in_the_way.specs.declared.WayAnswer.{WayAnswer}
 use Rattle.in_the_way.specs.declared.WayAnswer.the-variants.{Ordinary, NoReading}

@@ -12,10 +12,10 @@ use Rattle.bits.proofs.Cases.{less-or-not, same-or-not}
 use Rattle.format.specs.Records.{Bytes}
 use Rattle.book.specs.Format.{Book, parse}
 use Rattle.linking.specs.Reading.{Words}
-use Rattle.words.specs.Answers.{Gives}
+use Rattle.answer.specs.Answers.{Gives}
 use Rattle.reader.specs.Outcome.{outcome}
-use Rattle.words.specs.declared.LineAnswer.{LineAnswer}
-use Rattle.words.specs.declared.LineAnswer.the-variants.{Read, Refused}
+use Rattle.answer.specs.declared.LineAnswer.{LineAnswer}
+use Rattle.answer.specs.declared.LineAnswer.the-variants.{Read, Refused}
 use Rattle.reader.proofs.Unread.{unread-line}
 use Rattle.in_the_way.specs.declared.WayAnswer.{WayAnswer}
 use Rattle.in_the_way.specs.declared.WayAnswer.the-variants.{Ordinary, NoReading}

@@ -12,10 +12,10 @@ use Rattle.format.specs.Records.{Bytes}
 use Rattle.book.specs.Format.{Book, accepted, refused, parse}
 use Rattle.linking.specs.Reading.{Words}
 use Rattle.line.specs.LineFaults.{passed, stopped, lineCheck}
-use Rattle.words.specs.Answers.{Gives}
+use Rattle.answer.specs.Answers.{Gives}
 use Rattle.reader.specs.Outcome.{outcome}
-use Rattle.words.specs.declared.LineAnswer.{LineAnswer}
-use Rattle.words.specs.declared.LineAnswer.the-variants.{Read, Refused}
+use Rattle.answer.specs.declared.LineAnswer.{LineAnswer}
+use Rattle.answer.specs.declared.LineAnswer.the-variants.{Read, Refused}
 use Rattle.reader.proofs.OpeningLaws.{gives-book-refused, gives-line-refused}
 use Rattle.reader.proofs.Refusals.{NamedParse, parse-named, NamedLine, line-named}
 use Rattle.in_the_way.specs.declared.WayAnswer.{WayAnswer}

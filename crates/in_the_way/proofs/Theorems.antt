@@ -13,10 +13,10 @@ use Rattle.linking.specs.Reading.{Words}
 use Rattle.line.specs.LineFaults.{passed, lineCheck}
 use Rattle.line.specs.Remaining.{without, IsWithout}
 use Rattle.line.proofs.Remaining.{without-passes}
-use Rattle.words.specs.Answers.{Gives}
+use Rattle.answer.specs.Answers.{Gives}
 use Rattle.reader.specs.Outcome.{outcome}
 use Rattle.reader.specs.Demands.{Readable}
-use Rattle.words.specs.declared.LineAnswer.the-variants.{Refused}
+use Rattle.answer.specs.declared.LineAnswer.the-variants.{Refused}
 use Rattle.in_the_way.specs.declared.WayAnswer.{WayAnswer}
 use Rattle.in_the_way.specs.Way.{wayOf, wayOutcome}
 use Rattle.in_the_way.specs.WayDemands.{InTheWay, WayPromised}

@@ -14,7 +14,8 @@ use Rattle.format.specs.Records.{Bytes}
 use Rattle.linking.specs.Reading.{Words, reads}
 use Rattle.line.specs.Remaining.{without}
 use Rattle.line.proofs.Remaining.{without-length, without-known, without-brief, without-simples, without-threads}
-use Rattle.words.specs.FoundWords.{FoundWords, SaysWhether}
+use Rattle.reach.specs.FoundWords.{FoundWords}
+use Rattle.words.specs.Readings.{SaysWhether}
 use Rattle.in_the_way.specs.Way.{bitOf, wayFrom}
 use Rattle.in_the_way.specs.Runs.{IsWay}
 use Rattle.in_the_way.proofs.WayLaws.{way-small, way-step, way-none}

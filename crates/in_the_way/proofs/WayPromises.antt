@@ -26,11 +26,11 @@ use Rattle.linking.proofs.Derivation.{reading-iff-chain}
 use Rattle.line.specs.Remaining.{without, IsWithout}
 use Rattle.line.proofs.Passed.{line-passing}
 use Rattle.line.proofs.Remaining.{without-ascending, without-passes}
-use Rattle.words.specs.Answers.{Gives}
+use Rattle.answer.specs.Answers.{Gives}
 use Rattle.reader.specs.Outcome.{outcome}
 use Rattle.reader.specs.Demands.{OrderOf, Readable}
-use Rattle.words.specs.declared.LineAnswer.{LineAnswer}
-use Rattle.words.specs.declared.LineAnswer.the-variants.{Read, Refused}
+use Rattle.answer.specs.declared.LineAnswer.{LineAnswer}
+use Rattle.answer.specs.declared.LineAnswer.the-variants.{Read, Refused}
 use Rattle.reader.proofs.OpeningLaws.{gives-promised}
 use Rattle.reader.proofs.Unread.{firstOfBook, unread-exactly, unread-line}
 use Rattle.in_the_way.specs.declared.WayAnswer.{WayAnswer}

@@ -5,7 +5,7 @@ use mathlib.Core.List.{List}
 use Rattle.pregroup.specs.Tests.{Test}
 use Rattle.format.specs.Records.{Bytes}
 use Rattle.linking.specs.Reading.{Words}
-use Rattle.words.specs.FoundWords.{FoundWords}
+use Rattle.reach.specs.FoundWords.{FoundWords}
 use Rattle.in_the_way.specs.Way.{wayOf}
 
 -- It is the number for the words that are looked up so.

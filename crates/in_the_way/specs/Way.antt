@@ -14,10 +14,10 @@ use Rattle.book.specs.Format.{Book, Parsed, accepted, refused, parse}
 use Rattle.linking.specs.Reading.{Words, reads}
 use Rattle.line.specs.LineFaults.{LineCheck, passed, stopped, lineCheck}
 use Rattle.line.specs.Remaining.{without}
-use Rattle.words.specs.Answers.{Outcome}
+use Rattle.answer.specs.Answers.{Outcome}
 use Rattle.reader.specs.Outcome.{outcome}
-use Rattle.words.specs.declared.LineAnswer.{LineAnswer}
-use Rattle.words.specs.declared.LineAnswer.the-variants.{Read, Refused}
+use Rattle.answer.specs.declared.LineAnswer.{LineAnswer}
+use Rattle.answer.specs.declared.LineAnswer.the-variants.{Read, Refused}
 use Rattle.in_the_way.specs.declared.WayAnswer.{WayAnswer}
 use Rattle.in_the_way.specs.declared.WayAnswer.the-variants.{Ordinary, NoReading}
 

@@ -13,11 +13,11 @@ use Rattle.format.specs.Records.{Bytes}
 use Rattle.book.specs.Format.{Book}
 use Rattle.linking.specs.Reading.{Words, Choice, targetAt, IsReading}
 use Rattle.line.specs.Remaining.{without, IsWithout}
-use Rattle.words.specs.Answers.{Gives}
+use Rattle.answer.specs.Answers.{Gives}
 use Rattle.reader.specs.Outcome.{outcome}
 use Rattle.reader.specs.Demands.{OrderOf, Readable, Promised}
-use Rattle.words.specs.declared.LineAnswer.{LineAnswer}
-use Rattle.words.specs.declared.LineAnswer.the-variants.{Refused}
+use Rattle.answer.specs.declared.LineAnswer.{LineAnswer}
+use Rattle.answer.specs.declared.LineAnswer.the-variants.{Refused}
 use Rattle.in_the_way.specs.declared.WayAnswer.{WayAnswer}
 use Rattle.in_the_way.specs.declared.WayAnswer.the-variants.{Ordinary, NoReading}
 

@@ -1,14 +1,14 @@
 // Tells which words are in the way of a line without a reading: those without which it has one. The line is read as ever, and where it gets 15 each word is
 // left out in turn. What is returned for any bytes is defined in specs/Way, and what is promised of it in specs/WayDemands.
 use crate::tries::read_or_try;
+use answer::LineAnswer;
 use book::Scan;
 use figures::limits::MAX_ENTRIES;
 use format::names::NAME_PLACES;
 use lookup::keys::NO_ENTRY;
 use lookup::keys::PLACES;
 use reader::open_book;
-use words::LineAnswer;
-ghost use Rattle.words.specs.Answers.{Gives};
+ghost use Rattle.answer.specs.Answers.{Gives};
 ghost use Rattle.in_the_way.specs.Way.{wayOutcome};
 ghost use Rattle.in_the_way.specs.WayDemands.{WayPromised};
 

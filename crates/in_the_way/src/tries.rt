@@ -1,15 +1,15 @@
 // A line against an open book: it is read, and where it has no reading each of its words is left out in turn.
 use crate::WayAnswer;
+use answer::LineAnswer;
 use figures::limits::MAX_ENTRIES;
 use figures::limits::MAX_WORDS;
 use figures::refusals::NO_READING;
 use line::CheckedLine;
 use line::words::check_line;
-use words::LineAnswer;
 use words::has_reading;
 use words::read_words;
-ghost use Rattle.words.specs.Answers.{Gives};
-ghost use Rattle.words.specs.FoundWords.{AreFound};
+ghost use Rattle.answer.specs.Answers.{Gives};
+ghost use Rattle.reach.specs.FoundWords.{AreFound};
 ghost use Rattle.reader.specs.Runs.{IsOpen};
 ghost use Rattle.in_the_way.specs.Way.{wayOutcome};
 ghost use Rattle.in_the_way.specs.Runs.{IsWay};

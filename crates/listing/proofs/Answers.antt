@@ -21,8 +21,8 @@ use Rattle.line.specs.LineFaults.{entriesOf}
 use Rattle.lookup.specs.Entries.{entriesFrom}
 use Rattle.capitals.specs.Capitals.{sameWord}
 use Rattle.line.proofs.Passed.{line-passing}
-use Rattle.words.specs.declared.LineAnswer.the-variants.{Read}
-use Rattle.words.specs.Answers.{valuesOf}
+use Rattle.answer.specs.declared.LineAnswer.the-variants.{Read}
+use Rattle.answer.specs.Answers.{valuesOf}
 use Rattle.reader.specs.Demands.{OrderOf, Readable, Promised}
 use Rattle.letters.proofs.LetterTheorems.{linking-lettered}
 use Rattle.printing.specs.Rows.{shownRows}

@@ -15,7 +15,7 @@ use Rattle.book.specs.Format.{add, ended, recordsFrom, parse}
 use Rattle.book.proofs.PaperBooks.{firstBook}
 use Rattle.line.specs.LineWords.{wordsFrom}
 use Rattle.line.specs.LineFaults.{byteFault, wordFault}
-use Rattle.words.specs.declared.LineAnswer.the-variants.{Read, Refused}
+use Rattle.answer.specs.declared.LineAnswer.the-variants.{Read, Refused}
 use Rattle.printing.specs.Text.{lastDigits, decimal, signed}
 use Rattle.printing.specs.Rows.{wordRows, typeRows}
 use Rattle.listing.specs.Listing.{joined, listing}

@@ -5,7 +5,7 @@ use mathlib.Core.Path.{_≡_, refl}
 use mathlib.Core.List.{List}
 use lib.ListN.{length}
 use Rattle.format.specs.Records.{Bytes}
-use Rattle.words.specs.declared.LineAnswer.{LineAnswer}
+use Rattle.answer.specs.declared.LineAnswer.{LineAnswer}
 use Rattle.listing.specs.Listing.{listing, maxListing, Renders}
 use Rattle.listing.specs.ListingDemands.{ListingPromised}
 use Rattle.listing.specs.declared.Rendered.{Rendered}

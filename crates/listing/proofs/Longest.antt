@@ -15,7 +15,7 @@ use Rattle.format.specs.Records.{Bytes}
 use Rattle.book.specs.Format.{Book, accepted, parse}
 use Rattle.line.specs.LineWords.{wordsOf}
 use Rattle.line.proofs.Passed.{Passing, line-passing}
-use Rattle.words.specs.declared.LineAnswer.the-variants.{Read}
+use Rattle.answer.specs.declared.LineAnswer.the-variants.{Read}
 use Rattle.reader.specs.Demands.{Promised}
 use Rattle.printing.specs.Text.{decimal, signed}
 use Rattle.printing.specs.Rows.{yes, firstRow, refusalRow, typeRow, wordRows}

@@ -14,8 +14,8 @@ use Rattle.letters.specs.Letters.{letters}
 use Rattle.book.specs.Format.{Entry, Book, Parsed, accepted, refused, parse}
 use Rattle.line.specs.LineWords.{Word, wordsOf}
 use Rattle.line.specs.LineFaults.{byteFault, wordFault}
-use Rattle.words.specs.declared.LineAnswer.{LineAnswer}
-use Rattle.words.specs.declared.LineAnswer.the-variants.{Read, Refused}
+use Rattle.answer.specs.declared.LineAnswer.{LineAnswer}
+use Rattle.answer.specs.declared.LineAnswer.the-variants.{Read, Refused}
 use Rattle.listing.specs.declared.Rendered.{Rendered}
 use Rattle.listing.specs.declared.Rendered.the-variants.{Written, TooShort}
 use Rattle.printing.specs.Rows.{refusalRow, shownRows}

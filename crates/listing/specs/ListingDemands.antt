@@ -11,8 +11,8 @@ use Rattle.letters.specs.Lettered.{Lettered}
 use Rattle.format.specs.Records.{Bytes}
 use Rattle.book.specs.Format.{Book}
 use Rattle.line.specs.LineWords.{wordsOf}
-use Rattle.words.specs.declared.LineAnswer.{LineAnswer}
-use Rattle.words.specs.declared.LineAnswer.the-variants.{Read, Refused}
+use Rattle.answer.specs.declared.LineAnswer.{LineAnswer}
+use Rattle.answer.specs.declared.LineAnswer.the-variants.{Read, Refused}
 use Rattle.reader.specs.Demands.{OrderOf, Readable, Promised}
 use Rattle.printing.specs.Rows.{refusalRow, shownRows}
 use Rattle.listing.specs.Listing.{listedType, maxListing, Renders}

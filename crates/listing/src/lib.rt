@@ -2,6 +2,7 @@
 mod parts;
 mod strings;
 
+use answer::LineAnswer;
 use book::Scan;
 use bytewise::widths::value_at;
 use figures::limits::MAX_ENTRIES;
@@ -20,7 +21,6 @@ use printing::put_reading;
 use printing::put_refusal_row;
 use reader::open_book;
 use strings::join_types;
-use words::LineAnswer;
 ghost use Rattle.printing.specs.Rows.{refusalRow};
 ghost use Rattle.listing.specs.Listing.{listed, listing, Renders};
 ghost use Rattle.printing.specs.Kept.{LineKept, keptRows, Puttable};

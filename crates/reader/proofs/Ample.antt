@@ -19,8 +19,8 @@ use Rattle.line.specs.LineWords.{wordsOf}
 use Rattle.line.specs.LineFaults.{LineCheck, passed, stopped, lineCheck, entriesOf}
 use Rattle.line.proofs.Passed.{line-passing, line-brief, choice-brief, words-few}
 use Rattle.line.proofs.Offsets.{stopped-within}
-use Rattle.words.specs.declared.LineAnswer.{LineAnswer}
-use Rattle.words.specs.Answers.{outcomeReply, lineReply, valuesOf}
+use Rattle.answer.specs.declared.LineAnswer.{LineAnswer}
+use Rattle.answer.specs.Answers.{outcomeReply, lineReply, valuesOf}
 use Rattle.reader.specs.Outcome.{readAgainst, readParsed, outcome}
 use Rattle.reader.specs.Demands.{OrderOf, Readable}
 use Rattle.reader.proofs.Refusals.{book-not-short, NamedParse, parse-named, NamedLine, line-named}

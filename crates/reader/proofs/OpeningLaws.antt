@@ -24,12 +24,12 @@ use Rattle.line.specs.LineFaults.{passed, stopped, lineCheck, entriesOfLine}
 use Rattle.line.specs.LookUp.{LineSays}
 use Rattle.line.specs.declared.CheckedLine.the-variants.{Found}
 use Rattle.line.proofs.Passed.{line-passing, line-brief}
-use Rattle.words.specs.declared.LineAnswer.{LineAnswer}
-use Rattle.words.specs.declared.LineAnswer.the-variants.{Refused}
-use Rattle.words.specs.Answers.{Outcome, given, Gives}
+use Rattle.answer.specs.declared.LineAnswer.{LineAnswer}
+use Rattle.answer.specs.declared.LineAnswer.the-variants.{Refused}
+use Rattle.answer.specs.Answers.{Outcome, given, Gives}
 use Rattle.reader.specs.Outcome.{readAgainst, readParsed, outcome}
 use Rattle.reader.specs.Demands.{Promised}
-use Rattle.words.specs.FoundWords.{FoundWords}
+use Rattle.reach.specs.FoundWords.{FoundWords}
 use Rattle.reader.specs.Runs.{Open}
 use Rattle.reader.proofs.Promises.{outcome-promised}
 

@@ -25,10 +25,10 @@ use Rattle.linking.proofs.FirstReading.{first-reading-some, first-reading-none,
 use Rattle.linking.proofs.Derivation.{unread-iff-no-chain}
 use Rattle.line.specs.LineFaults.{LineCheck, passed, stopped, lineCheck}
 use Rattle.line.proofs.Passed.{line-passing}
-use Rattle.words.specs.declared.LineAnswer.{LineAnswer}
-use Rattle.words.specs.declared.LineAnswer.the-variants.{Read, Refused}
-use Rattle.words.proofs.ReadingLaws.{read-refused}
-use Rattle.words.specs.Answers.{Outcome, lineReply, valuesOf, given}
+use Rattle.answer.specs.declared.LineAnswer.{LineAnswer}
+use Rattle.answer.specs.declared.LineAnswer.the-variants.{Read, Refused}
+use Rattle.answer.proofs.GivenLaws.{read-refused}
+use Rattle.answer.specs.Answers.{Outcome, lineReply, valuesOf, given}
 use Rattle.reader.specs.Outcome.{readAgainst, readParsed, outcome}
 use Rattle.reader.specs.Demands.{OrderOf, Readable, Written, TooShort, NoChain, Promised, LineNumber}
 use Rattle.reader.proofs.Refusals.{line-some, NamedParse, parse-named, NamedLine, line-named}

@@ -18,8 +18,8 @@ use Rattle.linking.specs.Reading.{Words, Answer, answer, targetAt, IsFirst}
 use Rattle.linking.proofs.Targets.{IsFirstFor, one-target-reads, repeated-target}
 use Rattle.line.specs.LineWords.{Word, wordsOf}
 use Rattle.line.specs.LineFaults.{LineCheck, passed, stopped, entryFault, lineCheck}
-use Rattle.words.specs.declared.LineAnswer.{LineAnswer}
-use Rattle.words.specs.Answers.{outcomeReply, lineReply, valuesOf, given}
+use Rattle.answer.specs.declared.LineAnswer.{LineAnswer}
+use Rattle.answer.specs.Answers.{outcomeReply, lineReply, valuesOf, given}
 use Rattle.reader.specs.Outcome.{readAgainst, readParsed, outcome}
 use Rattle.reader.specs.Demands.{OrderOf, Readable}
 use Rattle.reader.proofs.Promises.{Given, too-short, enough, given-is, values-count, of-first, outcome-read}

@@ -23,10 +23,10 @@ use Rattle.capitals.specs.Capitals.{small, sameWord}
 use Rattle.lookup.specs.Respelt.{DifferInCase, same-rest, same-record, respelt}
 use Rattle.line.specs.LineFaults.{byteFault, wordFault, entryFault, lineCheck}
 use Rattle.lookup.specs.Entries.{entriesFrom, simplesIn, simplesOfWords}
-use Rattle.words.specs.Answers.{Outcome, given}
+use Rattle.answer.specs.Answers.{Outcome, given}
 use Rattle.reader.specs.Outcome.{readAgainst, readParsed, outcome}
-use Rattle.words.specs.declared.LineAnswer.{LineAnswer}
-use Rattle.words.specs.declared.LineAnswer.the-variants.{Refused}
+use Rattle.answer.specs.declared.LineAnswer.{LineAnswer}
+use Rattle.answer.specs.declared.LineAnswer.the-variants.{Refused}
 use Rattle.reader.proofs.Table.{lineOf, lent, expected}
 use Rattle.reader.proofs.Capitals.{same-books-outcome}
 

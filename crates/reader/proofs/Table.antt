@@ -21,10 +21,10 @@ use Rattle.line.specs.LineWords.{wordsFrom}
 use Rattle.capitals.specs.Capitals.{small, sameWord}
 use Rattle.line.specs.LineFaults.{byteFault, wordFault, entryFault, lineCheck}
 use Rattle.lookup.specs.Entries.{entriesFrom, simplesIn, simplesOfWords}
-use Rattle.words.specs.Answers.{Outcome, valuesOf, given}
+use Rattle.answer.specs.Answers.{Outcome, valuesOf, given}
 use Rattle.reader.specs.Outcome.{readAgainst, readParsed, outcome}
-use Rattle.words.specs.declared.LineAnswer.{LineAnswer}
-use Rattle.words.specs.declared.LineAnswer.the-variants.{Read, Refused}
+use Rattle.answer.specs.declared.LineAnswer.{LineAnswer}
+use Rattle.answer.specs.declared.LineAnswer.the-variants.{Read, Refused}
 
 -- The words of document 000, example 4.3.
 abbrev I : Bytes

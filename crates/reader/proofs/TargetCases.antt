@@ -20,9 +20,9 @@ use Rattle.line.specs.LineWords.{wordsFrom}
 use Rattle.capitals.specs.Capitals.{small, sameWord}
 use Rattle.line.specs.LineFaults.{byteFault, wordFault, entryFault, lineCheck}
 use Rattle.lookup.specs.Entries.{entriesFrom, simplesIn, simplesOfWords}
-use Rattle.words.specs.Answers.{given}
+use Rattle.answer.specs.Answers.{given}
 use Rattle.reader.specs.Outcome.{readAgainst, readParsed, outcome}
-use Rattle.words.specs.declared.LineAnswer.the-variants.{Read, Refused}
+use Rattle.answer.specs.declared.LineAnswer.the-variants.{Read, Refused}
 use Rattle.reader.proofs.Table.{lent, expected}
 
 -- Types o 0, k 1, p 2; entries 0 go k, 1 go o, 2 site k, 3 ward7 p, 4 please k o^l p k^r o; and these pairs and targets.

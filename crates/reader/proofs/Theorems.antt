@@ -48,8 +48,8 @@ use Rattle.capitals.proofs.CapitalLaws.{CapitalOf, NoCapital, alike-exactly, sa
 use Rattle.line.specs.LineFaults.{entriesOfLine}
 use Rattle.line.specs.Promise.{LookUpPromised}
 use Rattle.line.proofs.PromiseLaws.{look-up-kept}
-use Rattle.words.specs.declared.LineAnswer.the-variants.{Refused}
-use Rattle.words.specs.Answers.{outcomeReply}
+use Rattle.answer.specs.declared.LineAnswer.the-variants.{Refused}
+use Rattle.answer.specs.Answers.{outcomeReply}
 use Rattle.reader.specs.Outcome.{outcome}
 use Rattle.reader.specs.Demands.{OrderOf, Readable, Promised, LineNumber}
 use Rattle.reader.proofs.Promises.{outcome-promised, refusals-within}

@@ -13,10 +13,10 @@ use Rattle.format.specs.Records.{Bytes}
 use Rattle.book.specs.Format.{Book, Parsed, accepted, refused, parse}
 use Rattle.linking.specs.Reading.{Words, Answer, firstReading}
 use Rattle.line.specs.LineFaults.{LineCheck, passed, stopped, lineCheck}
-use Rattle.words.specs.declared.LineAnswer.{LineAnswer}
-use Rattle.words.specs.declared.LineAnswer.the-variants.{Refused}
-use Rattle.words.proofs.ReadingLaws.{read-refused}
-use Rattle.words.specs.Answers.{Outcome}
+use Rattle.answer.specs.declared.LineAnswer.{LineAnswer}
+use Rattle.answer.specs.declared.LineAnswer.the-variants.{Refused}
+use Rattle.answer.proofs.GivenLaws.{read-refused}
+use Rattle.answer.specs.Answers.{Outcome}
 use Rattle.reader.specs.Outcome.{readAgainst, readParsed, outcome}
 use Rattle.reader.specs.Demands.{Readable}
 use Rattle.reader.proofs.Refusals.{NamedParse, parse-named, NamedLine, line-named}

@@ -15,9 +15,9 @@ use Rattle.book.specs.Format.{Book, accepted, parse}
 use Rattle.book.specs.Check.{BookNumber}
 use Rattle.linking.specs.Reading.{Words, Choice, targetAt, IsReading, IsFirst, answer}
 use Rattle.line.specs.LineFaults.{passed, lineCheck}
-use Rattle.words.specs.declared.LineAnswer.{LineAnswer}
-use Rattle.words.specs.declared.LineAnswer.the-variants.{Read}
-use Rattle.words.specs.Answers.{lineReply, valuesOf}
+use Rattle.answer.specs.declared.LineAnswer.{LineAnswer}
+use Rattle.answer.specs.declared.LineAnswer.the-variants.{Read}
+use Rattle.answer.specs.Answers.{lineReply, valuesOf}
 
 -- The order of a book: the reflexive and transitive closure of its pairs.
 abbrev pub OrderOf : Book → Relation

@@ -8,9 +8,9 @@ use Rattle.format.specs.Records.{Bytes}
 use Rattle.book.specs.Format.{Book, Parsed, accepted, refused, parse}
 use Rattle.linking.specs.Reading.{firstReading}
 use Rattle.line.specs.LineFaults.{LineCheck, passed, stopped, lineCheck}
-use Rattle.words.specs.Answers.{Outcome, given}
-use Rattle.words.specs.declared.LineAnswer.{LineAnswer}
-use Rattle.words.specs.declared.LineAnswer.the-variants.{Refused}
+use Rattle.answer.specs.Answers.{Outcome, given}
+use Rattle.answer.specs.declared.LineAnswer.{LineAnswer}
+use Rattle.answer.specs.declared.LineAnswer.the-variants.{Refused}
 
 unfoldable pub readAgainst : Book → LineCheck → List ℕ → Outcome LineAnswer
 readAgainst B (stopped number value) buffer = record { answer = Refused number value; buffer = buffer }

@@ -1,6 +1,7 @@
 // Reads a line against a book: the book is opened, the line split and its words looked up, the entries found laid out as a
 // graph, its chart filled, the first choice found, and its first linking written. What reading any bytes comes to is defined in specs/Outcome, and
 // what is promised of it in specs/Demands.
+use answer::LineAnswer;
 use book::Scan;
 use book::records::scan_book;
 use figures::limits::MAX_ENTRIES;
@@ -13,14 +14,13 @@ use line::words::check_line;
 use lookup::keys::NO_ENTRY;
 use lookup::keys::PLACES;
 use lookup::keys::thread_entries;
-use words::LineAnswer;
 use words::read_words;
 ghost use Prim.Native.Nat.{_≤_};
 ghost use lib.ListN.{length};
 ghost use Rattle.figures.specs.Limits.{maxEntries};
 ghost use Rattle.format.specs.Names.{namePlaces};
 ghost use Rattle.lookup.specs.Threads.{NoneAlike};
-ghost use Rattle.words.specs.Answers.{Gives};
+ghost use Rattle.answer.specs.Answers.{Gives};
 ghost use Rattle.reader.specs.Outcome.{outcome};
 ghost use Rattle.reader.specs.Demands.{Promised};
 ghost use Rattle.reader.specs.Runs.{IsOpen, OpeningSays};

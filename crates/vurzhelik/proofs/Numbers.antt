@@ -11,9 +11,9 @@ use Rattle.book.specs.Format.{Parsed, accepted, refused, parse}
 use Rattle.book.specs.Check.{bookCheck, answerFor, checkReply}
 use Rattle.book.specs.declared.BookCheck.{BookCheck}
 use Rattle.book.specs.declared.BookCheck.the-variants.{Accepted, Refused}
-use Rattle.words.specs.Answers.{Gives}
-use Rattle.words.specs.declared.LineAnswer.{LineAnswer}
-use Rattle.words.specs.declared.LineAnswer.the-variants.{Read, Refused as RefusedLine}
+use Rattle.answer.specs.Answers.{Gives}
+use Rattle.answer.specs.declared.LineAnswer.{LineAnswer}
+use Rattle.answer.specs.declared.LineAnswer.the-variants.{Read, Refused as RefusedLine}
 use Rattle.reader.specs.Outcome.{outcome}
 use Rattle.reader.specs.Demands.{Promised}
 use Rattle.reader.proofs.Refusals.{book-some, line-some, NamedParse, parse-named}

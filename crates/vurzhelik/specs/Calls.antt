@@ -5,8 +5,8 @@ use mathlib.Core.Bool.{cond}
 use mathlib.Core.List.{List, [], _∷_}
 use lib.Dec.{eqb}
 use Rattle.figures.specs.Refusals.{Reply, noReading}
-use Rattle.words.specs.declared.LineAnswer.{LineAnswer}
-use Rattle.words.specs.declared.LineAnswer.the-variants.{Read, Refused}
+use Rattle.answer.specs.declared.LineAnswer.{LineAnswer}
+use Rattle.answer.specs.declared.LineAnswer.the-variants.{Read, Refused}
 use Rattle.in_the_way.specs.declared.WayAnswer.{WayAnswer}
 use Rattle.in_the_way.specs.declared.WayAnswer.the-variants.{Ordinary, NoReading}
 use Rattle.batch.specs.declared.BatchAnswer.{BatchAnswer}

@@ -1,5 +1,6 @@
 // The reader for callers in C and other languages: one function for each entry, with numbers in the place of its enum, and one for the
 // version. A slice is passed as a pointer and a length. What the numbers mean is defined in specs/Calls.
+use answer::LineAnswer;
 use batch::BatchAnswer;
 use batch::read_batch;
 use book::BookCheck;
@@ -8,11 +9,10 @@ use figures::refusals::NO_READING;
 use in_the_way::WayAnswer;
 use in_the_way::words_in_the_way;
 use reader::read_line;
-use words::LineAnswer;
 ghost use mathlib.Core.Path.{_≡_};
 ghost use mathlib.Core.List.{[], _∷_};
 ghost use Rattle.book.specs.Check.{bookCheck, checkReply};
-ghost use Rattle.words.specs.Answers.{Gives};
+ghost use Rattle.answer.specs.Answers.{Gives};
 ghost use Rattle.reader.specs.Outcome.{outcome};
 ghost use Rattle.reader.specs.Demands.{Promised};
 ghost use Rattle.batch.specs.Batch.{batchOutcome};

@@ -1,3 +1,2 @@
 -- What reading words that are looked up comes to.
-pub mod Answers
-pub mod FoundWords
+pub mod Readings

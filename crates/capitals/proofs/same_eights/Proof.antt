@@ -1,4 +1,4 @@
--- `lookup::letters::same_eights` meets its contract: the letters are the same at every place passed, and the last eight decide.
+-- `capitals::same_eights` meets its contract: the letters are the same at every place passed, and the last eight decide.
 use native.Mathlib.Omega.{arith}
 use Prim.Native.Nat.{_-_, _≤_, _<_}
 use mathlib.Core.Bool.{false≢true}

@@ -1,4 +1,4 @@
--- `lookup::letters::same_letter` meets its contract: equal bytes are the same, bytes that differ in more than the bit of case are not, and of others
+-- `capitals::same_letter` meets its contract: equal bytes are the same, bytes that differ in more than the bit of case are not, and of others
 -- the small letters are compared.
 use borrow.Author.Needs.{needs}
 use borrow.Author.Tests.{eqb-true, eq-eqb}

@@ -1,4 +1,4 @@
--- `lookup::letters::same_letters` meets its contract: the letters are the same at every place passed.
+-- `capitals::same_letters` meets its contract: the letters are the same at every place passed.
 use native.Mathlib.Omega.{arith}
 use Prim.Native.Nat.{_-_, _≤_}
 use mathlib.Core.Path.{refl, sym, _∙_}

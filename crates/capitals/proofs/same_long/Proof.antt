@@ -1,4 +1,4 @@
--- `lookup::letters::same_long` meets its contract: up to the first eight bytes that differ all letters are the same, and those eight or the
+-- `capitals::same_long` meets its contract: up to the first eight bytes that differ all letters are the same, and those eight or the
 -- letters from there on decide.
 use borrow.Author.Needs.{needs}
 use native.Mathlib.Omega.{arith}

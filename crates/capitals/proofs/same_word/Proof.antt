@@ -1,4 +1,4 @@
--- `lookup::letters::same_word` meets its contract: words of two lengths differ, and the letters of a short word are compared from first to last.
+-- `capitals::same_word` meets its contract: words of two lengths differ, and the letters of a short word are compared from first to last.
 use borrow.Author.Needs.{needs}
 use native.Mathlib.Omega.{arith}
 use Rattle.capitals.proofs.LetterLaws.{no-letters, other-length, rest-tells}

@@ -1,4 +1,4 @@
--- `lookup::letters::small_eight` meets its contract: the sums stay within each byte, and what is added is 32 to each capital.
+-- `capitals::small_eight` meets its contract: the sums stay within each byte, and what is added is 32 to each capital.
 use native.Mathlib.Omega.{arith}
 use lib.Bits.{and-le-r}
 use Rattle.capitals.proofs.EightLaws.{each, number-small, number-below}

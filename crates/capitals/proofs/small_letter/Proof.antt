@@ -1,4 +1,4 @@
--- `lookup::letters::small_letter` meets its contract: a capital is made small, and any other byte stays.
+-- `capitals::small_letter` meets its contract: a capital is made small, and any other byte stays.
 use native.Mathlib.Omega.{arith}
 use mathlib.Core.Path.{sym}
 use Rattle.capitals.proofs.CapitalLaws.{small-capital, small-other}

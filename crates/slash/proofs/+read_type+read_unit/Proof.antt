@@ -1,4 +1,4 @@
--- `slash::parser::read_type` and `read_unit` meet their contracts. They call each other: from a type to its units the depth stays, and from a unit
+-- `slash::read_type` and `read_unit` meet their contracts. They call each other: from a type to its units the depth stays, and from a unit
 -- to the type in its brackets it falls. A type is read in at most two rounds, the second behind a slash or a backslash.
 use native.Mathlib.Omega.{arith}
 use mathlib.Core.Path.{_≡_, refl, _∙_}

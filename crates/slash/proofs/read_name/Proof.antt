@@ -1,4 +1,4 @@
--- `slash::parser::read_name` meets its contract: a name begins with a letter, goes as far as its bytes do, and is one by its length.
+-- `slash::read_name` meets its contract: a name begins with a letter, goes as far as its bytes do, and is one by its length.
 use borrow.Author.Needs.{needs}
 use native.Mathlib.Omega.{arith}
 use mathlib.Core.Path.{refl, sym, _∙_}

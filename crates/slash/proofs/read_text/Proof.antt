@@ -1,4 +1,4 @@
--- `slash::parser::read_text` meets its contract: a type that is read with nothing left behind it is that of the whole text.
+-- `slash::read_text` meets its contract: a type that is read with nothing left behind it is that of the whole text.
 use borrow.Author.Needs.{needs}
 use native.Mathlib.Omega.{arith}
 use Rattle.slash.proofs.TextRead.{text-more, text-all}

@@ -1,4 +1,4 @@
--- `slash::parser::sign_at` meets its contract: the text ends before the place, or the byte there is one of the two, or neither.
+-- `slash::sign_at` meets its contract: the text ends before the place, or the byte there is one of the two, or neither.
 use borrow.Author.Needs.{needs}
 use native.Mathlib.Omega.{arith}
 use mathlib.Core.Path.{refl}

@@ -2,7 +2,7 @@
 use borrow.Author.Needs.{needs}
 use mathlib.Core.List.{[]}
 use Rattle.linking.specs.Reading.{firstReading}
-use Rattle.words.proofs.ReadingLaws.{some-told, none-told}
+use Rattle.words.proofs.AskingLaws.{some-told, none-told}
 use Rattle.words.proofs.has_reading.Statement.{statement}
 use Rattle.words.proofs.has_reading.Tie as tie
 

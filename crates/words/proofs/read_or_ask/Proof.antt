@@ -1,8 +1,8 @@
 -- `words::read_or_ask` meets its contract: where the chart reaches no target there is no reading, and else the first one is written, where it is wanted.
 use borrow.Author.Needs.{needs}
 use native.Mathlib.Omega.{arith}
-use Rattle.words.proofs.DrawnLaws.{blank}
-use Rattle.words.proofs.ReadingLaws.{answers-none, answers-some}
+use Rattle.reach.proofs.DrawnLaws.{blank}
+use Rattle.words.proofs.AskingLaws.{answers-none, answers-some}
 use Rattle.words.proofs.read_or_ask.Statement.{statement}
 use Rattle.words.proofs.read_or_ask.Tie as tie
 

@@ -9,10 +9,11 @@ use Rattle.book.specs.Format.{Book}
 use Rattle.line.specs.declared.CheckedLine.the-variants.{Found}
 use Rattle.line.specs.LineFaults.{entriesOfLine}
 use Rattle.line.specs.LookUp.{LineSays}
-use Rattle.words.specs.Answers.{Gives}
+use Rattle.answer.specs.Answers.{Gives}
 use Rattle.reader.specs.Outcome.{outcome}
-use Rattle.words.specs.FoundWords.{FoundWords, ReadsWords}
-use Rattle.words.specs.declared.LineAnswer.{LineAnswer}
+use Rattle.reach.specs.FoundWords.{FoundWords}
+use Rattle.words.specs.Readings.{ReadsWords}
+use Rattle.answer.specs.declared.LineAnswer.{LineAnswer}
 use Rattle.reader.proofs.OpeningLaws.{none-same, line-found, gives-outcome}
 use Rattle.in_the_way.proofs.StepLaws.{gives-read, gives-other, gives-fifteen, gives-bad-line, way-is}
 use Rattle.in_the_way.proofs.tries.read_or_try.Statement.{statement}

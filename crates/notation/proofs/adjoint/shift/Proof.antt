@@ -1,4 +1,4 @@
--- `slash::adjoint::shift` meets its contract: the two sides.
+-- `notation::adjoint::shift` meets its contract: the two sides.
 use borrow.Author.Needs.{needs}
 use mathlib.Core.Path.{refl}
 use Rattle.notation.proofs.adjoint.shift.Statement.{statement}

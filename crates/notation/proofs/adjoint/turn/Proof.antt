@@ -1,4 +1,4 @@
--- `slash::adjoint::turn` meets its contract: one place alone is moved; of more, both ends are turned, until they meet.
+-- `notation::adjoint::turn` meets its contract: one place alone is moved; of more, both ends are turned, until they meet.
 use Prim.Native.Nat.{_-_}
 use native.Mathlib.Omega.{arith}
 use lib.ListN.{length-set}

@@ -1,4 +1,4 @@
--- `slash::brackets::count_simples` meets its contract: what is counted, with the slashes that are left, is one more than all.
+-- `notation::brackets::count_simples` meets its contract: what is counted, with the slashes that are left, is one more than all.
 use Prim.Native.Nat.{suc, _+_, _-_, _*_, _≤_, _<_}
 use native.Mathlib.Omega.{arith}
 use mathlib.Core.Path.{_≡_}

@@ -1,4 +1,4 @@
--- `slash::brackets::is_too_deep` meets its contract: until a byte is too deep, what is left of the text decides.
+-- `notation::brackets::is_too_deep` meets its contract: until a byte is too deep, what is left of the text decides.
 use Prim.Native.Nat.{ℕ, _+_, _-_, _≤_}
 use native.Mathlib.Omega.{arith}
 use mathlib.Core.Path.{_≡_, refl, sym, ap₂, _∙_}

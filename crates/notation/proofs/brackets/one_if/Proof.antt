@@ -1,4 +1,4 @@
--- `slash::brackets::one_if` meets its contract: the two cases.
+-- `notation::brackets::one_if` meets its contract: the two cases.
 use native.Mathlib.Omega.{arith}
 use borrow.Author.Tests.{eq-eqb, ne-eqb}
 use Rattle.notation.proofs.brackets.one_if.Statement.{statement}

@@ -25,7 +25,7 @@ use Rattle.choice.specs.Completion.{Finishes, finishes, SlotChoice, done, choos
 use Rattle.choice.proofs.Completion.{finishes-iff-behind}
 use Rattle.choice.proofs.Choices.{SameEntry, same-entry, entry-same, path-of-choice, scanned-is-first}
 use Rattle.graph.specs.Layout.{hasNone, slotted, Slots, none as no-slot, slot, Laid, goal, word}
-use Rattle.words.proofs.Brief.{Only, goal-there}
+use Rattle.first_reading.proofs.Brief.{Only, goal-there}
 
 -- An answer with one entry number more in front.
 abbrev pub withNumber : ℕ → Option Selection → Option Selection

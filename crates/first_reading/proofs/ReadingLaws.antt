@@ -1,13 +1,11 @@
--- Reading a line's graph: what is asked of the first choice and of the writing of its answer, and what is returned.
+-- Writing the first reading: what is asked of the first choice and of the writing of its answer, and what is returned.
 use Prim.Native.Nat.{ℕ, zero, suc, _+_, _-_, _*_, _≤_, _<_}
 use native.Mathlib.Omega.{arith}
 use mathlib.Core.Path.{_≡_, refl, sym, ap, subst, _∙_}
 use mathlib.Core.List.{List, _∷_, _++_, map}
-use mathlib.Core.Bool.{Bool, true, false}
 use mathlib.Core.Option.{Option, none, some}
 use lib.ListN.{getD, length, take, drop, length-append}
 use lib.Seq.{length-take-le, getD-take}
-use borrow.Author.Tests.{lt-ltb, le-ltb}
 use Rattle.figures.specs.Limits.{maxNodes, maxPlaces, rowWords}
 use Rattle.bits.specs.Rows.{HasRow, InRow}
 use Rattle.pregroup.specs.Types.{Basic, PregroupType}
@@ -15,7 +13,7 @@ use Rattle.pregroup.specs.Order.{Relation}
 use Rattle.pregroup.specs.Vanish.{Reduces}
 use Rattle.pregroup.specs.Tests.{Test}
 use Rattle.linking.specs.Linking.{firstLinking}
-use Rattle.linking.specs.Reading.{Words, Answer, answer, targetAt, Selection, firstFor, firstReading, isSome}
+use Rattle.linking.specs.Reading.{Words, Answer, answer, targetAt, Selection, firstFor, firstReading}
 use Rattle.linking.proofs.Reduction.{linking-iff-reduces}
 use Rattle.linking.proofs.Targets.{no-target-reads, first-reading-at}
 use Rattle.linking.proofs.FirstLinking.{first-linking-some, first-linking-none, first-linking-greedy}
@@ -32,49 +30,12 @@ use Rattle.choice.proofs.Choices.{choice-of-path}
 use Rattle.answer.specs.Entries.{entryNumbers}
 use Rattle.answer.specs.Written.{Linkable, Writable, WroteAnswer}
 use Rattle.answer.proofs.ValueLaws.{entry-numbers-length}
-use Rattle.words.specs.declared.LineAnswer.{LineAnswer}
-use Rattle.words.specs.declared.LineAnswer.the-variants.{Read, Refused}
-use Rattle.words.specs.Answers.{valuesOf, given, Gives}
-use Rattle.words.specs.FoundWords.{Drawn, EndsThere, Charted, asked}
-use Rattle.words.proofs.Brief.{laid-brief}
-use Rattle.words.proofs.FirstFound.{FirstFound, unread-iff, first-found}
-
--- An answer is no refusal.
-pub read-refused : {C : Type 0} {n number value : ℕ} → Read n ≡ Refused number value → C
-read-refused e = let z : _≡_ {A = ℕ} 0 1 = cc in absurd (omega arith)
-
--- What `given` comes to.
-module _ (before : List ℕ) where
-  gives-none : {o : Option Answer} → o ≡ none → (whole : Bool) → Gives (asked whole o before) (Refused 15 0) before
-  unfolding given
-  gives-none e true = record { returned = rw e; left = rw e }
-  gives-none e false = record { returned = rw e; left = rw e }
-
-  -- It is asked no further.
-  gives-some : {o : Option Answer} {a : Answer} → o ≡ some a → Gives (asked false o before) (Read 0) before
-  gives-some e = record { returned = rw e; left = rw e }
-
-  -- What is told of words that are only asked for.
-  pub some-told : (o : Option Answer) {r : LineAnswer} {n : ℕ} {after : List ℕ} → Gives (asked false o before) r after → r ≡ Read n → true ≡ isSome o
-  some-told none g e = read-refused (sym e ∙ g .returned)
-  some-told (some a) g e = refl
-
-  pub none-told : (o : Option Answer) {r : LineAnswer} {m v : ℕ} {after : List ℕ} → Gives (asked false o before) r after → r ≡ Refused m v → false ≡ isSome o
-  none-told none g e = refl
-  none-told (some a) g e = read-refused (sym (g .returned) ∙ e)
-
-  pub gives-short : {o : Option Answer} {a : Answer} {v : ℕ} → o ≡ some a → length (valuesOf a) ≡ v → length before < v → Gives (given o before) (Refused 16 v) before
-  unfolding given
-  gives-short {a = a} e n l =
-      let k = lt-ltb (length before) (length (valuesOf a)) (omega arith) in
-      record { returned = rw (e, k, n); left = rw (e, k) }
-
-  pub gives-read : {o : Option Answer} {a : Answer} {v : ℕ} {after : List ℕ} → o ≡ some a → length (valuesOf a) ≡ v → v ≤ length before → after ≡ valuesOf a ++ drop v before
-      → Gives (given o before) (Read v) after
-  unfolding given
-  gives-read {a = a} e n l w =
-      let k = le-ltb (length before) (length (valuesOf a)) (omega arith) in
-      record { returned = rw (e, k, n); left = rw (e, k) (w ∙ ap (λ (j : ℕ). valuesOf a ++ drop j before) (sym n)) }
+use Rattle.answer.proofs.GivenLaws.{gives-short, gives-read}
+use Rattle.answer.specs.declared.LineAnswer.the-variants.{Read, Refused}
+use Rattle.answer.specs.Answers.{valuesOf, given, Gives}
+use Rattle.reach.specs.Charted.{Drawn, Charted}
+use Rattle.first_reading.proofs.Brief.{laid-brief}
+use Rattle.first_reading.proofs.FirstFound.{FirstFound, unread-iff, first-found}
 
 -- A line's graph begins at a boundary.
 laid-begins : {g : Graph} {numbers : List ℕ} {t : Basic} {u end : ℕ} {words : Words} → Laid g numbers t u words end → Boundary g u
@@ -97,11 +58,8 @@ module _ {le : Test} {Le : Relation} {g : Graph} {numbers : List ℕ} {targets :
   some-nodes = omega (arith, d .nodes)
 
   -- Every node has a row in a chart of the longest graph's.
-  pub has-rows : (rows : List ℕ) → length rows ≡ maxNodes * rowWords → (u : ℕ) → u < g .count → HasRow rows u
+  has-rows : (rows : List ℕ) → length rows ≡ maxNodes * rowWords → (u : ℕ) → u < g .count → HasRow rows u
   has-rows rows e u h = omega (arith, d .few)
-
-  pub ends-there : (rows : List ℕ) → length rows ≡ maxNodes * rowWords → EndsThere rows last (length targets)
-  ends-there rows e = record { room = has-rows rows e 0 some-nodes; few = omega (arith, d .few, d .nodes) }
 
   -- A target without a way to its end has no reading.
   no-way : {rows : List ℕ} → FilledFrom Le g rows 0 → (t : ℕ) → t < length targets → (InRow rows 0 (endAt last t) → ⊥) → firstFor le (targetAt targets t) words ≡ none
@@ -120,12 +78,8 @@ module _ {le : Test} {Le : Relation} {g : Graph} {numbers : List ℕ} {targets :
   none-before : (u : ℕ) → u < t → firstFor le (targetAt targets u) words ≡ none
   none-before u h = no-way d (charted .filled) u (omega (arith, charted .first .within)) (charted .first .none u h)
 
-  no-first : t ≡ length targets → firstReading le targets words ≡ none
+  pub no-first : t ≡ length targets → firstReading le targets words ≡ none
   no-first all = no-target-reads le words targets (λ u h. none-before u (omega arith))
-
-  -- 15: there is no reading for any target.
-  pub answers-none : t ≡ length targets → (whole : Bool) (before : List ℕ) → Gives (asked whole (firstReading le targets words) before) (Refused 15 0) before
-  answers-none all whole before = gives-none before (no-first all) whole
 
   -- The first target whose end is reached.
   module _ (target-there : t < length targets) where
@@ -257,9 +211,9 @@ module _ {le : Test} {Le : Relation} {g : Graph} {numbers : List ℕ} {targets :
           gives-read before (first-with (w .partners) linked) (count-values (w .partners) (w .whole)) h (values-are w)
 
     -- There is a reading where its end is reached.
-    pub answers-some : (before : List ℕ) → Gives (asked false (firstReading le targets words) before) (Read 0) before
-    answers-some before = go (firstFor le s words) refl
+    pub some-first : (a : Answer) × (firstReading le targets words ≡ some a)
+    some-first = go (firstFor le s words) refl
       where
-        go : (o : Option Selection) → firstFor le s words ≡ o → Gives (asked false (firstReading le targets words) before) (Read 0) before
+        go : (o : Option Selection) → firstFor le s words ≡ o → (a : Answer) × (firstReading le targets words ≡ some a)
         go none e = absurd (unread-iff (d .decides) g numbers s end (ends .boundary) (ends .closed) laid (d .known-words) .0 e way)
-        go (some a) e = gives-some before (first-reading-at le words targets t a target-there none-before e)
+        go (some a) e = (answer t (a .0) (a .1), first-reading-at le words targets t a target-there none-before e)

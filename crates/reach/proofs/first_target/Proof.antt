@@ -1,4 +1,4 @@
--- `words::first_target` meets its contract: of the targets passed, the first whose end is reached is kept.
+-- `reach::first_target` meets its contract: of the targets passed, the first whose end is reached is kept.
 use native.Mathlib.Omega.{arith}
 use native.Mathlib.Decide.{ℕ-discrete}
 use Prim.Native.Nat.{ℕ, _+_, _-_, _≤_, _<_}
@@ -11,8 +11,8 @@ use borrow.Author.Tests.{ltb-true, lt-ltb}
 use Rattle.format.proofs.Bools.{both}
 use Rattle.bits.specs.Rows.{InRow}
 use Rattle.graph.specs.Lists.{endAt}
-use Rattle.words.proofs.first_target.Statement.{statement}
-use Rattle.words.proofs.first_target.Tie as tie
+use Rattle.reach.proofs.first_target.Statement.{statement}
+use Rattle.reach.proofs.first_target.Tie as tie
 
 -- r is the first target before t whose end is reached, or `count`.
 record FirstBefore (chart : List ℕ) (last count t r : ℕ) : Type 0 where

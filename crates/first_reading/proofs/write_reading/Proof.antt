@@ -1,4 +1,4 @@
--- `words::write_reading` meets its contract: what the first choice up to the target's end and its first linking say is what the first reading of the words
+-- `first_reading::write_reading` meets its contract: what the first choice up to the target's end and its first linking say is what the first reading of the words
 -- comes to.
 use borrow.Author.Needs.{needs}
 use native.Mathlib.Omega.{arith}
@@ -6,9 +6,9 @@ use Prim.Native.Nat.{_+_, _*_, _≤_}
 use mathlib.Core.Path.{_≡_, refl}
 use lib.ListN.{length}
 use Rattle.figures.specs.Limits.{maxNodes, maxPlaces, rowWords}
-use Rattle.words.proofs.ReadingLaws.{can-choose, has-room, some-places, answers-short, can-link, can-write, answers-read}
-use Rattle.words.proofs.write_reading.Statement.{statement}
-use Rattle.words.proofs.write_reading.Tie as tie
+use Rattle.first_reading.proofs.ReadingLaws.{can-choose, has-room, some-places, answers-short, can-link, can-write, answers-read}
+use Rattle.first_reading.proofs.write_reading.Statement.{statement}
+use Rattle.first_reading.proofs.write_reading.Tie as tie
 
 add-nodes : tie.Need-add-nodes
 add-nodes c = omega (arith, c .before .before .before .before .before .before .before .before .before .before .pre .0 .2 .drawn .few, c .before .before .before .before .before .before .before .before .before .before .pre .1)

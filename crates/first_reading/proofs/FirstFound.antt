@@ -24,7 +24,7 @@ use Rattle.table.specs.Table.{stringOf}
 use Rattle.table.proofs.Stretches.{length-string, take-string}
 use Rattle.choice.specs.First.{Chose}
 use Rattle.graph.specs.Layout.{Laid}
-use Rattle.words.proofs.Selection.{withNumber, withNumbers, lastAnswer, Answered, laid-none, scanned-answers}
+use Rattle.first_reading.proofs.Selection.{withNumber, withNumbers, lastAnswer, Answered, laid-none, scanned-answers}
 
 with-numbers : (ns Q : List ℕ) → withNumbers ns (some ([], Q)) ≡ some (ns, Q)
 with-numbers [] Q = refl

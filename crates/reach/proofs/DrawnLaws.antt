@@ -11,7 +11,8 @@ use Rattle.format.specs.Records.{Bytes}
 use Rattle.book.proofs.Checking.{zeros}
 use Rattle.linking.specs.Reading.{Words}
 use Rattle.graph.specs.Lists.{Lists, lists, graphOf, nodesWith, LineFits, LaidOut}
-use Rattle.words.specs.FoundWords.{FoundWords, Blank, Drawn}
+use Rattle.reach.specs.FoundWords.{FoundWords}
+use Rattle.reach.specs.Charted.{Blank, Drawn}
 
 abbrev none : List ℕ
 none = replicate maxNodes 0

@@ -1,9 +1,9 @@
--- `words::chart_words` meets its contract: the graph laid out is that of the words, and the chart filled from it tells the first target that has a reading.
+-- `reach::chart_words` meets its contract: the graph laid out is that of the words, and the chart filled from it tells the first target that has a reading.
 use borrow.Author.Needs.{needs}
 use native.Mathlib.Omega.{arith}
-use Rattle.words.proofs.DrawnLaws.{found-fits, found-drawn}
-use Rattle.words.proofs.chart_words.Statement.{statement}
-use Rattle.words.proofs.chart_words.Tie as tie
+use Rattle.reach.proofs.DrawnLaws.{found-fits, found-drawn}
+use Rattle.reach.proofs.chart_words.Statement.{statement}
+use Rattle.reach.proofs.chart_words.Tie as tie
 
 lay-out-requires : tie.Need-lay-out-requires
 lay-out-requires c κs = found-fits (c .before .before .before .before .before .before .before .before .before .before .before .before .before .before .before .before .before .before .before .before .pre .0 .2) (c .before .before .before .before .before .before .before .before .before .before .before .before .before .before .before .before .before .before .before .before .pre .1)

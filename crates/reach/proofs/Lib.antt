@@ -1,0 +1,2 @@
+-- Laws on charting words.
+pub mod DrawnLaws

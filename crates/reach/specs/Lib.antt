@@ -1,0 +1,3 @@
+-- Words that are looked up, and what their chart says.
+pub mod FoundWords
+pub mod Charted
