@@ -14,10 +14,11 @@ use Rattle.book.specs.Format.{Book, accepted, refused, parse}
 use Rattle.answer.specs.Answers.{Outcome, Gives}
 use Rattle.batch.specs.declared.BatchAnswer.{BatchAnswer}
 use Rattle.batch.specs.declared.BatchAnswer.the-variants.{Answered, Refused}
-use Rattle.batch.specs.Lines.{batchLines}
-use Rattle.batch.specs.Batch.{partsOf, givenParts, readLines, readBatch, batchOutcome}
-use Rattle.batch.specs.Runs.{Readying, StoredParts}
-use Rattle.batch.proofs.LinesLaws.{lines-found}
+use Rattle.batch_lines.specs.Lines.{batchLines}
+use Rattle.batch_parts.specs.Parts.{partsOf}
+use Rattle.batch.specs.Batch.{givenParts, readLines, readBatch, batchOutcome}
+use Rattle.batch_parts.specs.Stored.{Readying, StoredParts}
+use Rattle.batch_lines.proofs.LinesLaws.{lines-found}
 use Rattle.batch.proofs.BatchPromises.{batch-is}
 
 -- A bad batch.

@@ -24,11 +24,12 @@ use Rattle.reader.proofs.Promises.{outcome-promised, other-number, same-value}
 use Rattle.reader.proofs.Ample.{not-short, reading-within}
 use Rattle.batch.specs.declared.BatchAnswer.{BatchAnswer}
 use Rattle.batch.specs.declared.BatchAnswer.the-variants.{Answered, Refused}
-use Rattle.batch.specs.Lines.{linesOf, upTo, batchLines, IsLines, IsBatch, BadBatch, more-bytes, more-lines, not-closed}
-use Rattle.batch.specs.Batch.{batchReply, aloneReply, partOf, partsOf, givenParts, readLines, readBatch, batchOutcome}
+use Rattle.batch_lines.specs.Lines.{linesOf, upTo, batchLines, IsLines, IsBatch, BadBatch, more-bytes, more-lines, not-closed}
+use Rattle.batch_parts.specs.Parts.{aloneReply, partOf, partsOf}
+use Rattle.batch.specs.Batch.{batchReply, givenParts, readLines, readBatch, batchOutcome}
 use Rattle.batch.specs.BatchDemands.{LineGets, Parts, no-part, part, GoodBatch, BatchWritten, BatchTooLong, BatchPromised}
-use Rattle.batch.proofs.LinesLaws.{lines-found, lines-are, not-closed-none, none-not-closed}
-use Rattle.batch.proofs.PartLaws.{zeros-long, alone-ample, alone-is}
+use Rattle.batch_lines.proofs.LinesLaws.{lines-found, lines-are, not-closed-none, none-not-closed}
+use Rattle.batch_parts.proofs.PartLaws.{zeros-long, alone-ample, alone-is}
 
 -- What a line alone gets where any answer fits is what a line of a batch gets.
 

@@ -28,9 +28,10 @@ use Rattle.reader.specs.Outcome.{readAgainst, readParsed}
 use Rattle.reader.proofs.Table.{lineOf}
 use Rattle.batch.specs.declared.BatchAnswer.{BatchAnswer}
 use Rattle.batch.specs.declared.BatchAnswer.the-variants.{Answered, Refused}
-use Rattle.batch.specs.Lines.{lineBreak, linesOf, upTo, batchLines, closeEach, Unbroken}
-use Rattle.batch.specs.Batch.{partsOf, givenParts, readLines, readBatch, batchOutcome}
-use Rattle.batch.proofs.LinesLaws.{lines-first, batch-long, batch-short}
+use Rattle.batch_lines.specs.Lines.{lineBreak, linesOf, upTo, batchLines, closeEach, Unbroken}
+use Rattle.batch_parts.specs.Parts.{partsOf}
+use Rattle.batch.specs.Batch.{givenParts, readLines, readBatch, batchOutcome}
+use Rattle.batch_lines.proofs.LinesLaws.{lines-first, batch-long, batch-short}
 
 abbrev refused : ℕ → ℕ → List ℕ → Outcome BatchAnswer
 refused number value buffer = record { answer = Refused number value; buffer = buffer }

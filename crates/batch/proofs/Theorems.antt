@@ -18,10 +18,11 @@ use Rattle.reader.specs.Demands.{Readable, NoChain}
 use Rattle.book.specs.Check.{BookNumber}
 use Rattle.reader.proofs.Ample.{ample-reply, never-short}
 use Rattle.batch.specs.declared.BatchAnswer.the-variants.{Refused}
-use Rattle.batch.specs.Lines.{linesOf, IsLines, NotClosed, IsBatch, BadBatch}
-use Rattle.batch.specs.Batch.{aloneReply, partOf, partsOf, batchOutcome}
+use Rattle.batch_lines.specs.Lines.{linesOf, IsLines, NotClosed, IsBatch, BadBatch}
+use Rattle.batch_parts.specs.Parts.{aloneReply, partOf, partsOf}
+use Rattle.batch.specs.Batch.{batchOutcome}
 use Rattle.batch.specs.BatchDemands.{LineGets, Parts, BatchPromised}
-use Rattle.batch.proofs.LinesLaws.{lines-found, lines-are, not-closed-none, none-not-closed}
+use Rattle.batch_lines.proofs.LinesLaws.{lines-found, lines-are, not-closed-none, none-not-closed}
 use Rattle.batch.proofs.BatchPromises.{is-or-bad, not-bad, line-gets, parts-are, parts-same, part-unread, batch-promised, batch-refusals}
 
 module _ (bytes : Bytes) where

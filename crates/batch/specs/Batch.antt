@@ -1,38 +1,24 @@
 -- Document 02, 2.2, in one definition: what is returned of a batch, and what the buffer holds then, for any bytes as book, any bytes as batch and any
 -- lent buffer. 17 comes first, then the book, then the answers, then 18; a refusal leaves the buffer as it was.
-use Prim.Native.Nat.{ℕ, _+_}
+use Prim.Native.Nat.{ℕ}
 use mathlib.Core.Bool.{cond}
 use mathlib.Core.List.{List, [], _∷_, _++_}
 use mathlib.Core.Option.{Option, none, some}
 use lib.Dec.{ltb}
-use lib.ListN.{length, drop, replicate}
-use Rattle.figures.specs.Limits.{maxValues}
+use lib.ListN.{length, drop}
 use Rattle.figures.specs.Refusals.{Reply, refusal, badBatch, answersTooLong}
 use Rattle.format.specs.Records.{Bytes}
 use Rattle.book.specs.Format.{Parsed, accepted, refused, parse}
-use Rattle.answer.specs.Answers.{Outcome, outcomeReply}
-use Rattle.reader.specs.Outcome.{outcome}
+use Rattle.answer.specs.Answers.{Outcome}
+use Rattle.batch_lines.specs.Lines.{batchLines}
+use Rattle.batch_parts.specs.Parts.{partsOf}
 use Rattle.batch.specs.declared.BatchAnswer.{BatchAnswer}
 use Rattle.batch.specs.declared.BatchAnswer.the-variants.{Answered, Refused}
-use Rattle.batch.specs.Lines.{batchLines}
 
 -- The paper's number and values for each answer: 0 and the number of lines, or the number of the refusal and the value returned with it.
 abbrev pub batchReply : BatchAnswer → Reply
 batchReply (Answered lines) = record { number = 0; values = lines ∷ [] }
 batchReply (Refused number value) = refusal number value
-
--- What a line alone gets where any answer fits.
-abbrev pub aloneReply : Bytes → Bytes → Reply
-aloneReply book line = outcomeReply (outcome book line (replicate maxValues 0))
-
--- A line's part of the answers: a count of the values after it, the number of the refusal or 0, then the answer or the value returned.
-abbrev pub partOf : Reply → List ℕ
-partOf reply = (1 + length (reply .values)) ∷ reply .number ∷ reply .values
-
--- The parts of all lines, one after another.
-unfoldable pub partsOf : Bytes → List Bytes → List ℕ
-partsOf book [] = []
-partsOf book (line ∷ lines) = partOf (aloneReply book line) ++ partsOf book lines
 
 -- 18: answers do not fit, with the values needed. Values behind the answers stay.
 unfoldable pub givenParts : List ℕ → ℕ → List ℕ → Outcome BatchAnswer

@@ -15,8 +15,9 @@ use Rattle.reader.specs.Outcome.{outcome}
 use Rattle.reader.specs.Demands.{OrderOf, Readable, NoChain}
 use Rattle.batch.specs.declared.BatchAnswer.{BatchAnswer}
 use Rattle.batch.specs.declared.BatchAnswer.the-variants.{Answered}
-use Rattle.batch.specs.Lines.{IsBatch, BadBatch}
-use Rattle.batch.specs.Batch.{batchReply, partOf}
+use Rattle.batch_lines.specs.Lines.{IsBatch, BadBatch}
+use Rattle.batch_parts.specs.Parts.{partOf}
+use Rattle.batch.specs.Batch.{batchReply}
 
 -- The values are the first reading, whole.
 pub record FirstWhole (B : Book) (words : Words) (values : List ℕ) : Type 0 where

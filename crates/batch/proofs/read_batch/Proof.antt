@@ -9,7 +9,7 @@ use lib.ListN.{length}
 use lib.Seq.{length-take-le}
 use Rattle.format.specs.Records.{Bytes}
 use Rattle.reader.proofs.OpeningLaws.{none-alike}
-use Rattle.batch.specs.Lines.{batchLines}
+use Rattle.batch_lines.specs.Lines.{batchLines}
 use Rattle.batch.proofs.BatchPromises.{gives-batch-promised}
 use Rattle.batch.proofs.BatchLaws.{gives-bad-batch, gives-bad-book, can-store, gives-too-long, gives-answers}
 use Rattle.batch.proofs.read_batch.Statement.{statement}

@@ -1,0 +1,2 @@
+-- Laws on the lines of a batch.
+pub mod LinesLaws

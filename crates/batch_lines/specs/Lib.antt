@@ -1,0 +1,3 @@
+-- The lines of a batch.
+pub mod Lines
+pub mod Counts

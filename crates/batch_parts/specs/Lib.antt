@@ -1,0 +1,3 @@
+-- The parts of a batch's answers.
+pub mod Parts
+pub mod Stored
