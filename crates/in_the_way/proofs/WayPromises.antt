@@ -35,9 +35,10 @@ use Rattle.reader.proofs.OpeningLaws.{gives-promised}
 use Rattle.reader.proofs.Unread.{firstOfBook, unread-exactly, unread-line}
 use Rattle.in_the_way.specs.declared.WayAnswer.{WayAnswer}
 use Rattle.in_the_way.specs.declared.WayAnswer.the-variants.{Ordinary, NoReading}
-use Rattle.in_the_way.specs.Way.{wayOf, wayAgainst, wayParsed, told, wayOutcome}
+use Rattle.left_out.specs.LeftOut.{wayOf}
+use Rattle.in_the_way.specs.Way.{wayAgainst, wayParsed, told, wayOutcome}
 use Rattle.in_the_way.specs.WayDemands.{ordinary, HasReading, HasChain, InTheWay, WayPromised}
-use Rattle.in_the_way.proofs.WayLaws.{way-says, way-ends}
+use Rattle.left_out.proofs.WayLaws.{way-says, way-ends}
 
 -- Words without a first reading, and words with one.
 unread-says : (o : Option Answer) → (o ≡ none) ↔ (isSome o ≡ true → ⊥)

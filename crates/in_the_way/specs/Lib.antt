@@ -1,4 +1,3 @@
 -- Which words are in the way of a line without a reading.
 pub mod Way
 pub mod WayDemands
-pub mod Runs

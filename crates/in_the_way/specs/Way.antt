@@ -1,39 +1,22 @@
 -- Document 02, 2.6, in one definition: what is returned for any bytes as book, any bytes as line and any lent buffer. It is what reading the line comes
 -- to, and 15 comes with a number that tells for each word whether the line without it has a reading.
-use Prim.Native.Nat.{ℕ, zero, suc, _+_, _*_}
-use mathlib.Core.Bool.{Bool, true, false, cond}
+use Prim.Native.Nat.{ℕ}
+use mathlib.Core.Bool.{cond}
 use mathlib.Core.List.{List}
 use lib.Dec.{eqb}
 use lib.ListN.{length}
 use Rattle.figures.specs.Refusals.{noReading}
-use Rattle.pregroup.specs.Types.{Basic}
-use Rattle.pregroup.specs.Tests.{Test}
 use Rattle.order.specs.Closed.{below}
 use Rattle.format.specs.Records.{Bytes}
 use Rattle.book.specs.Format.{Book, Parsed, accepted, refused, parse}
-use Rattle.linking.specs.Reading.{Words, reads}
 use Rattle.line.specs.LineFaults.{LineCheck, passed, stopped, lineCheck}
-use Rattle.line.specs.Remaining.{without}
+use Rattle.left_out.specs.LeftOut.{wayOf}
 use Rattle.answer.specs.Answers.{Outcome}
 use Rattle.reader.specs.Outcome.{outcome}
 use Rattle.answer.specs.declared.LineAnswer.{LineAnswer}
 use Rattle.answer.specs.declared.LineAnswer.the-variants.{Read, Refused}
 use Rattle.in_the_way.specs.declared.WayAnswer.{WayAnswer}
 use Rattle.in_the_way.specs.declared.WayAnswer.the-variants.{Ordinary, NoReading}
-
--- A bit that says yes or no.
-abbrev pub bitOf : Bool → ℕ
-bitOf true = 1
-bitOf false = 0
-
--- The number for n words from word k + 1 on: its bit j tells whether the words without word k + j + 1 have a reading.
-unfoldable pub wayFrom : Test → List Basic → Words → ℕ → ℕ → ℕ
-wayFrom le targets words k zero = 0
-wayFrom le targets words k (suc n) = bitOf (reads le targets (without k words)) + 2 * wayFrom le targets words (k + 1) n
-
--- The number for all words.
-abbrev pub wayOf : Test → List Basic → Words → ℕ
-wayOf le targets words = wayFrom le targets words 0 (length words)
 
 -- The number for a line and a book. A line that is refused before it is read has none, which 0 stands for.
 unfoldable pub wayAgainst : Book → LineCheck → ℕ

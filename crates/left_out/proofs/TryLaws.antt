@@ -16,9 +16,8 @@ use Rattle.line.specs.Remaining.{without}
 use Rattle.line.proofs.Remaining.{without-length, without-known, without-brief, without-simples, without-threads}
 use Rattle.reach.specs.FoundWords.{FoundWords}
 use Rattle.words.specs.Readings.{SaysWhether}
-use Rattle.in_the_way.specs.Way.{bitOf, wayFrom}
-use Rattle.in_the_way.specs.Runs.{IsWay}
-use Rattle.in_the_way.proofs.WayLaws.{way-small, way-step, way-none}
+use Rattle.left_out.specs.LeftOut.{bitOf, wayFrom, IsWay}
+use Rattle.left_out.proofs.WayLaws.{way-small, way-step, way-none}
 
 -- Of n first entries the one at k is left out and held in hand, and those behind it stand one place earlier.
 pub record LeftOut (all : List ℕ) (n : ℕ) (firsts : List ℕ) (held k : ℕ) : Type 0 where

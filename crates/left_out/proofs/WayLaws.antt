@@ -13,7 +13,7 @@ use Rattle.pregroup.specs.Types.{Basic}
 use Rattle.pregroup.specs.Tests.{Test}
 use Rattle.linking.specs.Reading.{Words, reads}
 use Rattle.line.specs.Remaining.{without}
-use Rattle.in_the_way.specs.Way.{bitOf, wayFrom, wayOf}
+use Rattle.left_out.specs.LeftOut.{bitOf, wayFrom, wayOf}
 
 bit-of-small : (b : Bool) → bitOf b < 2
 bit-of-small true = omega arith

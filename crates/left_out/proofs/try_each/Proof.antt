@@ -1,8 +1,8 @@
--- `in_the_way::tries::try_each` meets its contract: before each turn the words from some word on have been left out one by one, and the number tells of them.
+-- `left_out::try_each` meets its contract: before each turn the words from some word on have been left out one by one, and the number tells of them.
 use native.Mathlib.Omega.{arith}
-use Rattle.in_the_way.proofs.TryLaws.{LeftOut, leaving-starts, leaving-next, IsWayFrom, found-without, way-starts, way-fits, way-yes, way-no, way-whole}
-use Rattle.in_the_way.proofs.tries.try_each.Statement.{statement}
-use Rattle.in_the_way.proofs.tries.try_each.Tie as tie
+use Rattle.left_out.proofs.TryLaws.{LeftOut, leaving-starts, leaving-next, IsWayFrom, found-without, way-starts, way-fits, way-yes, way-no, way-whole}
+use Rattle.left_out.proofs.try_each.Statement.{statement}
+use Rattle.left_out.proofs.try_each.Tie as tie
 
 abbrev Inv-loop : tie.InvT-loop
 Inv-loop book names types offsets count same firsts₀ words order targets number₀ left-out₀ k₀ firsts number left-out k =

@@ -1,4 +1,4 @@
--- `in_the_way::tries::read_or_try` meets its contract: what reading the words that are looked up gives is returned as it is, and with 15 the number for these words.
+-- `in_the_way::read_or_try` meets its contract: what reading the words that are looked up gives is returned as it is, and with 15 the number for these words.
 use Prim.Native.Nat.{ℕ}
 use borrow.Author.Needs.{needs}
 use native.Mathlib.Omega.{arith}
@@ -16,8 +16,8 @@ use Rattle.words.specs.Readings.{ReadsWords}
 use Rattle.answer.specs.declared.LineAnswer.{LineAnswer}
 use Rattle.reader.proofs.OpeningLaws.{none-same, line-found, gives-outcome}
 use Rattle.in_the_way.proofs.StepLaws.{gives-read, gives-other, gives-fifteen, gives-bad-line, way-is}
-use Rattle.in_the_way.proofs.tries.read_or_try.Statement.{statement}
-use Rattle.in_the_way.proofs.tries.read_or_try.Tie as tie
+use Rattle.in_the_way.proofs.read_or_try.Statement.{statement}
+use Rattle.in_the_way.proofs.read_or_try.Tie as tie
 
 slice-aggregate-check-line : tie.Need-slice-aggregate-check-line
 slice-aggregate-check-line c = search needs

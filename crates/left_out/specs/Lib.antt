@@ -1,0 +1,2 @@
+-- Words without one of them.
+pub mod LeftOut

@@ -1,0 +1,49 @@
+// Words that are looked up, without one of them: each is left out in turn, and the others are asked for a reading.
+use words::has_reading;
+ghost use Rattle.reach.specs.FoundWords.{AreFound};
+ghost use Rattle.left_out.specs.LeftOut.{IsWay};
+
+// Leaves out each word in turn, from the last to the first, and tells by bit k whether the words without word k + 1 have a reading. The word left out before
+// takes the place of the next one, so that the first places of `firsts` always have the other words in their order.
+pub fn try_each(
+    book: &[u8],
+    names: &[u16],
+    types: usize,
+    offsets: &[u16],
+    count: usize,
+    same: &[u16],
+    firsts: &mut [u16],
+    words: usize,
+    order: &[u64],
+    targets: &[u8],
+) -> u32
+    requires { ⌜ AreFound (now book) (now names) types (now offsets) count (now same) (now firsts) words (now order) (now targets) ⌝ }
+    ensures { λ r. ⌜ IsWay (now (book .entry)) (now (names .entry)) types (now (offsets .entry)) count (now (same .entry)) (now (firsts .entry)) words
+        (now (order .entry)) (now (targets .entry)) r ⌝ }
+{
+    let mut number: u32 = 0;
+    let mut left_out: u16 = 0;
+    let mut k = words;
+    while 0 < k {
+        k -= 1;
+        let next = firsts[k];
+        firsts[k] = left_out;
+        left_out = next;
+        number = 2 * number;
+        if has_reading(
+            book,
+            names,
+            types,
+            offsets,
+            count,
+            same,
+            firsts,
+            words - 1,
+            order,
+            targets,
+        ) {
+            number += 1;
+        }
+    }
+    number
+}
