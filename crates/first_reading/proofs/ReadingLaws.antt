@@ -19,7 +19,7 @@ use Rattle.linking.proofs.Targets.{no-target-reads, first-reading-at}
 use Rattle.linking.proofs.FirstLinking.{first-linking-some, first-linking-none, first-linking-greedy}
 use Rattle.graph.specs.Graph.{Graph, Upward, Path, VanishTo, Boundary, Spells, ended, more}
 use Rattle.graph.specs.Layout.{End, Laid, goal, word}
-use Rattle.graph.specs.Lists.{endAt}
+use Rattle.layout.specs.Lists.{endAt}
 use Rattle.chart.specs.Chart.{FilledFrom}
 use Rattle.table.specs.Table.{stringOf}
 use Rattle.table.proofs.Stretches.{length-string}

@@ -9,7 +9,7 @@ use figures::refusals::BUFFER_TOO_SHORT;
 ghost use lib.ListN.{length};
 ghost use Rattle.pregroup.specs.Held.{InRows};
 ghost use Rattle.graph.specs.Graph.{graph};
-ghost use Rattle.graph.specs.Lists.{nodesWith};
+ghost use Rattle.layout.specs.Lists.{nodesWith};
 ghost use Rattle.first_reading.specs.Reached.{IsReached, ReachGives};
 
 // Finds the first choice up to the end of target t, which the chart reaches as the first, and writes its first linking.

@@ -1,5 +1,3 @@
--- The graph of a line, the words of a line laid out as one, and what the code writes for it.
+-- The graph of a line, and the words of a line laid out as one.
 pub mod Graph
 pub mod Layout
-pub mod Cells
-pub mod Lists

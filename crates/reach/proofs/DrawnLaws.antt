@@ -10,7 +10,7 @@ use Rattle.pregroup.specs.Held.{InRows}
 use Rattle.format.specs.Records.{Bytes}
 use Rattle.book.proofs.Checking.{zeros}
 use Rattle.linking.specs.Reading.{Words}
-use Rattle.graph.specs.Lists.{Lists, lists, graphOf, nodesWith, LineFits, LaidOut}
+use Rattle.layout.specs.Lists.{Lists, lists, graphOf, nodesWith, LineFits, LaidOut}
 use Rattle.reach.specs.FoundWords.{FoundWords}
 use Rattle.reach.specs.Charted.{Blank, Drawn}
 

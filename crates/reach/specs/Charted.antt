@@ -14,7 +14,7 @@ use Rattle.format.specs.Records.{Bytes}
 use Rattle.line.specs.Passing.{AllKnown, AllBrief}
 use Rattle.graph.specs.Graph.{Graph, Upward}
 use Rattle.graph.specs.Layout.{End, Laid}
-use Rattle.graph.specs.Lists.{Lists, graphOf, endAt, nodesWith, Room, Empty}
+use Rattle.layout.specs.Lists.{Lists, graphOf, endAt, nodesWith, Room, Empty}
 use Rattle.chart.specs.Chart.{FilledFrom}
 use Rattle.reach.specs.FoundWords.{FoundWords}
 

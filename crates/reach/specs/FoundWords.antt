@@ -11,7 +11,7 @@ use Rattle.format.specs.Records.{Bytes, bodiesAt}
 use Rattle.lookup.specs.Entries.{simplesOfWords}
 use Rattle.lookup.specs.Threads.{Threads}
 use Rattle.line.specs.Passing.{AllKnown, AllBrief}
-use Rattle.graph.specs.Cells.{Vocabulary}
+use Rattle.slots.specs.Cells.{Vocabulary}
 
 -- Words that are looked up against an open book, n of them, each by the thread of its entries: they keep within 12 to 14, and the test decides the
 -- book's order. The words of a line that passes are such, and so are these without one of them.

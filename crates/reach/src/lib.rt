@@ -1,8 +1,8 @@
 // Words that are looked up, charted: their graph is laid out, its chart filled, and the first target found that it reaches.
 use bits::rows::member;
 use chart::fill;
-use graph::layout::lay_out;
-ghost use Rattle.graph.specs.Lists.{lists};
+use layout::lay_out;
+ghost use Rattle.layout.specs.Lists.{lists};
 ghost use Rattle.reach.specs.FoundWords.{AreFound};
 ghost use Rattle.reach.specs.Charted.{AllCharted, Blank, EndsThere, FirstEnd};
 

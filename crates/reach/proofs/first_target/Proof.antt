@@ -10,7 +10,7 @@ use lib.Dec.{ltb}
 use borrow.Author.Tests.{ltb-true, lt-ltb}
 use Rattle.format.proofs.Bools.{both}
 use Rattle.bits.specs.Rows.{InRow}
-use Rattle.graph.specs.Lists.{endAt}
+use Rattle.layout.specs.Lists.{endAt}
 use Rattle.reach.proofs.first_target.Statement.{statement}
 use Rattle.reach.proofs.first_target.Tie as tie
 
