@@ -14,7 +14,7 @@ const PAIR: usize = 2;
 const SLASHED_ENTRY: usize = 5;
 
 // Puts a byte, where there is room.
-fn put(buf: &mut Space, at: usize, byte: u8) -> usize {
+pub fn put(buf: &mut Space, at: usize, byte: u8) -> usize {
     if at < ROOM {
         buf[at] = byte;
         return at + 1;

@@ -1,5 +1,6 @@
-// What the programs that try cases share: books written as text and put together in a buffer, and those of the papers.
+// What the programs that try cases share: scripts of cases, books written as text and put together in a buffer, and those of the papers.
 pub mod books;
 pub mod buffer;
 pub mod items;
+pub mod script;
 pub mod text;

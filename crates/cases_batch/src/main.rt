@@ -1,22 +1,14 @@
 // Batches of lines read against books: a row for each, with its name, how many values are lent, what comes back, and the values that were written. All others
-// of the buffer are as they were.
-mod bad_books;
-mod batches;
-mod limits;
-mod longest;
-mod paper;
+// of the buffer are as they were. The cases are a script on standard input.
 mod rows;
-mod slashes;
-mod targets;
+
+use cases::buffer::ROOM;
+use libc::STDIN_FILENO;
 
 fn main() {
-    let mut book = [0u8; cases::buffer::ROOM];
-    let mut lines = [0u8; cases::buffer::ROOM];
-    paper::rows(&mut book, &mut lines);
-    batches::rows(&mut book, &mut lines);
-    limits::rows(&mut book, &mut lines);
-    longest::rows(&mut book, &mut lines);
-    bad_books::rows(&mut book, &mut lines);
-    targets::rows(&mut book, &mut lines);
-    slashes::rows(&mut book, &mut lines);
+    let mut script = [0u8; ROOM];
+    io::read_full(STDIN_FILENO, &mut script);
+    let mut book = [0u8; ROOM];
+    let mut lines = [0u8; ROOM];
+    rows::rows(&script, &mut book, &mut lines);
 }

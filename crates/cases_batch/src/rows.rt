@@ -1,12 +1,16 @@
-// Batches read against a book, with a row for each. Cases are written as text and closed by a semicolon each. There are two forms:
+// Batches read against a book, with a row for each, as the lines of a script say:
 //
-//     :ITEMS             the book of the cases behind it
-//     NAME:LENT:ITEMS    a batch, and how many values are lent: a number, or two with a dash between them, for each number from the one to the other
-//
-// ITEMS are those of `cases::items`, which put a book or a batch together. No case holds a semicolon, and no name a colon.
+//     # TEXT             a comment; an empty line counts for nothing
+//     =BOOK              the book of the cases behind it, as `cases::books` reads it
+//     NAME:LENT:ITEMS    a case: its name, which holds no colon, how many values are lent, a number, or two with a dash between them for each number from
+//                        the one to the other, and the batch, of items as `cases::items` reads them
 use batch::BatchAnswer;
+use cases::books::put_book;
+use cases::buffer::ROOM;
 use cases::buffer::Space;
 use cases::items::put_items;
+use cases::script::byte_at;
+use cases::script::take_line;
 use cases::text::find;
 use cases::text::number;
 ghost use Prim.Native.Nat.{_<_};
@@ -18,6 +22,9 @@ type Values = [u16; VALUES];
 
 // What stands in each value before a batch is read.
 const MARK: u16 = 9999;
+
+// How many lines of a script are read.
+const LINES: usize = 4096;
 
 // How many values a row shows whole, and how many of the first and of the last it shows where there are more.
 const WHOLE: usize = 160;
@@ -172,32 +179,67 @@ fn rows_of_batch(label: &[u8], book: &[u8], length: usize, lines: &mut Space, re
     lending(label, book, length, lines, end, number(rest), last);
 }
 
-// Puts the book of a case, or writes its rows. Gives the length of the book.
-fn case(book: &mut Space, length: usize, lines: &mut Space, text: &[u8]) -> usize {
-    let colon = find(text, b':');
-    if colon >= text.len() {
+// Writes the rows of a case.
+fn rows_of_case(book: &[u8], length: usize, lines: &mut Space, case: &[u8]) {
+    let colon = find(case, b':');
+    if colon < case.len() {
+        rows_of_batch(&case[0..colon], book, length, lines, &case[colon + 1..]);
+    }
+}
+
+// Takes a line of a script: a comment, a book, or a case. Gives the length of the book.
+fn take_part(book: &mut Space, length: usize, lines: &mut Space, part: &[u8]) -> usize {
+    if part.len() == 0 {
         return length;
     }
-    let rest = colon + 1;
-    if colon == 0 {
-        return put_items(book, 0, &text[rest..]);
+    match part[0] {
+        b'#' => length,
+        b'=' => put_book(book, &part[1..]),
+        _ => {
+            rows_of_case(book, length, lines, part);
+            length
+        }
     }
-    rows_of_batch(&text[0..colon], book, length, lines, &text[rest..]);
+}
+
+// Takes the line of a script that the first bytes of a slice are.
+fn take_front(
+    book: &mut Space,
+    length: usize,
+    lines: &mut Space,
+    bytes: &[u8],
+    end: usize,
+) -> usize {
+    if end <= bytes.len() {
+        return take_part(book, length, lines, &bytes[0..end]);
+    }
     length
 }
 
-// The cases of a text, at first against the book of a length that is there.
-pub fn rows_of(book: &mut Space, start: usize, lines: &mut Space, text: &[u8]) {
-    let mut length = start;
-    let mut from = 0;
-    let mut i = 0;
-    while i < text.len() {
-        if text[i] == b';' {
-            length = case(book, length, lines, &text[from..i]);
-            i += 1;
-            from = i;
-        } else {
-            i += 1;
+// The same for a buffer.
+fn take_taken(
+    book: &mut Space,
+    length: usize,
+    lines: &mut Space,
+    part: &Space,
+    end: usize,
+) -> usize {
+    take_front(book, length, lines, part, end)
+}
+
+// Writes the rows of a script's cases.
+pub fn rows(script: &Space, book: &mut Space, lines: &mut Space) {
+    let mut part = [0u8; ROOM];
+    let mut length = 0;
+    let mut at = 0;
+    let mut left = LINES;
+    while 0 < left {
+        if byte_at(script, at) == 0 {
+            return;
         }
+        let taken = take_line(script, at, &mut part);
+        length = take_taken(book, length, lines, &part, taken.length);
+        at = taken.next;
+        left -= 1;
     }
 }

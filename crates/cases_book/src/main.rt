@@ -1,18 +1,13 @@
-// The book check on books for each rule of the format: a row for each book, with its name and what the check answers.
-mod faults;
-mod layout;
-mod limits;
-mod pairs;
+// The book check on books for each rule of the format: a row for each book, with its name and what the check answers. The cases are a script on
+// standard input.
 mod rows;
-mod slashes;
-mod targets;
+
+use cases::buffer::ROOM;
+use libc::STDIN_FILENO;
 
 fn main() {
-    let mut space = [0u8; cases::buffer::ROOM];
-    layout::rows(&mut space);
-    limits::rows(&mut space);
-    faults::rows(&mut space);
-    pairs::rows(&mut space);
-    targets::rows(&mut space);
-    slashes::rows(&mut space);
+    let mut script = [0u8; ROOM];
+    io::read_full(STDIN_FILENO, &mut script);
+    let mut book = [0u8; ROOM];
+    rows::rows(&script, &mut book);
 }

@@ -1,9 +1,17 @@
-// The rows of a list of books. A list is a text with a line for each book: its name, a colon, and its items, as `cases::items` reads them. No
-// item holds the end of a line.
+// The book check on books, with a row for each, as the lines of a script say:
+//
+//     # TEXT       a comment; an empty line counts for nothing
+//     NAME:BOOK    a case: its name, which holds no colon, and its book, as `cases::books` reads it
 use book::BookCheck;
+use cases::books::put_book;
+use cases::buffer::ROOM;
 use cases::buffer::Space;
-use cases::items::put_items;
+use cases::script::byte_at;
+use cases::script::take_line;
 use cases::text::find;
+
+// How many lines of a script are read.
+const LINES: usize = 4096;
 
 // Writes a space and a number.
 fn number(value: u64) {
@@ -47,24 +55,43 @@ fn row(buf: &mut Space, case: &[u8]) {
     if colon >= case.len() {
         return;
     }
-    let items = colon + 1;
-    let end = put_items(buf, 0, &case[items..]);
+    let end = put_book(buf, &case[colon + 1..]);
     io::write_all(1, &case[0..colon]);
     answer_of_part(buf, end);
     io::write_all(1, b"\n");
 }
 
-// Writes the rows of a list.
-pub fn check_each(buf: &mut Space, cases: &[u8]) {
-    let mut from = 0;
-    let mut i = 0;
-    while i < cases.len() {
-        if cases[i] == b'\n' {
-            row(buf, &cases[from..i]);
-            i += 1;
-            from = i;
-        } else {
-            i += 1;
+// Takes a line of a script: a comment or a case.
+fn take_part(buf: &mut Space, part: &[u8]) {
+    if part.len() > 0 && part[0] != b'#' {
+        row(buf, part);
+    }
+}
+
+// Takes the line of a script that the first bytes of a slice are.
+fn take_front(buf: &mut Space, bytes: &[u8], length: usize) {
+    if length <= bytes.len() {
+        take_part(buf, &bytes[0..length]);
+    }
+}
+
+// The same for a buffer.
+fn take_taken(buf: &mut Space, part: &Space, length: usize) {
+    take_front(buf, part, length);
+}
+
+// Writes the rows of a script's cases.
+pub fn rows(script: &Space, buf: &mut Space) {
+    let mut part = [0u8; ROOM];
+    let mut at = 0;
+    let mut left = LINES;
+    while 0 < left {
+        if byte_at(script, at) == 0 {
+            return;
         }
+        let taken = take_line(script, at, &mut part);
+        take_taken(buf, &part, taken.length);
+        at = taken.next;
+        left -= 1;
     }
 }

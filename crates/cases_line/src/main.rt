@@ -1,33 +1,12 @@
-// Lines read against books: a row for each, with its name and what the reader answers.
-mod capitals;
-mod choices;
-mod letters;
-mod limits;
-mod long_words;
-mod lookups;
-mod paper;
+// Lines read against books: a row for each, with its name and what the reader answers. The cases are a script on standard input.
 mod rows;
-mod signs;
-mod slashes;
-mod spellings;
-mod targets;
-mod thesis;
-mod ways;
+
+use cases::buffer::ROOM;
+use libc::STDIN_FILENO;
 
 fn main() {
-    let mut space = [0u8; cases::buffer::ROOM];
-    limits::refused_books(&mut space);
-    paper::rows(&mut space);
-    thesis::rows(&mut space);
-    limits::rows(&mut space);
-    choices::rows(&mut space);
-    capitals::rows(&mut space);
-    spellings::rows(&mut space);
-    letters::rows(&mut space);
-    signs::rows(&mut space);
-    long_words::rows(&mut space);
-    lookups::rows(&mut space);
-    targets::rows(&mut space);
-    slashes::rows(&mut space);
-    ways::rows(&mut space);
+    let mut script = [0u8; ROOM];
+    io::read_full(STDIN_FILENO, &mut script);
+    let mut book = [0u8; ROOM];
+    rows::rows(&script, &mut book);
 }

@@ -1,15 +1,29 @@
-// Lines read against books, with a row for each. A list of cases is written as text, in parts that end with a semicolon, which no part holds:
+// Lines read against books, with a row for each, as the lines of a script say:
 //
-//     =ITEMS       the book of the cases behind it, as `cases::items` reads it
+//     # TEXT       a comment; an empty line counts for nothing
+//     =BOOK        the book of the cases behind it, as `cases::books` reads it
+//     >SHOW        what the rows of the cases behind it show
 //     NAME:LINE    a case: its name, which holds no colon, and its line
+//
+// SHOW is one of these, where N is how many values are lent; else more are lent than any answer takes:
+//
+//     answer          the answer, or no, a number and a value
+//     whether         whether the line is read
+//     buffer N        the answer between the number of values lent and the first values of the buffer
+//     lending N       the same, in a row for each number of values from 0 to N
+//     in-the-way N    the same as for `buffer`, with the number of the words in the way
 use answer::LineAnswer;
+use cases::books::put_book;
+use cases::buffer::ROOM;
 use cases::buffer::Space;
-use cases::items::put_items;
+use cases::script::byte_at;
+use cases::script::take_line;
 use cases::text::find;
+use cases::text::number;
 use in_the_way::WayAnswer;
 
 // How many values there are to lend.
-pub const VALUES: usize = 512;
+const VALUES: usize = 512;
 
 // What stands in each value before a line is read.
 const MARK: u16 = 9999;
@@ -17,24 +31,33 @@ const MARK: u16 = 9999;
 // How many values the row of a buffer shows.
 const SHOWN: usize = 10;
 
-// What a row says: the answer, whether the line is read, or the answer between the number of values lent and the first values of the buffer; the last also
-// with the number of the words in the way.
-pub enum Show {
+// How many lines of a script are read.
+const LINES: usize = 4096;
+
+enum Show {
     Answer,
     Whether,
     Buffer,
+    Lending,
     InTheWay,
 }
 
+// What the lines of a script before a case say: the length of the book, how many values are lent, and what rows show.
+pub struct Setting {
+    length: usize,
+    lent: usize,
+    show: Show,
+}
+
 // Writes a space and a number.
-fn number(value: u64) {
+fn write_number(value: u64) {
     io::write_all(1, b" ");
     io::print_decimal(1, value);
 }
 
 // Writes a space and a 16-bit number.
 fn short(value: u16) {
-    number(value as u64);
+    write_number(value as u64);
 }
 
 // Writes the first values of a list.
@@ -55,7 +78,7 @@ fn answer(result: WayAnswer, list: &[u16]) {
         WayAnswer::Ordinary(ordinary) => ordinary_answer(ordinary, list),
         WayAnswer::NoReading { words } => {
             io::write_all(1, b" no 15 0 words");
-            number(words as u64);
+            write_number(words as u64);
         }
     }
 }
@@ -69,8 +92,8 @@ fn ordinary_answer(result: LineAnswer, list: &[u16]) {
             value,
         } => {
             io::write_all(1, b" no");
-            number(cause as u64);
-            number(value as u64);
+            write_number(cause as u64);
+            write_number(value as u64);
         }
     }
 }
@@ -99,7 +122,7 @@ fn shown(result: WayAnswer, list: &[u16], lent: usize, show: Show) {
         Show::Whether => whether(result),
         _ => {
             io::write_all(1, b" lent");
-            number(lent as u64);
+            write_number(lent as u64);
             answer(result, list);
             io::write_all(1, b" buffer");
             values(list, SHOWN);
@@ -126,62 +149,116 @@ fn row(book: &[u8], label: &[u8], line: &[u8], lent: usize, show: Show) {
     }
 }
 
-// Writes the row of a case.
-fn row_of_case(book: &[u8], case: &[u8], lent: usize, show: Show) {
-    let colon = find(case, b':');
-    if colon < case.len() {
-        row(book, &case[0..colon], &case[colon + 1..], lent, show);
-    }
-}
-
-// Writes the row of a case against the book that the first bytes of a slice are.
-fn row_against(bytes: &[u8], length: usize, case: &[u8], lent: usize, show: Show) {
-    if length <= bytes.len() {
-        row_of_case(&bytes[0..length], case, lent, show);
-    }
-}
-
-// Puts the book that a part gives, or writes the row of its case. The length of the book is given.
-fn take_part(buf: &mut Space, length: usize, part: &[u8], lent: usize, show: Show) -> usize {
-    if part.len() == 0 {
-        return length;
-    }
-    if part[0] == b'=' {
-        return put_items(buf, 0, &part[1..]);
-    }
-    row_against(buf, length, part, lent, show);
-    length
-}
-
-// The rows of a list. Cases before its first book are read against that of the length that the buffer holds. The length of the last book is
-// given.
-pub fn against(buf: &mut Space, length: usize, cases: &[u8], lent: usize, show: Show) -> usize {
-    let mut book = length;
-    let mut from = 0;
-    let mut i = 0;
-    while i < cases.len() {
-        if cases[i] == b';' {
-            book = take_part(buf, book, &cases[from..i], lent, show);
-            i += 1;
-            from = i;
-        } else {
-            i += 1;
-        }
-    }
-    book
-}
-
-// The rows of a list with the answers, and with more values lent than any answer takes.
-pub fn answers(buf: &mut Space, length: usize, cases: &[u8]) -> usize {
-    against(buf, length, cases, VALUES, Show::Answer)
-}
-
-// The rows of a list with the buffer, for each number of values lent, from 0 to the last.
-pub fn lending(buf: &mut Space, length: usize, cases: &[u8], last: usize) {
+// Writes the rows of a line for each number of values lent, from 0 to the last.
+fn lending(book: &[u8], label: &[u8], line: &[u8], last: usize) {
     let mut lent = 0;
     while lent < last {
-        against(buf, length, cases, lent, Show::Buffer);
+        row(book, label, line, lent, Show::Buffer);
         lent += 1;
     }
-    against(buf, length, cases, last, Show::Buffer);
+    row(book, label, line, last, Show::Buffer);
+}
+
+// Writes the rows of a case.
+fn rows_of_case(book: &[u8], case: &[u8], lent: usize, show: Show) {
+    let colon = find(case, b':');
+    if colon < case.len() {
+        let label = &case[0..colon];
+        let line = &case[colon + 1..];
+        match show {
+            Show::Lending => lending(book, label, line, lent),
+            _ => row(book, label, line, lent, show),
+        }
+    }
+}
+
+// Writes the rows of a case against the book that the first bytes of a slice are.
+fn rows_against(bytes: &[u8], length: usize, case: &[u8], lent: usize, show: Show) {
+    if length <= bytes.len() {
+        rows_of_case(&bytes[0..length], case, lent, show);
+    }
+}
+
+// What rows show, by the first letter of its name.
+fn show_of(part: &[u8]) -> Show {
+    if part.len() < 2 {
+        return Show::Answer;
+    }
+    match part[1] {
+        b'a' => Show::Answer,
+        b'w' => Show::Whether,
+        b'b' => Show::Buffer,
+        b'l' => Show::Lending,
+        _ => Show::InTheWay,
+    }
+}
+
+// How many values are lent: the number behind a space, or all.
+fn lent_of(text: &[u8]) -> usize {
+    let space = find(text, b' ');
+    if space < text.len() {
+        return number(&text[space + 1..]);
+    }
+    VALUES
+}
+
+// Takes a line of a script: a comment, a book, what is shown, or a case.
+fn take_part(book: &mut Space, setting: Setting, part: &[u8]) -> Setting {
+    let length = setting.length;
+    let lent = setting.lent;
+    let show = setting.show;
+    if part.len() == 0 {
+        return setting;
+    }
+    match part[0] {
+        b'#' => setting,
+        b'=' => Setting {
+            length: put_book(book, &part[1..]),
+            lent,
+            show,
+        },
+        b'>' => Setting {
+            length,
+            lent: lent_of(part),
+            show: show_of(part),
+        },
+        _ => {
+            rows_against(book, length, part, lent, show);
+            setting
+        }
+    }
+}
+
+// Takes the line of a script that the first bytes of a slice are.
+fn take_front(book: &mut Space, setting: Setting, bytes: &[u8], length: usize) -> Setting {
+    if length <= bytes.len() {
+        return take_part(book, setting, &bytes[0..length]);
+    }
+    setting
+}
+
+// The same for a buffer.
+fn take_taken(book: &mut Space, setting: Setting, part: &Space, length: usize) -> Setting {
+    take_front(book, setting, part, length)
+}
+
+// Writes the rows of a script's cases.
+pub fn rows(script: &Space, book: &mut Space) {
+    let mut part = [0u8; ROOM];
+    let mut setting = Setting {
+        length: 0,
+        lent: VALUES,
+        show: Show::Answer,
+    };
+    let mut at = 0;
+    let mut left = LINES;
+    while 0 < left {
+        if byte_at(script, at) == 0 {
+            return;
+        }
+        let taken = take_line(script, at, &mut part);
+        setting = take_taken(book, setting, &part, taken.length);
+        at = taken.next;
+        left -= 1;
+    }
 }

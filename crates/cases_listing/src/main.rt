@@ -1,25 +1,16 @@
-// Listings of lines read against books: for each case a row with its name and what rendering gave, and behind it the listing.
-mod capitals;
-mod given;
-mod lengths;
-mod limits;
-mod links;
-mod longest;
-mod paper;
+// Listings of lines read against books: for each case a row with its name and what rendering gave, and behind it the listing. But for refusals that are given,
+// the cases are a script on standard input.
+mod refusals;
 mod rooms;
 mod rows;
-mod slashes;
-mod targets;
+
+use cases::buffer::ROOM;
+use libc::STDIN_FILENO;
 
 fn main() {
-    let mut space = [0u8; cases::buffer::ROOM];
-    limits::rows(&mut space);
-    paper::rows(&mut space);
-    lengths::rows(&mut space);
-    capitals::rows(&mut space);
-    longest::rows(&mut space);
-    given::rows(&mut space);
-    targets::rows(&mut space);
-    slashes::rows(&mut space);
-    links::rows(&mut space);
+    refusals::rows();
+    let mut script = [0u8; ROOM];
+    io::read_full(STDIN_FILENO, &mut script);
+    let mut book = [0u8; ROOM];
+    rows::rows(&script, &mut book);
 }

@@ -40,20 +40,19 @@ fn row(label: &[u8], book: &[u8], line: &[u8], room: usize) {
         let answer = reader::read_line(book, line, &mut values);
         let mut text = [MARK; SHOWN];
         let result = listing::render(book, line, answer, &values, &mut text[..room]);
-        counted(label, room);
+        io::write_all(1, label);
+        counted(b" in ", room);
         outcome(result);
         show_ends(&mut text);
         show(&text);
     }
 }
 
-// The rows of all lengths, for a line against the book that the first bytes of a slice are.
-pub fn rooms(bytes: &[u8], length: usize, label: &[u8], line: &[u8]) {
-    if length <= bytes.len() {
-        let mut room = 0;
-        while room <= LAST {
-            row(label, &bytes[0..length], line, room);
-            room += 1;
-        }
+// The rows of all lengths.
+pub fn rooms(book: &[u8], label: &[u8], line: &[u8]) {
+    let mut room = 0;
+    while room <= LAST {
+        row(label, book, line, room);
+        room += 1;
     }
 }

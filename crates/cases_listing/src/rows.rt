@@ -1,7 +1,20 @@
-// Listings of lines against a book. A list of cases is written as text: for each case its name, a colon, its line, and a semicolon. Behind the
-// line may stand a colon and numbers in digits with a space between them: how many values were read, and the values of the buffer. They are
-// listed in the place of what the reader answers. No name and no line holds a colon or a semicolon.
+// Listings of lines against a book, as the lines of a script say:
+//
+//     # TEXT               a comment; an empty line counts for nothing
+//     =BOOK                the book of the cases behind it, as `cases::books` reads it
+//     >listing, >rooms     what is shown of the cases behind it: one listing each, or one in buffers of every length
+//     NAME:LINE            a case: what the reader answers is listed
+//     NAME:LINE:NUMBERS    a case: numbers are listed in the place of what the reader answers, with a space between them: how many values were read, and the
+//                          values of the buffer
+//
+// No name and no line holds a colon.
+use crate::rooms::rooms;
 use answer::LineAnswer;
+use cases::books::put_book;
+use cases::buffer::ROOM;
+use cases::buffer::Space;
+use cases::script::byte_at;
+use cases::script::take_line;
 use cases::text::find;
 use cases::text::number;
 use listing::MAX_LISTING;
@@ -9,6 +22,15 @@ use listing::Rendered;
 
 // How many values there are to lend.
 pub const VALUES: usize = 512;
+
+// How many lines of a script are read.
+const LINES: usize = 4096;
+
+// What the lines of a script before a case say: the length of the book, and whether one listing is rendered in buffers of every length.
+pub struct Setting {
+    length: usize,
+    rooms: bool,
+}
 
 // Writes a word and a number.
 pub fn counted(word: &[u8], count: usize) {
@@ -90,34 +112,84 @@ fn list_line(label: &[u8], book: &[u8], rest: &[u8]) {
     list_given(label, book, &rest[0..colon], &rest[numbers..]);
 }
 
-// Lists a case.
-fn list_case(book: &[u8], case: &[u8]) {
+// Lists a case, or shows its listing in buffers of every length.
+fn list_case(book: &[u8], case: &[u8], every: bool) {
     let colon = find(case, b':');
     if colon >= case.len() {
         return;
     }
-    let rest = colon + 1;
-    list_line(&case[0..colon], book, &case[rest..]);
+    let label = &case[0..colon];
+    let rest = &case[colon + 1..];
+    if every {
+        rooms(book, label, rest);
+    } else {
+        list_line(label, book, rest);
+    }
 }
 
-// Lists the cases of a text.
-fn list_cases(book: &[u8], cases: &[u8]) {
-    let mut from = 0;
-    let mut i = 0;
-    while i < cases.len() {
-        if cases[i] == b';' {
-            list_case(book, &cases[from..i]);
-            i += 1;
-            from = i;
-        } else {
-            i += 1;
+// The same against the book that the first bytes of a slice are.
+fn list_against(bytes: &[u8], length: usize, case: &[u8], every: bool) {
+    if length <= bytes.len() {
+        list_case(&bytes[0..length], case, every);
+    }
+}
+
+// Whether a line that says what is shown begins with r.
+fn says_rooms(part: &[u8]) -> bool {
+    part.len() > 1 && part[1] == b'r'
+}
+
+// Takes a line of a script: a comment, a book, what is shown, or a case.
+fn take_part(book: &mut Space, setting: Setting, part: &[u8]) -> Setting {
+    if part.len() == 0 {
+        return setting;
+    }
+    match part[0] {
+        b'#' => setting,
+        b'=' => Setting {
+            length: put_book(book, &part[1..]),
+            rooms: setting.rooms,
+        },
+        b'>' => Setting {
+            length: setting.length,
+            rooms: says_rooms(part),
+        },
+        _ => {
+            list_against(book, setting.length, part, setting.rooms);
+            setting
         }
     }
 }
 
-// The listings of a text's cases against the book that the first bytes of a slice are.
-pub fn listings(bytes: &[u8], length: usize, cases: &[u8]) {
+// Takes the line of a script that the first bytes of a slice are.
+fn take_front(book: &mut Space, setting: Setting, bytes: &[u8], length: usize) -> Setting {
     if length <= bytes.len() {
-        list_cases(&bytes[0..length], cases);
+        return take_part(book, setting, &bytes[0..length]);
+    }
+    setting
+}
+
+// The same for a buffer.
+fn take_taken(book: &mut Space, setting: Setting, part: &Space, length: usize) -> Setting {
+    take_front(book, setting, part, length)
+}
+
+// Lists a script's cases.
+pub fn rows(script: &Space, book: &mut Space) {
+    let mut part = [0u8; ROOM];
+    let mut setting = Setting {
+        length: 0,
+        rooms: false,
+    };
+    let mut at = 0;
+    let mut left = LINES;
+    while 0 < left {
+        if byte_at(script, at) == 0 {
+            return;
+        }
+        let taken = take_line(script, at, &mut part);
+        setting = take_taken(book, setting, &part, taken.length);
+        at = taken.next;
+        left -= 1;
     }
 }

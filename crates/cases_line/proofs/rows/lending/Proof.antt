@@ -5,16 +5,16 @@ use Rattle.cases_line.proofs.rows.lending.Statement.{statement}
 use Rattle.cases_line.proofs.rows.lending.Tie as tie
 
 abbrev Inv-loop : tie.InvT-loop
-Inv-loop buf₀ length cases last lent₀ buf lent = lent ≤ last
+Inv-loop book label line last lent₀ lent = lent ≤ last
 
 abbrev μ-loop : tie.MeasureT-loop
-μ-loop buf₀ length cases last lent₀ buf lent = last - lent
+μ-loop book label line last lent₀ lent = last - lent
 
 loop-holds : tie.Need-loop-holds Inv-loop μ-loop
 loop-holds c = omega arith
 
-against-requires : tie.Need-against-requires Inv-loop μ-loop
-against-requires c κs = omega arith
+row-requires : tie.Need-row-requires Inv-loop μ-loop
+row-requires c κs = omega arith
 
 add-lent : tie.Need-add-lent Inv-loop μ-loop
 add-lent c = omega arith
@@ -25,8 +25,8 @@ loop-less c = omega arith
 loop-again : tie.Need-loop-again Inv-loop μ-loop
 loop-again c = omega arith
 
-against-requires-2 : tie.Need-against-requires-2 Inv-loop μ-loop
-against-requires-2 c κs = omega arith
+row-requires-2 : tie.Need-row-requires-2 Inv-loop μ-loop
+row-requires-2 c κs = omega arith
 
 returns : tie.Need-returns Inv-loop μ-loop
 returns c = omega arith
@@ -38,9 +38,9 @@ lending-spec =
     Inv-loop
     μ-loop
     loop-holds
-    against-requires
+    row-requires
     add-lent
     loop-less
     loop-again
-    against-requires-2
+    row-requires-2
     returns)

@@ -1,26 +1,17 @@
--- `rooms` is safe and ends: the length that is tried stays at most one more than the last. Assumes nothing.
+-- `rooms` is safe and ends: the length stays at most one more than the last. Assumes nothing.
 use Prim.Native.Nat.{_≤_, _-_}
 use native.Mathlib.Omega.{arith}
 use Rattle.cases_listing.proofs.rooms.rooms.Statement.{statement}
 use Rattle.cases_listing.proofs.rooms.rooms.Tie as tie
 
 abbrev Inv-loop : tie.InvT-loop
-Inv-loop bytes length label line room₀ room = room ≤ 29
+Inv-loop book label line room₀ room = room ≤ 29
 
 abbrev μ-loop : tie.MeasureT-loop
-μ-loop bytes length label line room₀ room = 29 - room
+μ-loop book label line room₀ room = 29 - room
 
 loop-holds : tie.Need-loop-holds Inv-loop μ-loop
 loop-holds c = omega arith
-
-sub-row : tie.Need-sub-row Inv-loop μ-loop
-sub-row c = omega arith
-
-part-row-start : tie.Need-part-row-start Inv-loop μ-loop
-part-row-start c = omega arith
-
-part-row-end : tie.Need-part-row-end Inv-loop μ-loop
-part-row-end c = omega arith
 
 row-requires : tie.Need-row-requires Inv-loop μ-loop
 row-requires c κs = omega arith
@@ -37,22 +28,7 @@ loop-again c = omega arith
 returns : tie.Need-returns Inv-loop μ-loop
 returns c = omega arith
 
-returns-2 : tie.Need-returns-2 Inv-loop μ-loop
-returns-2 c = omega arith
-
 pub rooms-spec : {M : Type 1} → statement M
 rooms-spec =
     tie.close
-    (tie.spec
-    Inv-loop
-    μ-loop
-    loop-holds
-    sub-row
-    part-row-start
-    part-row-end
-    row-requires
-    add-room
-    loop-less
-    loop-again
-    returns
-    returns-2)
+    (tie.spec Inv-loop μ-loop loop-holds row-requires add-room loop-less loop-again returns)

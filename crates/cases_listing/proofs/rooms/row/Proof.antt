@@ -1,8 +1,8 @@
 -- `row` is safe: the part that is lent has its own length. Assumes nothing.
 use mathlib.Core.Path.{sym}
 use lib.Seq.{length-take-le}
-use native.Mathlib.Omega.{arith}
 use borrow.Author.Needs.{needs}
+use native.Mathlib.Omega.{arith}
 use Rattle.cases_listing.proofs.rooms.row.Statement.{statement}
 use Rattle.cases_listing.proofs.rooms.row.Tie as tie
 
@@ -23,6 +23,12 @@ slice-aggregate-render-2 c = sym (length-take-le _ _ (omega arith))
 
 render-requires : tie.Need-render-requires
 render-requires c κs = search needs
+
+write-all-requires : tie.Need-write-all-requires
+write-all-requires c κs = search needs
+
+slice-aggregate-counted : tie.Need-slice-aggregate-counted
+slice-aggregate-counted c = search needs
 
 counted-requires : tie.Need-counted-requires
 counted-requires c κs = search needs
@@ -52,6 +58,8 @@ row-spec =
     array-borrow-prefix-text
     slice-aggregate-render-2
     render-requires
+    write-all-requires
+    slice-aggregate-counted
     counted-requires
     outcome-requires
     show-ends-requires
