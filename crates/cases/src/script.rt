@@ -19,7 +19,7 @@ pub fn byte_at(script: &Space, at: usize) -> u8 {
     0
 }
 
-// The place behind a place of a script.
+// The place behind a place of a script; there is none behind its last one.
 fn behind(at: usize) -> usize {
     if at < ROOM {
         return at + 1;
@@ -49,52 +49,38 @@ fn behind_spaces(script: &Space, at: usize) -> usize {
 
 // Puts the byte of two digits at a place.
 fn take_digits(script: &Space, at: usize, line: &mut Space, length: usize) -> Taken {
-    if ROOM <= at {
-        return Taken { length, next: at };
-    }
+    let second = behind(at);
     let high = digit(byte_at(script, at));
-    let low = digit(byte_at(script, at + 1));
+    let low = digit(byte_at(script, second));
     Taken {
         length: put(line, length, high % 16 * 16 + low % 16),
-        next: at + 2,
+        next: behind(second),
     }
 }
 
 // Puts what a backslash before a place stands for.
 fn take_escaped(script: &Space, at: usize, line: &mut Space, length: usize) -> Taken {
-    if ROOM <= at {
-        return Taken { length, next: at };
-    }
-    let sign = script[at];
-    let next = at + 1;
-    if sign == b'x' {
-        return take_digits(script, next, line, length);
-    }
-    if sign == b'n' {
-        return Taken {
+    let sign = byte_at(script, at);
+    let next = behind(at);
+    match sign {
+        b'x' => take_digits(script, next, line, length),
+        b'n' => Taken {
             length: put(line, length, b'\n'),
             next,
-        };
-    }
-    if sign == b'\n' {
-        return Taken {
+        },
+        b'\n' => Taken {
             length,
             next: behind_spaces(script, next),
-        };
-    }
-    Taken {
-        length: put(line, length, sign),
-        next,
+        },
+        _ => Taken {
+            length: put(line, length, sign),
+            next,
+        },
     }
 }
 
-// Puts the byte at a place, or what it stands for.
-fn take_byte(script: &Space, at: usize, line: &mut Space, length: usize) -> Taken {
-    if ROOM <= at {
-        return Taken { length, next: at };
-    }
-    let byte = script[at];
-    let next = at + 1;
+// Puts a byte of a script that stands before a place, or what it stands for.
+fn take_byte(script: &Space, byte: u8, next: usize, line: &mut Space, length: usize) -> Taken {
     if byte == b'\\' {
         return take_escaped(script, next, line, length);
     }
@@ -114,13 +100,11 @@ pub fn take_line(script: &Space, start: usize, line: &mut Space) -> Taken {
         if byte == 0 {
             return Taken { length, next: at };
         }
+        let next = behind(at);
         if byte == b'\n' {
-            return Taken {
-                length,
-                next: behind(at),
-            };
+            return Taken { length, next };
         }
-        let taken = take_byte(script, at, line, length);
+        let taken = take_byte(script, byte, next, line, length);
         length = taken.length;
         at = taken.next;
         left -= 1;

@@ -23,9 +23,6 @@ type Values = [u16; VALUES];
 // What stands in each value before a batch is read.
 const MARK: u16 = 9999;
 
-// How many lines of a script are read.
-const LINES: usize = 4096;
-
 // How many values a row shows whole, and how many of the first and of the last it shows where there are more.
 const WHOLE: usize = 160;
 
@@ -187,11 +184,18 @@ fn rows_of_case(book: &[u8], length: usize, lines: &mut Space, case: &[u8]) {
     }
 }
 
-// Takes a line of a script: a comment, a book, or a case. Gives the length of the book.
-fn take_part(book: &mut Space, length: usize, lines: &mut Space, part: &[u8]) -> usize {
-    if part.len() == 0 {
+// Takes a line of a script, which the first bytes of a slice are: a comment, a book, or a case. Gives the length of the book.
+fn take_part(
+    book: &mut Space,
+    length: usize,
+    lines: &mut Space,
+    bytes: &[u8],
+    end: usize,
+) -> usize {
+    if end == 0 || bytes.len() < end {
         return length;
     }
+    let part = &bytes[0..end];
     match part[0] {
         b'#' => length,
         b'=' => put_book(book, &part[1..]),
@@ -202,43 +206,29 @@ fn take_part(book: &mut Space, length: usize, lines: &mut Space, part: &[u8]) ->
     }
 }
 
-// Takes the line of a script that the first bytes of a slice are.
-fn take_front(
-    book: &mut Space,
-    length: usize,
-    lines: &mut Space,
-    bytes: &[u8],
-    end: usize,
-) -> usize {
-    if end <= bytes.len() {
-        return take_part(book, length, lines, &bytes[0..end]);
-    }
-    length
-}
-
 // The same for a buffer.
-fn take_taken(
+fn take_from(
     book: &mut Space,
     length: usize,
     lines: &mut Space,
     part: &Space,
     end: usize,
 ) -> usize {
-    take_front(book, length, lines, part, end)
+    take_part(book, length, lines, part, end)
 }
 
-// Writes the rows of a script's cases.
+// Writes the rows of a script's cases. It has no more lines than bytes.
 pub fn rows(script: &Space, book: &mut Space, lines: &mut Space) {
     let mut part = [0u8; ROOM];
     let mut length = 0;
     let mut at = 0;
-    let mut left = LINES;
+    let mut left = ROOM;
     while 0 < left {
         if byte_at(script, at) == 0 {
             return;
         }
         let taken = take_line(script, at, &mut part);
-        length = take_taken(book, length, lines, &part, taken.length);
+        length = take_from(book, length, lines, &part, taken.length);
         at = taken.next;
         left -= 1;
     }

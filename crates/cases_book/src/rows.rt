@@ -10,9 +10,6 @@ use cases::script::byte_at;
 use cases::script::take_line;
 use cases::text::find;
 
-// How many lines of a script are read.
-const LINES: usize = 4096;
-
 // Writes a space and a number.
 fn number(value: u64) {
     io::write_all(1, b" ");
@@ -61,36 +58,33 @@ fn row(buf: &mut Space, case: &[u8]) {
     io::write_all(1, b"\n");
 }
 
-// Takes a line of a script: a comment or a case.
-fn take_part(buf: &mut Space, part: &[u8]) {
-    if part.len() > 0 && part[0] != b'#' {
+// Takes a line of a script, which the first bytes of a slice are: a comment or a case.
+fn take_part(buf: &mut Space, bytes: &[u8], end: usize) {
+    if end == 0 || bytes.len() < end {
+        return;
+    }
+    let part = &bytes[0..end];
+    if part[0] != b'#' {
         row(buf, part);
     }
 }
 
-// Takes the line of a script that the first bytes of a slice are.
-fn take_front(buf: &mut Space, bytes: &[u8], length: usize) {
-    if length <= bytes.len() {
-        take_part(buf, &bytes[0..length]);
-    }
-}
-
 // The same for a buffer.
-fn take_taken(buf: &mut Space, part: &Space, length: usize) {
-    take_front(buf, part, length);
+fn take_from(buf: &mut Space, part: &Space, end: usize) {
+    take_part(buf, part, end);
 }
 
-// Writes the rows of a script's cases.
+// Writes the rows of a script's cases. It has no more lines than bytes.
 pub fn rows(script: &Space, buf: &mut Space) {
     let mut part = [0u8; ROOM];
     let mut at = 0;
-    let mut left = LINES;
+    let mut left = ROOM;
     while 0 < left {
         if byte_at(script, at) == 0 {
             return;
         }
         let taken = take_line(script, at, &mut part);
-        take_taken(buf, &part, taken.length);
+        take_from(buf, &part, taken.length);
         at = taken.next;
         left -= 1;
     }

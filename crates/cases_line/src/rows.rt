@@ -31,9 +31,6 @@ const MARK: u16 = 9999;
 // How many values the row of a buffer shows.
 const SHOWN: usize = 10;
 
-// How many lines of a script are read.
-const LINES: usize = 4096;
-
 enum Show {
     Answer,
     Whether,
@@ -43,7 +40,7 @@ enum Show {
 }
 
 // What the lines of a script before a case say: the length of the book, how many values are lent, and what rows show.
-pub struct Setting {
+struct Setting {
     length: usize,
     lent: usize,
     show: Show,
@@ -202,14 +199,15 @@ fn lent_of(text: &[u8]) -> usize {
     VALUES
 }
 
-// Takes a line of a script: a comment, a book, what is shown, or a case.
-fn take_part(book: &mut Space, setting: Setting, part: &[u8]) -> Setting {
+// Takes a line of a script, which the first bytes of a slice are: a comment, a book, what is shown, or a case.
+fn take_part(book: &mut Space, setting: Setting, bytes: &[u8], end: usize) -> Setting {
     let length = setting.length;
     let lent = setting.lent;
     let show = setting.show;
-    if part.len() == 0 {
+    if end == 0 || bytes.len() < end {
         return setting;
     }
+    let part = &bytes[0..end];
     match part[0] {
         b'#' => setting,
         b'=' => Setting {
@@ -229,20 +227,12 @@ fn take_part(book: &mut Space, setting: Setting, part: &[u8]) -> Setting {
     }
 }
 
-// Takes the line of a script that the first bytes of a slice are.
-fn take_front(book: &mut Space, setting: Setting, bytes: &[u8], length: usize) -> Setting {
-    if length <= bytes.len() {
-        return take_part(book, setting, &bytes[0..length]);
-    }
-    setting
-}
-
 // The same for a buffer.
-fn take_taken(book: &mut Space, setting: Setting, part: &Space, length: usize) -> Setting {
-    take_front(book, setting, part, length)
+fn take_from(book: &mut Space, setting: Setting, part: &Space, end: usize) -> Setting {
+    take_part(book, setting, part, end)
 }
 
-// Writes the rows of a script's cases.
+// Writes the rows of a script's cases. It has no more lines than bytes.
 pub fn rows(script: &Space, book: &mut Space) {
     let mut part = [0u8; ROOM];
     let mut setting = Setting {
@@ -251,13 +241,13 @@ pub fn rows(script: &Space, book: &mut Space) {
         show: Show::Answer,
     };
     let mut at = 0;
-    let mut left = LINES;
+    let mut left = ROOM;
     while 0 < left {
         if byte_at(script, at) == 0 {
             return;
         }
         let taken = take_line(script, at, &mut part);
-        setting = take_taken(book, setting, &part, taken.length);
+        setting = take_from(book, setting, &part, taken.length);
         at = taken.next;
         left -= 1;
     }

@@ -23,11 +23,8 @@ use listing::Rendered;
 // How many values there are to lend.
 pub const VALUES: usize = 512;
 
-// How many lines of a script are read.
-const LINES: usize = 4096;
-
 // What the lines of a script before a case say: the length of the book, and whether one listing is rendered in buffers of every length.
-pub struct Setting {
+struct Setting {
     length: usize,
     rooms: bool,
 }
@@ -139,11 +136,12 @@ fn says_rooms(part: &[u8]) -> bool {
     part.len() > 1 && part[1] == b'r'
 }
 
-// Takes a line of a script: a comment, a book, what is shown, or a case.
-fn take_part(book: &mut Space, setting: Setting, part: &[u8]) -> Setting {
-    if part.len() == 0 {
+// Takes a line of a script, which the first bytes of a slice are: a comment, a book, what is shown, or a case.
+fn take_part(book: &mut Space, setting: Setting, bytes: &[u8], end: usize) -> Setting {
+    if end == 0 || bytes.len() < end {
         return setting;
     }
+    let part = &bytes[0..end];
     match part[0] {
         b'#' => setting,
         b'=' => Setting {
@@ -161,20 +159,12 @@ fn take_part(book: &mut Space, setting: Setting, part: &[u8]) -> Setting {
     }
 }
 
-// Takes the line of a script that the first bytes of a slice are.
-fn take_front(book: &mut Space, setting: Setting, bytes: &[u8], length: usize) -> Setting {
-    if length <= bytes.len() {
-        return take_part(book, setting, &bytes[0..length]);
-    }
-    setting
-}
-
 // The same for a buffer.
-fn take_taken(book: &mut Space, setting: Setting, part: &Space, length: usize) -> Setting {
-    take_front(book, setting, part, length)
+fn take_from(book: &mut Space, setting: Setting, part: &Space, end: usize) -> Setting {
+    take_part(book, setting, part, end)
 }
 
-// Lists a script's cases.
+// Lists a script's cases. It has no more lines than bytes.
 pub fn rows(script: &Space, book: &mut Space) {
     let mut part = [0u8; ROOM];
     let mut setting = Setting {
@@ -182,13 +172,13 @@ pub fn rows(script: &Space, book: &mut Space) {
         rooms: false,
     };
     let mut at = 0;
-    let mut left = LINES;
+    let mut left = ROOM;
     while 0 < left {
         if byte_at(script, at) == 0 {
             return;
         }
         let taken = take_line(script, at, &mut part);
-        setting = take_taken(book, setting, &part, taken.length);
+        setting = take_from(book, setting, &part, taken.length);
         at = taken.next;
         left -= 1;
     }
