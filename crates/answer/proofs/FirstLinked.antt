@@ -14,10 +14,10 @@ use Rattle.linking.proofs.Positions.{linking-iff-parted}
 use Rattle.linking.proofs.Reduction.{linking-iff-reduces}
 use Rattle.linking.specs.Greedy.{ReducesFrom, GreedyFrom, stays, links}
 use Rattle.linking.proofs.Greedy.{greedy-agree, parted-of-greedy, reduces-of-parted}
-use Rattle.bits.specs.Rows.{HasRow, RowSays}
-use Rattle.bits.specs.Gathered.{Gathered}
-use Rattle.table.specs.Table.{stringOf, Right, MemberPart}
-use Rattle.answer.specs.Links.{RemainsAt, KeptOutside, LinkedFrom, ReducingThere, FirstLinked}
+use Rattle.bits.specs.Rows.{InRow, HasRow, RowSays}
+use Rattle.bits.specs.Gathered.{Gathered, RowPart}
+use Rattle.table.specs.Table.{stringOf, Right}
+use Rattle.answer.specs.Links.{Stays, KeptOutside, LinkedFrom, ReducingThere, FirstLinked}
 use Rattle.table.proofs.Stretches.{length-string}
 use Rattle.answer.proofs.Reducing.{reducing-says}
 
@@ -27,11 +27,11 @@ reduces-from-start r = let t = linking-iff-reduces .0 r in reduces-of-parted (li
 
 -- The row that the code gathers is what the linking asks.
 pub reducing-there :
-    {Le : Relation} {s : Basic} {table : List ℕ} {m : ℕ} (string words : List ℕ) → HasRow words 0 → Right Le (stringOf string m) table m
-    → Reduces Le s (stringOf string m) → RowSays words 0 (Gathered (λ u. ⊥) (MemberPart (RemainsAt Le s string) table m))
-    → ReducingThere Le s (stringOf string m) words 0
-reducing-there {table = table} {m} string words room right reduces says =
-    let reducing = reducing-says string table m right words says in
+    {Le : Relation} {s : Basic} {table : List ℕ} {m : ℕ} (string staying none words : List ℕ) → HasRow words 0 → Right Le (stringOf string m) table m
+    → Reduces Le s (stringOf string m) → RowSays staying 0 (Stays Le s string table m) → RowSays none 0 (λ v. ⊥)
+    → RowSays words 0 (Gathered (InRow none 0) (RowPart staying table)) → ReducingThere Le s (stringOf string m) words 0
+reducing-there {table = table} {m} string staying none words room right reduces stays-say empty-row says =
+    let reducing = reducing-says string table m right staying none words stays-say empty-row says in
     record { room = room; says = reducing; here = reducing 0 .1 (reduces-from-start reduces) }
 
 -- What P holds outside the string does not matter.

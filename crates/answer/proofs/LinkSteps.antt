@@ -38,7 +38,7 @@ link-step there chosen near =
       ahead = chosen .ahead;
       inside = chosen .inside;
       small = omega (arith, chosen .inside, there .few);
-      between = found .1 .closing .between;
+      between = found .1 .closing .behind;
       behind = found .1 .rest;
     }
 

@@ -54,8 +54,8 @@ module _ {Le : Relation} (string table ends : List ℕ) (e i b n : ℕ) (fits : 
   candidate-of-may k h g m =
       let one : i + 1 ≡ suc i = omega arith in
       record {
-        contract = rw (simple-at-index string n i (omega arith), simple-at-index string n k (omega arith)) (m .closing .contract);
-        between = stretch-iff (stringOf string n) table b (suc i) k right h (omega arith) .0 (rw one at (m .closing .between));
+        contract = rw (simple-at-index string n i (omega arith), simple-at-index string n k (omega arith)) (m .closing .fits);
+        between = stretch-iff (stringOf string n) table b (suc i) k right h (omega arith) .0 (rw one at (m .closing .behind));
         rest = rest-iff k h g .0 (m .rest);
       }
 
@@ -66,8 +66,8 @@ module _ {Le : Relation} (string table ends : List ℕ) (e i b n : ℕ) (fits : 
       rw (simple-at-index string n i (omega arith), simple-at-index string n k (omega arith)) at (c .contract) in
       record {
         closing = record {
-          contract = contract;
-          between = rw one (stretch-iff (stringOf string n) table b (suc i) k right h (omega arith) .1 (c .between));
+          fits = contract;
+          behind = rw one (stretch-iff (stringOf string n) table b (suc i) k right h (omega arith) .1 (c .between));
         };
         rest = rest-iff k h g .1 (c .rest);
       }

@@ -12,8 +12,8 @@ use Rattle.linking.specs.Linking.{simpleAt, stretch}
 use Rattle.linking.proofs.Stretches.{stretch-empty}
 use Rattle.linking.specs.Greedy.{Stay, ReducesFrom}
 use Rattle.bits.specs.Rows.{InRow, RowSays}
-use Rattle.bits.specs.Gathered.{Gathered, itself, within}
-use Rattle.table.specs.Table.{stringOf, Right, MemberPart}
+use Rattle.bits.specs.Gathered.{Gathered, RowPart, itself, within}
+use Rattle.table.specs.Table.{stringOf, Right}
 use Rattle.answer.specs.Links.{RemainsAt, Stays, ReducingRow}
 use Rattle.table.proofs.Stretches.{length-string}
 use Rattle.answer.proofs.Nearest.{simple-at-index, stretch-iff}
@@ -52,33 +52,29 @@ module _ {Le : Relation} {s : Basic} (string table : List ℕ) (m : ℕ) (right 
       let both = stay-iff i i (omega arith) h in
       let none : InRow table i i =
       stretch-iff (stringOf string m) table m i i right (omega arith) (omega arith) .1 (rw (stretch-empty (stringOf string m) (suc i)) empty) in (
-        λ t. both .0 (t .remains, none, rw one at (t .behind)),
-        λ t. let p = both .1 t in record { remains = p .0; behind = rw one (p .2) },
+        λ t. both .0 (t .fits, none, rw one at (t .behind)),
+        λ t. let p = both .1 t in record { fits = p .0; behind = rw one (p .2) },
       )
 
-  reduces-of-part : (v j : ℕ) → MemberPart (RemainsAt Le s string) table m j v → ReducesFrom Le s (stringOf string m) (suc v)
-  reduces-of-part v j p =
-      let u = j - 1 in
-      let one : j ≡ suc u = omega (arith, p .from-on) in
-      let reached = right m (omega arith) j .0 (p .reached) .ordered in
-      let inside = right u (omega arith) v .0 (p .joined .behind) .ordered in
-      let row : InRow table m (suc u) = rw one at (p .reached) in
-      (suc u, omega arith, stay-iff v u inside (omega arith) .0 (p .joined .fits, p .joined .behind, row))
+  -- What is gathered before the places that may stay is from where the string reduces.
+  module _ (stays none words : List ℕ) (stays-say : RowSays stays 0 (Stays Le s string table m)) (empty-row : RowSays none 0 (λ v. ⊥)) where
+    reduces-of : (v : ℕ) → Gathered (InRow none 0) (RowPart stays table) v → ReducesFrom Le s (stringOf string m) (suc v)
+    reduces-of v (itself h) = absurd (empty-row v .0 h)
+    reduces-of v (within u p) =
+        let one : u + 1 ≡ suc u = omega arith in
+        let stay = stays-say u .0 (p .chosen) in
+        let reached = right m (omega arith) (u + 1) .0 (stay .behind) .ordered in
+        let inside = right u (omega arith) v .0 (p .there) .ordered in
+        (suc u, omega arith, stay-iff v u inside (omega arith) .0 (stay .fits, p .there, rw one at (stay .behind)))
 
-  part-of-reduces :
-      (v u : ℕ) → suc v ≤ u → Stay Le s (stringOf string m) (suc v) u → MemberPart (RemainsAt Le s string) table m u v
-  part-of-reduces v u h stay =
-      let one : u ≡ suc (u - 1) = omega arith in
-      let size = length-string string m in
-      let at : Stay Le s (stringOf string m) (suc v) (suc (u - 1)) = rw one at stay in
-      let t = stay-iff v (u - 1) (omega arith) (omega (arith, stay .fits)) .1 at in
-      record { from-on = omega arith; reached = rw one (t .2); joined = record { fits = t .0; behind = t .1 } }
+    of-stay : (v u : ℕ) → suc v ≤ u → Stay Le s (stringOf string m) (suc v) u → Gathered (InRow none 0) (RowPart stays table) v
+    of-stay v u h stay =
+        let up : u ≡ suc (u - 1) = omega arith in
+        let one : u - 1 + 1 ≡ suc (u - 1) = omega arith in
+        let size = length-string string m in
+        let at : Stay Le s (stringOf string m) (suc v) (suc (u - 1)) = rw up at stay in
+        let t = stay-iff v (u - 1) (omega arith) (omega (arith, stay .fits)) .1 at in
+        within (u - 1) (record { chosen = stays-say (u - 1) .1 (record { fits = t .0; behind = rw one (t .2) }); there = t .1 })
 
-  -- What the code gathers is from where the string reduces.
-  pub reducing-says : (words : List ℕ) → RowSays words 0 (Gathered (λ u. ⊥) (MemberPart (RemainsAt Le s string) table m))
-      → ReducingRow Le s (stringOf string m) words
-  reducing-says words says v = Iff·trans (says v) (forth, λ t. within (t .0) (part-of-reduces v (t .0) (t .1) (t .2)))
-    where
-      forth : Gathered (λ u. ⊥) (MemberPart (RemainsAt Le s string) table m) v → ReducesFrom Le s (stringOf string m) (suc v)
-      forth (itself b) = absurd b
-      forth (within j p) = reduces-of-part v j p
+    pub reducing-says : RowSays words 0 (Gathered (InRow none 0) (RowPart stays table)) → ReducingRow Le s (stringOf string m) words
+    reducing-says says v = Iff·trans (says v) (reduces-of v, λ t. of-stay v (t .0) (t .1) (t .2))

@@ -11,21 +11,19 @@ use Rattle.pregroup.specs.Vanish.{Remains}
 use Rattle.linking.specs.Greedy.{Greedy, GreedyFrom, ReducesFrom}
 use Rattle.figures.specs.Limits.{rowBits}
 use Rattle.bits.specs.Rows.{InRow, HasRow, RowSays}
-use Rattle.table.specs.Table.{heldAt, stringOf, ContractsAt, StringThere, Right}
+use Rattle.table.specs.Table.{heldAt, stringOf, ContractsAt, StringThere, Right, FitsBefore}
 
 -- The simple type at u may be the unlinked one: it is plain and stands at or below the target.
 abbrev pub RemainsAt : Relation → Basic → List ℕ → ℕ → Type 0
 RemainsAt Le s string u = Remains Le s (heldAt string u)
 
 -- i may stay unlinked: its simple type may remain, and what stands behind it, up to m, vanishes.
-pub record Stays (Le : Relation) (s : Basic) (string table : List ℕ) (m i : ℕ) : Type 0 where
-  pub remains : RemainsAt Le s string i
-  pub behind : InRow table m (i + 1)
+abbrev pub Stays : Relation → Basic → List ℕ → List ℕ → ℕ → ℕ → Type 0
+Stays Le s string table m = FitsBefore (RemainsAt Le s string) table m
 
 -- i may be linked to k: they could contract, and what stands between them vanishes.
-pub record Closes (Le : Relation) (string table : List ℕ) (i k : ℕ) : Type 0 where
-  pub contract : ContractsAt Le string k i
-  pub between : InRow table k (i + 1)
+abbrev pub Closes : Relation → List ℕ → List ℕ → ℕ → ℕ → Type 0
+Closes Le string table i k = FitsBefore (ContractsAt Le string k) table k i
 
 -- .. and the place behind k is in row e of `ends`.
 pub record MayLink (Le : Relation) (string table ends : List ℕ) (e i k : ℕ) : Type 0 where

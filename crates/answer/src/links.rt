@@ -3,19 +3,19 @@
 use bits::rows;
 use bits::rows::Row;
 use figures::limits::ROW_BITS;
+use figures::limits::ROW_WORDS;
 use pregroup::LinkKind;
 ghost use Prim.Native.Nat.{_+_, _<_};
 ghost use mathlib.Core.Path.{_≡_};
-ghost use mathlib.Core.Logic.{_↔_, _⊎_};
+ghost use mathlib.Core.Logic.{_↔_};
 ghost use mathlib.Core.Bool.{true};
 ghost use lib.ListN.{length, set};
 ghost use Rattle.pregroup.specs.Held.{InRows};
 ghost use Rattle.pregroup.specs.Vanish.{Reduces};
 ghost use Rattle.figures.specs.Limits.{maxPlaces};
 ghost use Rattle.bits.specs.Rows.{InRow, HasRow, RowSays};
-ghost use Rattle.bits.specs.Gathered.{Gathered};
-ghost use Rattle.table.specs.Table.{stringOf, StringThere, Bounded, RowJoined, MemberPart};
-ghost use Rattle.answer.specs.Links.{RemainsAt, Stays, Closes, NearestLink, EndsThere, withLink, LinkingThere, LinkedWithin, LinkedFrom, ReducingThere, FirstLinked};
+ghost use Rattle.table.specs.Table.{stringOf, StringThere, Bounded};
+ghost use Rattle.answer.specs.Links.{Stays, Closes, NearestLink, EndsThere, withLink, LinkingThere, LinkedWithin, LinkedFrom, ReducingThere, FirstLinked};
 
 // Whether i may stay unlinked: its simple type may remain, and what stands behind it vanishes.
 fn may_stay(order: &[u64], string: &[u16], target: u8, table: &[u64], m: usize, i: usize) -> bool
@@ -79,40 +79,23 @@ fn write_link(answer: &mut [u16], at: usize, i: usize, k: usize)
     answer[at + k] = (i + 1) as u16;
 }
 
-// The row with that of u, where the simple type at u may remain.
-fn join_remaining(
-    order: &[u64],
-    string: &[u16],
-    target: u8,
-    table: &[u64],
-    row: Row,
-    u: usize,
-) -> Row
-    requires { ⌜ StringThere (now string) (u + 1) ⌝ }
-    requires { ⌜ HasRow (now table) u ⌝ }
-    ensures { λ r. ⌜ RowSays (r .words) 0 (λ v. InRow (row .words) 0 v
-        ⊎ RowJoined (RemainsAt (InRows (now (order .entry))) target (now (string .entry))) (now (table .entry)) u v) ⌝ }
-{
-    if pregroup::may_remain(order, string[u], target) {
-        return rows::unite(row, table, u);
-    }
-    row
-}
-
-// The places from which the string reduces to the target: what stands before each simple type that may remain and has what vanishes behind it.
-fn reducing_row(order: &[u64], string: &[u16], target: u8, table: &[u64], m: usize) -> Row
+// The places that may stay unlinked.
+fn staying(order: &[u64], string: &[u16], target: u8, table: &[u64], m: usize) -> Row
     requires { ⌜ StringThere (now string) m ⌝ }
     requires { ⌜ HasRow (now table) m × Bounded (now table) m ⌝ }
-    ensures { λ r. ⌜ RowSays (r .words) 0 (Gathered (λ u. ⊥)
-        (MemberPart (RemainsAt (InRows (now (order .entry))) target (now (string .entry))) (now (table .entry)) m)) ⌝ }
+    ensures { λ r. ⌜ RowSays (r .words) 0 (Stays (InRows (now (order .entry))) target (now (string .entry)) (now (table .entry)) m) ⌝ }
 {
-    let mut row = rows::empty();
+    let mut words = [0u64; ROW_WORDS];
     let mut j = rows::next_member(table, m, 1);
     while j < ROW_BITS {
-        row = join_remaining(order, string, target, table, row, j - 1);
+        rows::put_where(
+            &mut words,
+            j - 1,
+            pregroup::may_remain(order, string[j - 1], target),
+        );
         j = rows::next_member(table, m, j + 1);
     }
-    row
+    Row { words }
 }
 
 // Writes the partners of the stretch from i up to j, which vanishes: each the nearest that leaves the rest vanishing.
@@ -164,7 +147,8 @@ fn link_from(
     }
 }
 
-// Writes the first linking of the string of the first m simple types, which reduces to the target, into `answer` from `at` on: m partners.
+// Writes the first linking of the string of the first m simple types, which reduces to the target, into `answer` from `at` on: m partners. It reduces from
+// a place where what stands from there up to one that may stay vanishes.
 pub(crate) fn first_linking(
     order: &[u64],
     string: &[u16],
@@ -178,7 +162,8 @@ pub(crate) fn first_linking(
     requires { ⌜ Reduces (InRows (now order)) target (stringOf (now string) m) ⌝ }
     ensures { λ _. ⌜ FirstLinked (InRows (now (order .entry))) target (stringOf (now (string .entry)) m) (now (answer .entry)) (now (answer .exit)) at ⌝ }
 {
-    let row = reducing_row(order, string, target, table, m);
+    let stays = staying(order, string, target, table, m);
+    let row = rows::unite_all(rows::empty(), table, stays);
     let ends = row.words;
     link_from(order, string, target, table, &ends, m, 0, answer, at);
 }

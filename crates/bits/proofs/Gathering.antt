@@ -91,3 +91,16 @@ none-says row none v = (λ h. inl h, ⊎-elim (λ h. h) (λ b. absurd (none v b)
 pub alone-says :
     {u w : ℕ} (none row : List ℕ) → u ≡ w → RowSays none 0 (λ v. ⊥) → RowSays row 0 (λ v. InRow none 0 v ⊎ (v ≡ u)) → RowSays row 0 (λ v. v ≡ w)
 alone-says none row e empty put v = (λ h. ⊎-elim (λ n. absurd (empty v .0 n)) (λ m. m ∙ e) (put v .0 h), λ h. put v .1 (inr (h ∙ sym e)))
+
+-- The start and the parts, said in another way.
+module _ {A B : ℕ → Type 0} {P Q : ℕ → ℕ → Type 0} (start : (v : ℕ) → A v ↔ B v) (part : (m v : ℕ) → P m v ↔ Q m v) (v : ℕ) where
+  forth : Gathered A P v → Gathered B Q v
+  forth (itself a) = itself (start v .0 a)
+  forth (within m p) = within m (part m v .0 p)
+
+  rear : Gathered B Q v → Gathered A P v
+  rear (itself b) = itself (start v .1 b)
+  rear (within m q) = within m (part m v .1 q)
+
+  pub gathered-iff : Gathered A P v ↔ Gathered B Q v
+  gathered-iff = (forth, rear)

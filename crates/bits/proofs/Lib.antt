@@ -7,3 +7,4 @@ pub mod TotalLaws
 pub mod CountLaws
 pub mod RowLaws
 pub mod Gathering
+pub mod Walking

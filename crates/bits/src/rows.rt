@@ -5,10 +5,11 @@ use figures::limits::ROW_WORDS;
 ghost use mathlib.Core.Path.{_≡_};
 ghost use mathlib.Core.Logic.{_↔_, _⊎_};
 ghost use mathlib.Core.Bool.{true};
-ghost use Prim.Native.Nat.{_<_, _≤_};
+ghost use Prim.Native.Nat.{ℕ, _<_, _≤_};
 ghost use lib.ListN.{length};
 ghost use Rattle.figures.specs.Limits.{rowBits, rowWords};
 ghost use Rattle.bits.specs.Rows.{InRow, HasRow, RowSays, NextMember, Stored};
+ghost use Rattle.bits.specs.Gathered.{Gathered, RowPart};
 
 // One row.
 pub struct Row {
@@ -30,6 +31,16 @@ pub fn put_in(words: &mut [u64], v: usize)
     ensures { λ _. ⌜ RowSays (now (words .exit)) 0 (λ k. InRow (now (words .entry)) 0 k ⊎ (k ≡ v)) ⌝ }
 {
     words[v / 64] = crate::with(words[v / 64], (v % 64) as u8);
+}
+
+// Puts v into a row where it stands, where the flag says so.
+pub fn put_where(words: &mut [u64], v: usize, flag: bool)
+    requires { ⌜ (v < rowBits) × (length (now words) ≡ rowWords) ⌝ }
+    ensures { λ _. ⌜ RowSays (now (words .exit)) 0 (λ k. InRow (now (words .entry)) 0 k ⊎ ((k ≡ v) × (flag ≡ true))) ⌝ }
+{
+    if flag {
+        put_in(words, v);
+    }
 }
 
 // The row with v put in.
@@ -55,6 +66,21 @@ pub fn unite(row: Row, rows: &[u64], u: usize) -> Row
         k += 1;
     }
     Row { words }
+}
+
+// The members of the row and those of each row whose number is in the set.
+pub fn unite_all(row: Row, rows: &[u64], set: Row) -> Row
+    requires { ⌜ ((u : ℕ) → InRow (set .words) 0 u → HasRow (now rows) u) ⌝ }
+    ensures { λ r. ⌜ RowSays (r .words) 0 (Gathered (InRow (row .words) 0) (RowPart (set .words) (now (rows .entry)))) ⌝ }
+{
+    let chosen = set.words;
+    let mut all = row;
+    let mut u = next_member(&chosen, 0, 0);
+    while u < ROW_BITS {
+        all = unite(all, rows, u);
+        u = next_member(&chosen, 0, u + 1);
+    }
+    all
 }
 
 // Puts the row in the place of row u.

@@ -10,7 +10,7 @@ use Rattle.pregroup.specs.Types.{Simple}
 use Rattle.pregroup.specs.Order.{Relation}
 use Rattle.pregroup.specs.Vanish.{Contracts}
 use Rattle.figures.specs.Limits.{rowBits}
-use Rattle.bits.specs.Rows.{InRow, HasRow, RowSays, Stored}
+use Rattle.bits.specs.Rows.{InRow, HasRow, RowSays, NextMember, Stored}
 use Rattle.graph.specs.Graph.{Graph, labelOf, Labelled, EntersBy, by, Upward, VanishTo}
 use Rattle.chart.specs.Chart.{FilledFrom, Fillable, SlotPart, SlotsThere, LinkPart, NodeThere, LinksThere}
 use Rattle.bits.specs.Gathered.{Gathered, Only, itself, within}
@@ -61,7 +61,7 @@ module _ (Le : Relation) (g : Graph) (rows : List ℕ) (up : Upward g) (room : (
     row-van : (w : ℕ) → u < w → w < g .count → RowSays rows w (Van Le g w)
     row-van w h k v = let row = filled w (omega arith) k v in (λ m. van-iff-vanish .1 (row .0 m), λ t. row .1 (van-iff-vanish .0 t))
 
-    links-there : 0 < getD (g .nexts) u 0 → LinksThere (g .simples) (g .nexts) rows u
+    pub links-there : 0 < getD (g .nexts) u 0 → LinksThere (g .simples) (g .nexts) rows u
     links-there s =
         let next = up .nexts-up u small s in
         record {
@@ -143,6 +143,12 @@ module _ (Le : Relation) (g : Graph) (rows : List ℕ) (up : Upward g) (room : (
 
       fill-one : FilledFrom Le g rows′ u
       fill-one w h k = stored-at w h k (same-or-not w u)
+
+-- The first member of the row behind a node is the node behind it.
+pub first-behind :
+    {simples nexts rows : List ℕ} {u : ℕ} → LinksThere simples nexts rows u → NextMember rows (getD nexts u 0) (getD nexts u 0) (getD nexts u 0)
+first-behind there =
+    record { from-on = omega arith; within = omega (arith, there .first .small); member = λ h. there .first; least = λ v h l. absurd (omega arith) }
 
 -- One turn: the rows from u on are filled, and the row before it is next.
 module _ (Le : Relation) (g : Graph) (start rows : List ℕ) (u : ℕ) (pre : Fillable g start) (few : u ≤ g .count) (more : 0 < u)

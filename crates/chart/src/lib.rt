@@ -43,13 +43,15 @@ fn join_row(
     ensures { λ r. ⌜ RowSays (r .words) 0 (λ v. InRow (row .words) 0 v
         ⊎ Joined (InRows (now (order .entry))) (now (simples .entry)) (now (nexts .entry)) (now (rows .entry)) x y v) ⌝ }
 {
-    let next = nexts[y];
-    if next == 0 {
-        return row;
-    }
     match pregroup::may_contract(order, x, simples[y]) {
         LinkKind::Not => row,
-        _ => rows::unite(row, rows, next as usize),
+        _ => {
+            let next = nexts[y];
+            if next == 0 {
+                return row;
+            }
+            rows::unite(row, rows, next as usize)
+        }
     }
 }
 

@@ -1,32 +1,29 @@
--- The walk of `choose` from the first node to the last: the rows of the string chosen so far are grown, it is finished from the node at hand,
--- and whatever is scanned from there on completes a scan from the start.
+-- The walk of `choose` from the first node to the end: the rows of the string chosen so far are grown, it is finished from the node at hand, and
+-- whatever is scanned from there on completes a scan from the start.
 use Prim.Native.Nat.{ℕ, _+_, _≤_, _<_}
 use native.Mathlib.Numerals.{add-one}
 use native.Mathlib.Omega.{arith}
 use mathlib.Core.Path.{_≡_, refl, sym, ap, _∙_, subst}
-use mathlib.Core.Logic.{_↔_, _⊎_, inl, inr}
+use mathlib.Core.Logic.{_⊎_, inl, inr}
 use mathlib.Core.List.{List, [], _∷_, _++_, append-assoc, append-nil}
 use lib.ListN.{getD, length, take, set, length-set, length-append}
-use lib.Seq.{take-suc-set, getD-set-same}
+use lib.Seq.{take-suc-set}
 use Rattle.figures.specs.Limits.{maxPlaces}
-use Rattle.bits.specs.Rows.{InRow}
 use Rattle.bits.proofs.Cases.{less-or-not}
 use Rattle.pregroup.specs.Types.{Simple, PregroupType}
 use Rattle.pregroup.specs.Order.{Relation}
 use Rattle.pregroup.specs.Vanish.{Vanish}
-use Rattle.pregroup.specs.Held.{held}
 use Rattle.graph.specs.Graph.{Graph, labelOf, Labelled, EntersBy, by, Path, here, take as takes-node, enter, VanishTo, along, Boundary, Spells, ended, more}
 use Rattle.chart.proofs.Recurrence.{path-append}
+use Rattle.chart.proofs.Filling.{links-there}
 use Rattle.table.specs.Table.{stringOf}
 use Rattle.table.proofs.Stretches.{length-string, string-kept, string-more}
-use Rattle.table.proofs.TableLaws.{right-begins}
 use Rattle.choice.specs.Completion.{Finishes, finishes, SlotChoice, done, choose, Scanned, ends, takes}
-use Rattle.choice.specs.Prefixes.{Leaving, whole, linked}
-use Rattle.choice.specs.Sets.{Among, LeftFor, Growable, Grew, Searchable, FirstSlot, Started}
+use Rattle.choice.specs.Sets.{Meets, Growable, Grew, Searchable, FirstSlot, Started}
 use Rattle.choice.specs.Grown.{Grown}
 use Rattle.choice.specs.First.{Roomy, Choosable, Chose}
 use Rattle.choice.proofs.Choices.{scanned-is-first}
-use Rattle.choice.proofs.Grown.{left-iff-finished, grown-more}
+use Rattle.choice.proofs.Grown.{finishes-of-meets, meets-of-finishes, grown-more, grown-on, grown-starts}
 
 -- The rest of a scan from a node on: the rest of its entry, and the slots behind it.
 pub data Rest (Le : Relation) (g : Graph) (end : ℕ) (P : PregroupType) (u : ℕ) (slots : List ℕ) : Type 0 where
@@ -36,10 +33,10 @@ pub data Rest (Le : Relation) (g : Graph) (end : ℕ) (P : PregroupType) (u : �
 pub data Ahead (g : Graph) (u : ℕ) (slots : List ℕ) : PregroupType → ℕ → Type 0 where
   ahead : {T X : PregroupType} {b end : ℕ} → Spells g u T b → SlotChoice g b slots X end → Ahead g u slots (T ++ X) end
 
-pub record Choosing (Le : Relation) (g : Graph) (string slots table leaving finishing : List ℕ) (end u words places : ℕ) : Type 0 where
+pub record Choosing (Le : Relation) (g : Graph) (string slots table needs : List ℕ) (end u words places : ℕ) : Type 0 where
   pub below : u < g .count
   pub few : places + words ≤ u
-  pub grown : Grown Le g (stringOf string places) end places table leaving finishing
+  pub grown : Grown Le g (stringOf string places) end u places table needs
   pub walked : Path g 0 (stringOf string places) u
   pub finished : Finishes Le g (stringOf string places) u end
   pub scan : (more : List ℕ) → Rest Le g end (stringOf string places) u more → Scanned Le g end [] 0 (take words slots ++ more)
@@ -68,8 +65,8 @@ takes-some last simple (takes-node l p) = omega arith
 takes-some last simple (enter (by s e) p) = absurd (simple (e .boundary))
 
 -- The places so far are no more than a path has.
-module _ (Le : Relation) (g : Graph) (rows string slots table leaving finishing : List ℕ) (end u words places : ℕ) (pre : Choosable Le g rows end)
-    (now : Choosing Le g string slots table leaving finishing end u words places) where
+module _ {Le : Relation} {g : Graph} {chart string slots table needs : List ℕ} {end u words places : ℕ} (pre : Choosable Le g chart end)
+    (now : Choosing Le g string slots table needs end u words places) where
   few-behind : {X : PregroupType} → Path g u X end → places + length X ≤ maxPlaces
   few-behind {X} p =
       omega (arith, pre .brief (path-append (now .walked) p), length-append (stringOf string places) X, length-string string places)
@@ -87,57 +84,47 @@ module _ (Le : Relation) (g : Graph) (rows string slots table leaving finishing 
       of (finishes p v) = omega (arith, few-behind p, takes-some (pre .ends .boundary) simple p)
 
 -- At a simple node.
-module _ (Le : Relation) (g : Graph) (rows string slots table leaving finishing : List ℕ) (end u words places : ℕ) (pre : Choosable Le g rows end)
-    (roomy : Roomy (g .count) string slots table leaving) (now : Choosing Le g string slots table leaving finishing end u words places) (away : u ≡ end → ⊥)
-    (simple : getD (g .nexts) u 0 ≡ 0 → ⊥) where
-  small : u < g .count
-  small = now .below
-
+module _ {Le : Relation} {g : Graph} {chart string slots table needs : List ℕ} {end u words places : ℕ} (pre : Choosable Le g chart end)
+    (now : Choosing Le g string slots table needs end u words places) (simple : getD (g .nexts) u 0 ≡ 0 → ⊥) (string-room : maxPlaces ≤ length string) where
   room : places + 1 ≤ maxPlaces
-  room = place-left Le g rows string slots table leaving finishing end u words places pre now simple
+  room = place-left pre now simple
 
   abbrev string′ : List ℕ
   string′ = set string places (getD (g .simples) u 0)
 
-  pub growable : Growable Le (g .simples) (g .nexts) rows (g .count) string′ places table leaving
-  growable = record {
-    nodes = record { few = pre .upward .few; label = pre .upward .simples-there; next = pre .upward .nexts-there };
-    rows-there = record { few = pre .upward .few; room = pre .rows-there };
-    string-there = record { few = room; there = omega (arith, room, roomy .places, length-set string places (getD (g .simples) u 0)) };
+  pub growable : {count : ℕ} → Roomy count string slots table needs → Growable Le (g .simples) (g .nexts) chart string′ places u table needs
+  growable roomy = record {
+    links-there = links-there Le g chart (pre .upward) (pre .chart-rows) u (now .below) (λ w h. pre .filled w (omega arith)) (omega arith);
+    string-there = record { few = room; there = omega (arith, room, string-room, length-set string places (getD (g .simples) u 0)) };
     right = rw (string-kept string places (getD (g .simples) u 0)) (now .grown .right);
     table-room = roomy .table-rows (places + 1) room;
-    leaving-room = λ m h. roomy .leaving-rows m (omega (arith, room));
+    needs-room = roomy .needs-rows (places + 1) room;
   }
 
   node-label : Labelled g u (labelOf g u) (getD (g .nexts) u 0)
   node-label = record { simple = omega arith; label = refl; next = refl }
 
   pub simple-up : (u < getD (g .nexts) u 0) × (getD (g .nexts) u 0 < g .count)
-  simple-up = pre .upward .nexts-up u small (omega arith)
+  simple-up = pre .upward .nexts-up u (now .below) (omega arith)
 
   longer : stringOf string′ (places + 1) ≡ stringOf string places ++ (labelOf g u ∷ [])
-  longer = string-more string places (getD (g .simples) u 0) (omega (arith, room, roomy .places))
-
-  chosen-last : getD {A = ℕ} string′ places 0 ≡ getD (g .simples) u 0
-  chosen-last = getD-set-same string places (getD (g .simples) u 0) 0 (omega (arith, room, roomy .places))
+  longer = string-more string places (getD (g .simples) u 0) (omega (arith, room, string-room))
 
   pub picked-turn :
-      (table′ leaving′ finishing′ : List ℕ) → Grew Le (g .simples) (g .nexts) rows (g .count) string′ places finishing leaving table′ leaving′ finishing′
-      → Choosing Le g string′ slots table′ leaving′ finishing′ end (getD (g .nexts) u 0) words (places + 1)
-  picked-turn table′ leaving′ finishing′ grew =
-      let spells : stringOf string′ (places + 1) ≡ stringOf string places ++ (held (getD string′ places 0) ∷ []) =
-      longer ∙ ap (λ (k : ℕ). stringOf string places ++ (held k ∷ [])) (sym chosen-last) in
-      let grown = grown-more Le g rows string′ (stringOf string places) end places finishing table leaving table′ leaving′ finishing′ (pre .upward) (pre .filled)
-      (now .grown) spells grew in
-      record {
-        below = simple-up .1;
-        few = omega (arith, simple-up .0, now .few);
-        grown = subst (λ (P : PregroupType). Grown Le g P end (places + 1) table′ leaving′ finishing′) (sym spells) grown;
-        walked = rw longer (path-append (now .walked) (takes-node node-label here));
-        finished = rw longer (finishes-take (pre .ends .boundary) node-label (now .finished));
-        scan = λ after r. now .scan after (rest-take node-label (rw longer at r));
-        spell = λ after X a. rw (longer, append-assoc) (now .spell after (labelOf g u ∷ X) (ahead-take node-label a));
-      }
+      (table′ needs′ : List ℕ) → Grew Le (g .simples) (g .nexts) chart string′ places u needs table′ needs′
+      → Choosing Le g string′ slots table′ needs′ end (getD (g .nexts) u 0) words (places + 1)
+  picked-turn table′ needs′ grew = record {
+    below = simple-up .1;
+    few = omega (arith, simple-up .0, now .few);
+    grown =
+        rw longer
+        (grown-more Le g chart string′ (stringOf string places) end u places table needs table′ needs′ (pre .upward) (now .below) (omega arith)
+        (pre .filled) (now .grown) longer grew);
+    walked = rw longer (path-append (now .walked) (takes-node node-label here));
+    finished = rw longer (finishes-take (pre .ends .boundary) node-label (now .finished));
+    scan = λ after r. now .scan after (rest-take node-label (rw longer at r));
+    spell = λ after X a. rw (longer, append-assoc) (now .spell after (labelOf g u ∷ X) (ahead-take node-label a));
+  }
 
 -- What is finished from a boundary other than the end is finished from the node of some slot.
 data EntersFinished (Le : Relation) (g : Graph) (P : PregroupType) (u end : ℕ) : Type 0 where
@@ -151,6 +138,12 @@ module _ {Le : Relation} {g : Graph} where
 
   finishes-enters : {P : PregroupType} {u end : ℕ} → Boundary g u → (u ≡ end → ⊥) → Finishes Le g P u end → EntersFinished Le g P u end
   finishes-enters b away (finishes p v) = enters-of-path b away p v
+
+  finishes-enter : {R : PregroupType} {u s w z : ℕ} → EntersBy g u s w → Finishes Le g R w z → Finishes Le g R u z
+  finishes-enter {s} e (finishes p v) = finishes (enter (by s e) p) v
+
+  vanish-enter : {u s w z : ℕ} → EntersBy g u s w → VanishTo Le g w z → VanishTo Le g u z
+  vanish-enter {s} e (along p v) = along (enter (by s e) p) v
 
   rest-enter :
       {P : PregroupType} {u s w end : ℕ} {slots : List ℕ} → EntersBy g u s w
@@ -168,32 +161,27 @@ slots-more slots k r after h =
     ∙ append-assoc (take k slots) (r ∷ []) after
 
 -- At a boundary.
-module _ (Le : Relation) (g : Graph) (rows string slots table leaving finishing : List ℕ) (end u words places : ℕ) (pre : Choosable Le g rows end)
-    (roomy : Roomy (g .count) string slots table leaving) (now : Choosing Le g string slots table leaving finishing end u words places) (away : u ≡ end → ⊥)
-    (boundary : getD (g .nexts) u 0 ≡ 0) where
-  node-small : u < g .count
-  node-small = now .below
+module _ {Le : Relation} {g : Graph} {chart string slots table needs : List ℕ} {end u words places : ℕ} (pre : Choosable Le g chart end)
+    (now : Choosing Le g string slots table needs end u words places) (away : u ≡ end → ⊥) (boundary : getD (g .nexts) u 0 ≡ 0) where
+  slot-enters : (s : ℕ) → getD (g .froms) u 0 ≤ s → s < getD (g .tos) u 0 → EntersBy g u s (getD (g .enters) s 0)
+  slot-enters s h l = record { boundary = boundary; from-on = h; before = l; entered = refl }
 
-  few-so-far : places ≤ maxPlaces
-  few-so-far = few-places Le g rows string slots table leaving finishing end u words places pre now
+  enters-up : (s : ℕ) → getD (g .froms) u 0 ≤ s → s < getD (g .tos) u 0 → (u < getD (g .enters) s 0) × (getD (g .enters) s 0 < g .count)
+  enters-up s h l = pre .upward .enters-up u s (getD (g .enters) s 0) (now .below) (slot-enters s h l)
 
-  pub searchable : Searchable (g .enters) table leaving places (getD (g .tos) u 0)
-  searchable = record {
-    slots = pre .upward .slots-there u node-small;
-    table-room = roomy .table-rows places few-so-far;
-    leaving-room = λ m r. roomy .leaving-rows m (omega (arith, few-so-far, now .grown .right places (omega arith) m .0 r .ordered));
+  pub searchable : {count : ℕ} → Roomy count string slots table needs → Searchable (g .enters) chart needs places (getD (g .froms) u 0) (getD (g .tos) u 0)
+  searchable roomy = record {
+    slots = pre .upward .slots-there u (now .below);
+    chart-room = λ s h l. pre .chart-rows (getD (g .enters) s 0) (enters-up s h l .1);
+    needs-room = roomy .needs-rows places (few-places pre now);
   }
 
-  -- The search's test is whether the string is finished.
-  slot-test : (y : ℕ) → LeftFor table leaving places y ↔ Among (g .count) (λ y. Finishes Le g (stringOf string places) y end) y
-  slot-test = left-iff-finished (stringOf string places) end places table leaving (now .grown .long) (now .grown .right) (now .grown .leavings)
-
-  module _ (r : ℕ) (first : FirstSlot (g .enters) table leaving places (getD (g .froms) u 0) (getD (g .tos) u 0) r) where
+  module _ (r : ℕ) (first : FirstSlot (g .enters) chart needs places (getD (g .froms) u 0) (getD (g .tos) u 0) r) where
     never : (s w : ℕ) → s < r → EntersBy g u s w → Finishes Le g (stringOf string places) w end → ⊥
     never s w h e f =
-        let on = pre .upward .enters-up u s w node-small e in
-        let test = slot-test w .1 (record { below = on .1; holds = f }) in
-        first .none s (e .from-on) h (subst (λ (y : ℕ). LeftFor table leaving places y) (e .entered) test)
+        let on = pre .upward .enters-up u s w (now .below) e in
+        let test = meets-of-finishes (pre .filled) (now .grown) w (on .1) (λ z t. vanish-enter e t) f in
+        first .none s (e .from-on) h (subst (λ (y : ℕ). Meets chart y needs places) (e .entered) test)
 
     found-by : EntersFinished Le g (stringOf string places) u end → (r < getD (g .tos) u 0) ⊎ (getD (g .tos) u 0 ≤ r) → r < getD (g .tos) u 0
     found-by f (inl h) = h
@@ -202,24 +190,21 @@ module _ (Le : Relation) (g : Graph) (rows string slots table leaving finishing 
     pub slot-found : r < getD (g .tos) u 0
     slot-found = found-by (finishes-enters boundary away (now .finished)) (less-or-not r (getD (g .tos) u 0))
 
-    slot-enters : EntersBy g u r (getD (g .enters) r 0)
-    slot-enters = record { boundary = boundary; from-on = first .from-on; before = slot-found; entered = refl }
+    entered : EntersBy g u r (getD (g .enters) r 0)
+    entered = slot-enters r (first .from-on) slot-found
 
     pub slot-up : (u < getD (g .enters) r 0) × (getD (g .enters) r 0 < g .count)
-    slot-up = pre .upward .enters-up u r (getD (g .enters) r 0) node-small slot-enters
+    slot-up = enters-up r (first .from-on) slot-found
 
-    word-room : words < length slots
-    word-room = omega (arith, now .few, node-small, roomy .words)
-
-    pub entered-turn : Choosing Le g string (set slots words r) table leaving finishing end (getD (g .enters) r 0) (words + 1) places
-    entered-turn = record {
+    pub entered-turn : words < length slots → Choosing Le g string (set slots words r) table needs end (getD (g .enters) r 0) (words + 1) places
+    entered-turn word-room = record {
       below = slot-up .1;
       few = omega (arith, slot-up .0, now .few);
-      grown = now .grown;
-      walked = rw append-nil at (path-append (now .walked) (enter (by r slot-enters) here));
-      finished = slot-test (getD (g .enters) r 0) .0 (first .found slot-found) .holds;
-      scan = λ after a. rw (slots-more slots words r after word-room) (now .scan (r ∷ after) (rest-enter slot-enters never a));
-      spell = λ after X a. rw (slots-more slots words r after word-room) (now .spell (r ∷ after) X (ahead-enter slot-enters a));
+      grown = grown-on (getD (g .enters) r 0) (λ R z f. finishes-enter entered f) (now .grown);
+      walked = rw append-nil at (path-append (now .walked) (enter (by r entered) here));
+      finished = finishes-of-meets (pre .filled) (now .grown) (getD (g .enters) r 0) (slot-up .1) (first .found slot-found);
+      scan = λ after a. rw (slots-more slots words r after word-room) (now .scan (r ∷ after) (rest-enter entered never a));
+      spell = λ after X a. rw (slots-more slots words r after word-room) (now .spell (r ∷ after) X (ahead-enter entered a));
     }
 
 -- At the end the chosen string vanishes, and the slots are the first choice.
@@ -232,8 +217,8 @@ module _ {Le : Relation} {g : Graph} where
   vanish-at-end : {P : PregroupType} {end : ℕ} → Boundary g end → ((s w : ℕ) → EntersBy g end s w → ⊥) → Finishes Le g P end end → Vanish Le P
   vanish-at-end b closed (finishes p v) = ends-here refl b closed p v
 
-module _ (Le : Relation) (g : Graph) (rows string slots table leaving finishing : List ℕ) (end words places : ℕ) (pre : Choosable Le g rows end)
-    (now : Choosing Le g string slots table leaving finishing end end words places) where
+module _ {Le : Relation} {g : Graph} {chart string slots table needs : List ℕ} {end words places : ℕ} (pre : Choosable Le g chart end)
+    (now : Choosing Le g string slots table needs end end words places) where
   scan-whole : Scanned Le g end [] 0 (take words slots)
   scan-whole =
       let v : Vanish Le (stringOf string places) = vanish-at-end (pre .ends .boundary) (pre .ends .closed) (now .finished) in
@@ -246,43 +231,11 @@ module _ (Le : Relation) (g : Graph) (rows string slots table leaving finishing 
     spelled = rw (append-nil, append-nil) at (now .spell [] [] (ahead (ended (pre .ends .boundary)) (done (pre .ends .boundary))));
     right = now .grown .right;
     few = now .few;
-    few-places = few-places Le g rows string slots table leaving finishing end end words places pre now;
+    few-places = few-places pre now;
   }
 
 -- At the start nothing is chosen.
-module _ (Le : Relation) (g : Graph) (rows string slots table leaving table′ leaving′ finishing : List ℕ) (end : ℕ) (pre : Choosable Le g rows end)
-    (started : Started rows (g .count) end table leaving table′ leaving′ finishing) where
-  leads : (y : ℕ) → Among (g .count) (λ y. InRow rows y end) y → Among (g .count) (λ y. VanishTo Le g y end) y
-  leads y a = record { below = a .below; holds = pre .filled y (omega arith) (a .below) end .0 (a .holds) }
-
-  back : (y : ℕ) → Among (g .count) (λ y. VanishTo Le g y end) y → Among (g .count) (λ y. InRow rows y end) y
-  back y a = record { below = a .below; holds = pre .filled y (omega arith) (a .below) end .1 (a .holds) }
-
-  end-of-leaving : (y : ℕ) → Leaving Le g [] end 0 y → VanishTo Le g y end
-  end-of-leaving y (whole e t) = t
-  end-of-leaving y (linked h r) = absurd (omega arith)
-
-  end-of-finishes : (y : ℕ) → Finishes Le g [] y end → VanishTo Le g y end
-  end-of-finishes y (finishes p v) = along p v
-
-  finishes-to-end : (y : ℕ) → VanishTo Le g y end → Finishes Le g [] y end
-  finishes-to-end y (along p v) = finishes p v
-
-  start-grown : Grown Le g [] end 0 table′ leaving′ finishing
-  start-grown = record {
-    long = refl;
-    right = right-begins table′ (started .table-new);
-    leavings = λ m h y. let e : m ≡ 0 = omega arith in
-        rw e (
-          λ r. let a = leads y (started .leaving-new y .0 r) in record { below = a .below; holds = whole refl (a .holds) },
-          λ a. started .leaving-new y .1 (back y (record { below = a .below; holds = end-of-leaving y (a .holds) })),
-        );
-    finished = λ y. (
-      λ r. let a = leads y (started .finishing-new y .0 r) in record { below = a .below; holds = finishes-to-end y (a .holds) },
-      λ a. started .finishing-new y .1 (back y (record { below = a .below; holds = end-of-finishes y (a .holds) })),
-    );
-  }
-
+module _ {Le : Relation} {g : Graph} {chart : List ℕ} {end : ℕ} (pre : Choosable Le g chart end) where
   first-scan : (b : ℕ) {T : PregroupType} (after : List ℕ) → Spells g 0 T b → Scanned Le g end T b after → Scanned Le g end [] 0 after
   first-scan b after (ended h) s = s
   first-scan b after (more l t) s = absurd (omega (arith, l .simple, pre .begins))
@@ -297,31 +250,34 @@ module _ (Le : Relation) (g : Graph) (rows string slots table leaving table′ l
   start-spell : {X : PregroupType} (after : List ℕ) → Ahead g 0 after X end → SlotChoice g 0 after X end
   start-spell after (ahead {b} t c) = first-spell b after t c
 
-  pub start-choosing : Choosing Le g string slots table′ leaving′ finishing end 0 0 0
+  finishes-to-end : VanishTo Le g 0 end → Finishes Le g [] 0 end
+  finishes-to-end (along p v) = finishes p v
+
+  pub start-choosing : (string slots table needs : List ℕ) → Started end table needs → Choosing Le g string slots table needs end 0 0 0
   unfolding stringOf
-  start-choosing = record {
+  start-choosing string slots table needs started = record {
     below = omega (arith, pre .inside);
     few = omega arith;
-    grown = start-grown;
+    grown = grown-starts started;
     walked = here;
-    finished = finishes-to-end 0 (pre .reads);
+    finished = finishes-to-end (pre .reads);
     scan = λ after r. start-scan after r;
     spell = λ after X a. start-spell after a;
   }
 
 -- The buffers keep their lengths, and so their room.
-pub record SameLengths (string slots table leaving string′ slots′ table′ leaving′ : List ℕ) : Type 0 where
+pub record SameLengths (string slots table needs string′ slots′ table′ needs′ : List ℕ) : Type 0 where
   pub places : length string′ ≡ length string
   pub words : length slots′ ≡ length slots
   pub table-rows : length table′ ≡ length table
-  pub leaving-rows : length leaving′ ≡ length leaving
+  pub needs-rows : length needs′ ≡ length needs
 
 pub roomy-same :
-    (count : ℕ) (string slots table leaving string′ slots′ table′ leaving′ : List ℕ) → Roomy count string slots table leaving
-    → SameLengths string slots table leaving string′ slots′ table′ leaving′ → Roomy count string′ slots′ table′ leaving′
-roomy-same count string slots table leaving string′ slots′ table′ leaving′ roomy same = record {
+    {count : ℕ} {string slots table needs string′ slots′ table′ needs′ : List ℕ} → Roomy count string slots table needs
+    → SameLengths string slots table needs string′ slots′ table′ needs′ → Roomy count string′ slots′ table′ needs′
+roomy-same roomy same = record {
   places = omega (arith, roomy .places, same .places);
   words = omega (arith, roomy .words, same .words);
   table-rows = λ j h. omega (arith, roomy .table-rows j h, same .table-rows);
-  leaving-rows = λ j h. omega (arith, roomy .leaving-rows j h, same .leaving-rows);
+  needs-rows = λ j h. omega (arith, roomy .needs-rows j h, same .needs-rows);
 }

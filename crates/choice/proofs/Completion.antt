@@ -11,7 +11,7 @@ use Rattle.pregroup.specs.Vanish.{Contracts, Vanish, empty}
 use Rattle.pregroup.proofs.Machine.{vanish-append}
 use Rattle.pregroup.proofs.VanishLaws.{Border, apart, crossed, vanish-iff-border}
 use Rattle.graph.specs.Graph.{Graph, by, Path, here, take, enter, VanishTo, along, Boundary, Spells, ended, more}
-use Rattle.choice.specs.Completion.{Finishes, finishes, Reaches, reaches, Completion, settled, closes}
+use Rattle.choice.specs.Completion.{Finishes, finishes, Needed, settled, closes, Completion, completion}
 use Rattle.chart.proofs.Recurrence.{path-append, Begins, begins, Parted, part, path-begins, path-part}
 
 -- By the innermost link that crosses.
@@ -23,7 +23,7 @@ module _ {Le : Relation} {g : Graph} where
   closes-at :
       (L : PregroupType) {R W : PregroupType} {p z : Simple} {y m end : ℕ} → Vanish Le R → VanishTo Le g y m → Contracts Le p z → Vanish Le (L ++ W)
       → Begins g m z W end → Completion Le g (L ++ (p ∷ R)) y end
-  closes-at L v u c w (begins s l q) = closes {L = L} v (reaches (vanish-on u s) l c (finishes q w))
+  closes-at L v u c w (begins s l q) = completion (vanish-on u s) (closes {L = L} v l c (finishes q w))
 
   closes-past :
       (L W : PregroupType) {R U : PregroupType} {p z : Simple} {y end : ℕ} → Vanish Le R → Vanish Le U → Contracts Le p z → Vanish Le (L ++ W)
@@ -31,22 +31,19 @@ module _ {Le : Relation} {g : Graph} where
   closes-past L W v u c w (part p q) = closes-at L v (along p u) c w (path-begins q)
 
   completion-of-border : {P X : PregroupType} {y end : ℕ} → Border Le P X → Path g y X end → Completion Le g P y end
-  completion-of-border (apart v x) p = settled v (along p x)
+  completion-of-border (apart v x) p = completion (along p x) (settled v)
   completion-of-border (crossed L W {U} v u c w) p = closes-past L W v u c w (path-part U p)
 
   completion-of-finishes : {P : PregroupType} {y end : ℕ} → Finishes Le g P y end → Completion Le g P y end
   completion-of-finishes {P} (finishes {X} p v) = completion-of-border (vanish-iff-border P X .0 v) p
 
-  finishes-apart : {P : PregroupType} {y end : ℕ} → Vanish Le P → VanishTo Le g y end → Finishes Le g P y end
-  finishes-apart v (along p x) = finishes p (vanish-append v x)
-
-  finishes-closed : (L : PregroupType) {R : PregroupType} {y end : ℕ} {p : Simple} → Vanish Le R → Reaches Le g p L y end → Finishes Le g (L ++ (p ∷ R)) y end
-  finishes-closed L {R} {p} v (reaches {z} (along {X = U} q u) l c (finishes {X = W} r w)) =
-      finishes (path-append q (take l r)) (vanish-iff-border (L ++ (p ∷ R)) (U ++ (z ∷ W)) .1 (crossed L W v u c w))
+  finishes-needed : {P : PregroupType} {y z end : ℕ} → VanishTo Le g y z → Needed Le g end P z → Finishes Le g P y end
+  finishes-needed (along p x) (settled v) = finishes p (vanish-append v x)
+  finishes-needed (along {X = U} q u) (closes {L} {R} {p} {x} v l c (finishes {X = W} r w)) =
+      finishes (path-append q (take l r)) (vanish-iff-border (L ++ (p ∷ R)) (U ++ (x ∷ W)) .1 (crossed L W v u c w))
 
   finishes-of-completion : {P : PregroupType} {y end : ℕ} → Completion Le g P y end → Finishes Le g P y end
-  finishes-of-completion (settled v x) = finishes-apart v x
-  finishes-of-completion (closes {L} v r) = finishes-closed L v r
+  finishes-of-completion (completion t n) = finishes-needed t n
 
   -- A prefix is finished exactly by its completion.
   pub finishes-iff-completion : {P : PregroupType} {y end : ℕ} → Finishes Le g P y end ↔ Completion Le g P y end

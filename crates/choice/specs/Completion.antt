@@ -2,9 +2,7 @@
 -- slots, one for each boundary that is passed; entries of a word stand in the order of its slots, so an earlier choice is one with a
 -- smaller slot at the first difference.
 use Prim.Native.Nat.{ℕ, _<_}
-use mathlib.Core.Path.{_≡_}
 use mathlib.Core.List.{List, [], _∷_, _++_}
-use lib.ListN.{getD}
 use Rattle.pregroup.specs.Types.{Simple, PregroupType}
 use Rattle.pregroup.specs.Order.{Relation}
 use Rattle.pregroup.specs.Vanish.{Contracts, Vanish}
@@ -14,15 +12,17 @@ use Rattle.graph.specs.Graph.{Graph, Labelled, EntersBy, Path, VanishTo, Bounda
 pub data Finishes (Le : Relation) (g : Graph) (P : PregroupType) (y end : ℕ) : Type 0 where
   finishes : {X : PregroupType} → Path g y X end → Vanish Le (P ++ X) → Finishes Le g P y end
 
--- From y one comes by what vanishes to a node that p could contract with, and behind it L is finished.
-pub data Reaches (Le : Relation) (g : Graph) (p : Simple) (L : PregroupType) (y end : ℕ) : Type 0 where
-  reaches : {m k : ℕ} {z : Simple} → VanishTo Le g y m → Labelled g m z k → Contracts Le p z → Finishes Le g L k end → Reaches Le g p L y end
+-- Needed Le g end P z: z is the node at which the innermost link is closed that P leaves open. P vanishes, and z is the end; or P is L p R, R vanishes,
+-- z is simple and p could contract with it, and from behind z L is finished.
+pub data Needed (Le : Relation) (g : Graph) (end : ℕ) : PregroupType → ℕ → Type 0 where
+  settled : {P : PregroupType} → Vanish Le P → Needed Le g end P end
+  closes :
+      {L R : PregroupType} {z k : ℕ} {p x : Simple} → Vanish Le R → Labelled g z x k → Contracts Le p x → Finishes Le g L k end
+      → Needed Le g end (L ++ (p ∷ R)) z
 
--- How P is finished, by the innermost link that crosses to what follows: there is none, and both vanish; or P is L p R, R vanishes and p is
--- linked.
-pub data Completion (Le : Relation) (g : Graph) : PregroupType → ℕ → ℕ → Type 0 where
-  settled : {P : PregroupType} {y end : ℕ} → Vanish Le P → VanishTo Le g y end → Completion Le g P y end
-  closes : {L R : PregroupType} {y end : ℕ} {p : Simple} → Vanish Le R → Reaches Le g p L y end → Completion Le g (L ++ (p ∷ R)) y end
+-- P is completed from y: by what vanishes y leads to a node that is needed.
+pub data Completion (Le : Relation) (g : Graph) (P : PregroupType) (y end : ℕ) : Type 0 where
+  completion : {z : ℕ} → VanishTo Le g y z → Needed Le g end P z → Completion Le g P y end
 
 -- SlotChoice g u slots X v: from the boundary u to the boundary v, by the entries of the slots, which spell X.
 pub data SlotChoice (g : Graph) : ℕ → List ℕ → PregroupType → ℕ → Type 0 where

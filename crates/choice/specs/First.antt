@@ -13,17 +13,17 @@ use Rattle.table.specs.Table.{stringOf, Right}
 use Rattle.choice.specs.Completion.{SlotChoice, FirstChoice, Scanned}
 
 -- The buffers have room for the longest string, for a slot at each node, and for a row before and behind each place.
-pub record Roomy (count : ℕ) (string slots table leaving : List ℕ) : Type 0 where
+pub record Roomy (count : ℕ) (string slots table needs : List ℕ) : Type 0 where
   pub places : maxPlaces ≤ length string
   pub words : count ≤ length slots
   pub table-rows : (j : ℕ) → j ≤ maxPlaces → HasRow table j
-  pub leaving-rows : (j : ℕ) → j ≤ maxPlaces → HasRow leaving j
+  pub needs-rows : (j : ℕ) → j ≤ maxPlaces → HasRow needs j
 
 -- The chart is filled, the line reads, it begins at a boundary and comes to an end, and no path has too many simple types.
-pub record Choosable (Le : Relation) (g : Graph) (rows : List ℕ) (end : ℕ) : Type 0 where
+pub record Choosable (Le : Relation) (g : Graph) (chart : List ℕ) (end : ℕ) : Type 0 where
   pub upward : Upward g
-  pub filled : FilledFrom Le g rows 0
-  pub rows-there : (u : ℕ) → u < g .count → HasRow rows u
+  pub filled : FilledFrom Le g chart 0
+  pub chart-rows : (u : ℕ) → u < g .count → HasRow chart u
   pub inside : end < g .count
   pub begins : Boundary g 0
   pub ends : End g end

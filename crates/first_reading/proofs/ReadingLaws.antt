@@ -112,7 +112,7 @@ module _ {le : Test} {Le : Relation} {g : Graph} {numbers : List ℕ} {targets :
     can-choose long = record {
       upward = d .upward;
       filled = charted .filled;
-      rows-there = has-rows d rows long;
+      chart-rows = has-rows d rows long;
       inside = end-inside;
       begins = laid-begins laid;
       ends = ends;
@@ -121,13 +121,13 @@ module _ {le : Test} {Le : Relation} {g : Graph} {numbers : List ℕ} {targets :
     }
 
     pub has-room :
-        {string slots table leaving : List ℕ} → length string ≡ maxPlaces → length slots ≡ maxNodes → length table ≡ (maxPlaces + 1) * rowWords
-        → length leaving ≡ (maxPlaces + 1) * rowWords → Roomy (g .count) string slots table leaving
+        {string slots table needs : List ℕ} → length string ≡ maxPlaces → length slots ≡ maxNodes → length table ≡ (maxPlaces + 1) * rowWords
+        → length needs ≡ (maxPlaces + 1) * rowWords → Roomy (g .count) string slots table needs
     has-room p s b o = record {
       places = omega arith;
       words = omega (arith, d .few);
       table-rows = λ j h. omega arith;
-      leaving-rows = λ j h. omega arith;
+      needs-rows = λ j h. omega arith;
     }
 
     module _ {string slots table : List ℕ} {count places : ℕ} (c : Chose Le g string slots table end count places)

@@ -34,15 +34,13 @@ pub fn write_reading(
         (graph (nodesWith last (length (now (targets .entry)))) (now (simples .entry)) (now (nexts .entry)) (now (froms .entry)) (now (tos .entry)) (now (enters .entry)))
         (now (numbers .entry)) (now (targets .entry)) last words (now (chart .entry)) t (now (answer .entry)) r (now (answer .exit)) ⌝ }
 {
-    let nodes = last + 1 + 2 * targets.len();
     let end = last + 2 + 2 * t;
     let mut string = [0u16; MAX_PLACES];
     let mut slots = [0u16; MAX_NODES];
     let mut table = [0u64; TABLE_WORDS];
-    let mut leaving = [0u64; TABLE_WORDS];
+    let mut needs = [0u64; TABLE_WORDS];
     let chosen = choose(
         order,
-        nodes,
         simples,
         nexts,
         froms,
@@ -53,7 +51,7 @@ pub fn write_reading(
         &mut string,
         &mut slots,
         &mut table,
-        &mut leaving,
+        &mut needs,
     );
     let m = chosen.places - 1;
     let needed = 3 + words + m;

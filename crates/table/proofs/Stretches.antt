@@ -15,7 +15,7 @@ use Rattle.pregroup.proofs.Machine.{vanish-append}
 use Rattle.pregroup.proofs.VanishLaws.{Decomposed, at, vanish-last}
 use Rattle.pregroup.specs.Held.{held}
 use Rattle.linking.proofs.Stretches.{slice-append}
-use Rattle.table.specs.Table.{atPlace, heldAt, stringOf}
+use Rattle.table.specs.Table.{atPlace, heldAt, stringOf, Stretch, Closable}
 
 module _ (string : List ℕ) where
   pub length-string : (n : ℕ) → length (stringOf string n) ≡ n
@@ -61,11 +61,9 @@ module _ (string : List ℕ) (n x : ℕ) where
   unfolding stringOf
   string-more room = rw (add-one n, string-kept, getD-set-same string n x 0 room)
 
--- The last simple type of a stretch that vanishes, at k, closes the one at i; what stands between them and before i vanishes.
+-- The last simple type of a stretch that vanishes, at k, closes the one at i, and what stands before i vanishes.
 pub data LastLink (Le : Relation) (X : PregroupType) (v k : ℕ) : Type 0 where
-  closes :
-      (i : ℕ) → v ≤ i → i < k → Contracts Le (atPlace X i) (atPlace X k) → Vanish Le (slice (suc i) k X)
-      → Vanish Le (slice v i X) → LastLink Le X v k
+  closes : (i : ℕ) → Closable Le X k i → Stretch Le X v i → LastLink Le X v k
 
 module _ (X : PregroupType) where
   -- A stretch parted at i, with the simple type there.
@@ -96,7 +94,9 @@ module _ (X : PregroupType) where
       record { place = k; from-on = omega arith; before = omega arith; left = left; there = (cc); right = (cc) }
 
   link-at : {Le : Relation} {L R : PregroupType} {c : Simple} (v k : ℕ) → CutAt v k L c R → Vanish Le L → Contracts Le c (atPlace X k) → Vanish Le R → LastLink Le X v k
-  link-at v k t l m r = closes (t .place) (t .from-on) (t .before) (rw (t .there) m) (rw (t .right) r) (rw (t .left) l)
+  link-at v k t l m r =
+      closes (t .place) (record { before = t .before; contracts = rw (t .there) m; between = rw (t .right) r })
+      (record { ordered = t .from-on; vanishes = rw (t .left) l })
 
   decomposed-at : {Le : Relation} {Z : PregroupType} (v k : ℕ) → k < length X → Decomposed Le (atPlace X k) Z → slice v k X ≡ Z → LastLink Le X v k
   decomposed-at v k b (at {L} {R} {c} l m r) e = link-at v k (cut-at v k L c R (omega arith) e) l m r
@@ -106,5 +106,6 @@ module _ (X : PregroupType) where
       decomposed-at v k b (vanish-last (slice v k X) (rw (slice-last v k h b) at t)) refl
 
   pub last-closed : {Le : Relation} (v k : ℕ) → k < length X → LastLink Le X v k → Vanish Le (slice v (suc k) X)
-  last-closed v k b (closes i h g c u w) =
-      rw (slice-last v k (omega arith) b, slice-at v i k h g (omega arith), append-assoc) (vanish-append w (link c u empty))
+  last-closed v k b (closes i c s) =
+      rw (slice-last v k (omega (arith, c .before, s .ordered)) b, slice-at v i k (s .ordered) (c .before) (omega arith), append-assoc)
+      (vanish-append (s .vanishes) (link (c .contracts) (c .between) empty))

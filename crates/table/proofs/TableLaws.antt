@@ -1,18 +1,18 @@
--- The table of what vanishes, row by row: row 0 has the empty stretch, and the next row has the empty stretch and, for each simple type that
--- the new one could close over what vanishes, all that its row has.
-use Prim.Native.Nat.{ℕ, suc, _+_, _-_, _≤_, _<_}
+-- The table of what vanishes, row by row: row 0 has the empty stretch, and the next row has the empty stretch and, for each place that the new
+-- simple type may close, all that its row has.
+use Prim.Native.Nat.{ℕ, suc, _+_, _≤_, _<_}
 use native.Mathlib.Omega.{arith}
 use mathlib.Core.Path.{_≡_, sym, ap, _∙_}
 use mathlib.Core.Logic.{_↔_, ⊎-elim, Iff·trans}
 use mathlib.Core.List.{List}
-use lib.ListN.{getD, length, take, drop}
+use lib.ListN.{length, take, drop}
 use lib.Seq.{slice, slice-empty, take-take}
 use Rattle.pregroup.specs.Types.{PregroupType, plain}
 use Rattle.pregroup.specs.Order.{Relation}
-use Rattle.pregroup.specs.Vanish.{Contracts, Vanish, empty}
-use Rattle.bits.specs.Rows.{RowSays, Stored}
-use Rattle.bits.specs.Gathered.{Gathered, Only, itself, within}
-use Rattle.table.specs.Table.{atPlace, stringOf, ContractsAt, Stretch, Right, MemberPart}
+use Rattle.pregroup.specs.Vanish.{Contracts, empty}
+use Rattle.bits.specs.Rows.{InRow, RowSays, Stored}
+use Rattle.bits.specs.Gathered.{Gathered, Only, RowPart, itself, within}
+use Rattle.table.specs.Table.{atPlace, stringOf, ContractsAt, Stretch, Right, FitsBefore, Closable, Extended}
 use Rattle.bits.proofs.Cases.{less-or-not}
 use Rattle.table.proofs.Stretches.{length-string, take-string, string-at, LastLink, closes, last-link, last-closed}
 
@@ -34,7 +34,7 @@ right-of-string string table j m n h g right =
     right-agrees table j (take-string string j m h ∙ sym (take-string string j n g)) (λ k b. right k (omega arith))
 
 -- The empty stretch vanishes.
-empty-stretch : (Le : Relation) (X : PregroupType) (k : ℕ) → Stretch Le X k k
+pub empty-stretch : (Le : Relation) (X : PregroupType) (k : ℕ) → Stretch Le X k k
 empty-stretch Le X k = record { ordered = omega arith; vanishes = rw (slice-empty k X) empty }
 
 pub right-begins : {Le : Relation} {X : PregroupType} (table : List ℕ) → RowSays table 0 (λ i. i ≡ 0) → Right Le X table 0
@@ -42,68 +42,72 @@ right-begins {Le} {X} table says k h v =
     let e : k ≡ 0 = omega arith in
     rw e (λ m. rw (says v .0 m) (empty-stretch Le X 0), λ (s : Stretch Le X v 0). says v .1 (omega (arith, s .ordered)))
 
--- What a new simple type at k adds, where `Fits i` says that the one at i could contract with it.
-module _ {Le : Relation} (X : PregroupType) (table : List ℕ) (k : ℕ) (right : Right Le X table k) (b : k < length X) (Fits : ℕ → Type 0)
-    (fits-iff : (i : ℕ) → i < k → Fits i ↔ Contracts Le (atPlace X i) (atPlace X k)) where
-  stretch-of-part : (v j : ℕ) → MemberPart Fits table k j v → Stretch Le X v (suc k)
-  stretch-of-part v j p =
-      let i = j - 1 in
-      let reached = right k (omega arith) j .0 (p .reached) in
-      let inside = right i (omega (arith, reached .ordered)) v .0 (p .joined .behind) in
-      let one : j ≡ suc i = omega (arith, p .from-on) in
-      let between : Vanish Le (slice (suc i) k X) = rw one at (reached .vanishes) in
-      record {
-        ordered = omega (arith, reached .ordered, inside .ordered);
-        vanishes =
-            last-closed X v k b
-            (closes i (inside .ordered) (omega (arith, reached .ordered)) (fits-iff i (omega (arith, reached .ordered)) .0 (p .joined .fits)) between (inside .vanishes));
-      }
-
-  part-of-link : (v : ℕ) → LastLink Le X v k → Gathered (Only (suc k)) (MemberPart Fits table k) v
-  part-of-link v (closes i h g c u w) =
-      let e : suc i - 1 ≡ i = omega arith in
-      within (suc i) (record {
-        from-on = omega arith;
-        reached = right k (omega arith) (suc i) .1 (record { ordered = g; vanishes = u });
-        joined = rw e (record { fits = fits-iff i g .1 c; behind = right i (omega arith) v .1 (record { ordered = h; vanishes = w }) });
-      })
-
-  pub gathered-stretches : (v : ℕ) → Gathered (Only (suc k)) (MemberPart Fits table k) v ↔ Stretch Le X v (suc k)
-  gathered-stretches v = (forth, back)
+-- What a new simple type at k adds: a row of the places that it may close, and the row behind it.
+module _ {Le : Relation} (X : PregroupType) (table : List ℕ) (k : ℕ) (right : Right Le X table k) (b : k < length X) (closed : List ℕ)
+    (closes-says : RowSays closed 0 (Closable Le X k)) where
+  pub gathered-stretches :
+      (own : List ℕ) → RowSays own 0 (Only (k + 1)) → (v : ℕ) → Gathered (InRow own 0) (RowPart closed table) v ↔ Stretch Le X v (suc k)
+  gathered-stretches own alone v = (forth, back)
     where
-      forth : Gathered (Only (suc k)) (MemberPart Fits table k) v → Stretch Le X v (suc k)
-      forth (itself e) = rw e (empty-stretch Le X (suc k))
-      forth (within j p) = stretch-of-part v j p
+      forth : Gathered (InRow own 0) (RowPart closed table) v → Stretch Le X v (suc k)
+      forth (itself h) = let e : v ≡ suc k = omega (arith, alone v .0 h) in rw e (empty-stretch Le X (suc k))
+      forth (within i p) =
+          let c = closes-says i .0 (p .chosen) in
+          let s = right i (omega (arith, c .before)) v .0 (p .there) in
+          record { ordered = omega (arith, c .before, s .ordered); vanishes = last-closed X v k b (closes i c s) }
 
-      back : Stretch Le X v (suc k) → Gathered (Only (suc k)) (MemberPart Fits table k) v
+      of-link : LastLink Le X v k → Gathered (InRow own 0) (RowPart closed table) v
+      of-link (closes i c s) = within i (record { chosen = closes-says i .1 c; there = right i (omega (arith, c .before)) v .1 s })
+
+      back : Stretch Le X v (suc k) → Gathered (InRow own 0) (RowPart closed table) v
       back s =
-          ⊎-elim (λ (h : v < suc k). part-of-link v (last-link X v k (omega arith) b (s .vanishes)))
-          (λ (h : suc k ≤ v). itself (omega (arith, s .ordered))) (less-or-not v (suc k))
+          ⊎-elim (λ (h : v < suc k). of-link (last-link X v k (omega arith) b (s .vanishes)))
+          (λ (h : suc k ≤ v). itself (alone v .1 (omega (arith, s .ordered)))) (less-or-not v (suc k))
 
   -- One row more.
   pub right-extends :
-      (table′ words : List ℕ) → Stored table table′ words (suc k) → RowSays words 0 (Gathered (Only (suc k)) (MemberPart Fits table k))
-      → Right Le X table′ (suc k)
-  right-extends table′ words stored says j h v =
-      ⊎-elim (λ (g : j < suc k). Iff·trans (stored .others j (λ e. omega arith) v) (right j (omega arith) v))
-      (λ (g : suc k ≤ j). let e : j ≡ suc k = omega arith in rw e (Iff·trans (Iff·trans (stored .stored v) (says v)) (gathered-stretches v)))
-      (less-or-not j (suc k))
+      (own table′ words : List ℕ) → RowSays own 0 (Only (k + 1)) → Stored table table′ words (k + 1)
+      → RowSays words 0 (Gathered (InRow own 0) (RowPart closed table)) → Right Le X table′ (k + 1)
+  right-extends own table′ words alone stored says j h v =
+      let one : k + 1 ≡ suc k = omega arith in
+      ⊎-elim (λ (g : j < k + 1). Iff·trans (stored .others j (λ e. omega arith) v) (right j (omega arith) v))
+      (λ (g : k + 1 ≤ j). let e : j ≡ k + 1 = omega arith in
+      rw e (Iff·trans (Iff·trans (stored .stored v) (says v)) (rw one (gathered-stretches own alone v))))
+      (less-or-not j (k + 1))
 
--- The string that the bytes hold, with one simple type more.
-module _ {Le : Relation} (string : List ℕ) where
-  contracts-in-string :
-      (i k n : ℕ) → i < n → k < n
-      → ContractsAt Le string k i ↔ Contracts Le (getD (stringOf string n) i (plain 0)) (getD (stringOf string n) k (plain 0))
-  contracts-in-string i k n h g = rw (string-at string i n (plain 0) h, string-at string k n (plain 0) g) (λ c. c, λ c. c)
+-- The string that the numbers hold, with one simple type more.
+module _ {Le : Relation} (string table : List ℕ) (k : ℕ) (right : Right Le (stringOf string k) table k) where
+  abbrev X : PregroupType
+  X = stringOf string (k + 1)
+
+  right-so-far : Right Le X table k
+  right-so-far = right-of-string string table k k (k + 1) (omega arith) (omega arith) right
+
+  contracts-in-string : (i : ℕ) → i < k → ContractsAt Le string k i ↔ Contracts Le (atPlace X i) (atPlace X k)
+  contracts-in-string i h =
+      rw (string-at string i (k + 1) (plain 0) (omega arith), string-at string k (k + 1) (plain 0) (omega arith)) (λ c. c, λ c. c)
+
+  -- What fits before k by the table is what the simple type at k may close.
+  closable-iff : (i : ℕ) → FitsBefore (ContractsAt Le string k) table k i ↔ Closable Le X k i
+  closable-iff i =
+      let one : i + 1 ≡ suc i = omega arith in (
+        λ f.
+            let s = right-so-far k (omega arith) (i + 1) .0 (f .behind) in
+            let h : i < k = omega (arith, s .ordered) in
+            record { before = h; contracts = contracts-in-string i h .0 (f .fits); between = rw one at (s .vanishes) },
+        λ c. record {
+          fits = contracts-in-string i (c .before) .1 (c .contracts);
+          behind = right-so-far k (omega arith) (i + 1) .1 (record { ordered = omega (arith, c .before); vanishes = rw one (c .between) });
+        },
+      )
 
   pub string-extends :
-      (table table′ words : List ℕ) (k : ℕ) → Right Le (stringOf string k) table k
-      → RowSays words 0 (Gathered (Only (suc k)) (MemberPart (ContractsAt Le string k) table k)) → Stored table table′ words (k + 1)
-      → Right Le (stringOf string (k + 1)) table′ (k + 1)
-  string-extends table table′ words k right says stored =
-      let X = stringOf string (suc k) in
-      let e : k + 1 ≡ suc k = omega arith in
-      let before = right-of-string string table k k (suc k) (omega arith) (omega arith) right in
-      rw e
-      (right-extends X table k before (omega (arith, length-string string (suc k))) (ContractsAt Le string k)
-      (λ i h. contracts-in-string i k (suc k) (omega arith) (omega arith)) table′ words (rw e at stored) says)
+      (own closed table′ words : List ℕ) → RowSays closed 0 (FitsBefore (ContractsAt Le string k) table k) → RowSays own 0 (Only (k + 1))
+      → RowSays words 0 (Gathered (InRow own 0) (RowPart closed table)) → Stored table table′ words (k + 1)
+      → Extended Le X table′ closed k
+  string-extends own closed table′ words fit alone says stored =
+      let closes-says : RowSays closed 0 (Closable Le X k) = λ i. Iff·trans (fit i) (closable-iff i) in
+      record {
+        right = right-extends X table k right-so-far (omega (arith, length-string string (k + 1))) closed closes-says own table′ words alone stored says;
+        closes = closes-says;
+      }

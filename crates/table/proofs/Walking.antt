@@ -1,44 +1,24 @@
--- The walk over the members of row k from 1 on: each turn joins the part of one member, and passes over the numbers before the next one.
-use Prim.Native.Nat.{ℕ, _+_, _-_, _≤_, _<_}
+-- The places before the members of row k from 1 on, put into a row by a test: those that fit.
+use Prim.Native.Nat.{ℕ, _+_, _-_, _≤_}
 use native.Mathlib.Omega.{arith}
-use mathlib.Core.Logic.{_⊎_}
+use mathlib.Core.Path.{_≡_}
 use mathlib.Core.List.{List}
 use Rattle.figures.specs.Limits.{rowBits}
-use Rattle.bits.specs.Rows.{InRow, RowSays, NextMember}
-use Rattle.bits.specs.Gathered.{Gathered}
-use Rattle.table.specs.Table.{RowJoined, MemberPart}
-use Rattle.bits.proofs.Gathering.{GatheredTo, gather-starts, gather-one, gather-skip, gather-ends, part-says}
+use Rattle.bits.specs.Rows.{RowSays}
+use Rattle.bits.proofs.Walking.{PutPart, Putting, putting-ends}
+use Rattle.table.specs.Table.{FitsBefore}
 
--- The walk has come to j, and the row has the start and the parts of the members before j.
-pub record Walking (Start Fits : ℕ → Type 0) (table : List ℕ) (k : ℕ) (row : List ℕ) (j : ℕ) : Type 0 where
-  pub from-on : 1 ≤ j
-  pub near : j ≤ rowBits
-  pub member : j < rowBits → InRow table k j
-  pub gathered : GatheredTo row Start (MemberPart Fits table k) j
+-- The walk has come to j, and the row has the places before the members below j that fit.
+abbrev pub Placing : (ℕ → Type 0) → List ℕ → ℕ → List ℕ → ℕ → Type 0
+Placing Fits table k = Putting table k 1 (λ j. j - 1) (λ j. Fits (j - 1))
 
-module _ (Start Fits : ℕ → Type 0) (table : List ℕ) (k : ℕ) (row : List ℕ) where
-  pub walking-starts : (j : ℕ) → RowSays row 0 Start → NextMember table k 1 j → Walking Start Fits table k row j
-  walking-starts j says first = record {
-    from-on = first .from-on;
-    near = first .within;
-    member = first .member;
-    gathered = gather-starts Start (MemberPart Fits table k) row j says (λ m v h p. first .least m (p .from-on) h (p .reached));
-  }
+pub placing-ends : (Fits : ℕ → Type 0) (table : List ℕ) (k : ℕ) (row : List ℕ) (j : ℕ) → Placing Fits table k row j → rowBits ≤ j → RowSays row 0 (FitsBefore Fits table k)
+placing-ends Fits table k row j placing h = putting-ends table k 1 (λ i. i - 1) (λ i. Fits (i - 1)) row j placing h only every
+  where
+    only : (m i : ℕ) → PutPart table k 1 (λ i. i - 1) (λ i. Fits (i - 1)) m i → FitsBefore Fits table k i
+    only m i p = let up : m ≡ i + 1 = omega (arith, p .put, p .from-on) in record { fits = rw (p .put) (p .passes); behind = rw up at (p .reached) }
 
-  pub walking-turns :
-      (row′ : List ℕ) (j j′ : ℕ) → Walking Start Fits table k row j → j < rowBits
-      → RowSays row′ 0 (λ v. InRow row 0 v ⊎ RowJoined Fits table (j - 1) v) → NextMember table k (j + 1) j′ → Walking Start Fits table k row′ j′
-  walking-turns row′ j j′ walking h joins next =
-      let one = gather-one Start (MemberPart Fits table k) row row′ j (walking .gathered)
-      (part-says {B = RowJoined Fits table (j - 1)} row′ joins
-      (λ v. (λ p. record { from-on = walking .from-on; reached = walking .member h; joined = p }, λ p. p .joined))) in
-      record {
-        from-on = omega (arith, walking .from-on, next .from-on);
-        near = next .within;
-        member = next .member;
-        gathered = gather-skip Start (MemberPart Fits table k) row′ (j + 1) j′ one (next .from-on) (λ m v on l p. next .least m on l (p .reached));
-      }
-
-  pub walking-ends : (j : ℕ) → Walking Start Fits table k row j → rowBits ≤ j → RowSays row 0 (Gathered Start (MemberPart Fits table k))
-  walking-ends j walking h =
-      gather-ends Start (MemberPart Fits table k) row j (λ m v p. omega (arith, p .reached .small)) (walking .gathered)
+    every : (i : ℕ) → FitsBefore Fits table k i → (m : ℕ) × PutPart table k 1 (λ i. i - 1) (λ i. Fits (i - 1)) m i
+    every i f =
+        let down : i + 1 - 1 ≡ i = omega arith in
+        (i + 1, record { from-on = omega arith; reached = f .behind; put = omega arith; passes = rw down (f .fits) })

@@ -1,6 +1,6 @@
 -- A string of simple types as the code holds it, and the table of its stretches that vanish: row j has the places i such that the stretch
 -- from i up to, not including, j vanishes. Places count from 0.
-use Prim.Native.Nat.{ℕ, zero, suc, _-_, _≤_}
+use Prim.Native.Nat.{ℕ, zero, suc, _+_, _≤_, _<_}
 use mathlib.Core.List.{List, [], _∷_, _++_}
 use lib.ListN.{getD, length}
 use lib.Seq.{slice}
@@ -45,13 +45,18 @@ pub record StringThere (string : List ℕ) (n : ℕ) : Type 0 where
 abbrev pub Bounded : List ℕ → ℕ → Type 0
 Bounded table k = (j : ℕ) → InRow table k j → j ≤ k
 
--- v is in the row of i, and i fits.
-pub record RowJoined (Fits : ℕ → Type 0) (table : List ℕ) (i v : ℕ) : Type 0 where
+-- By row k: i fits, and what stands behind it, up to k, vanishes.
+pub record FitsBefore (Fits : ℕ → Type 0) (table : List ℕ) (k i : ℕ) : Type 0 where
   pub fits : Fits i
-  pub behind : InRow table i v
+  pub behind : InRow table k (i + 1)
 
--- The part of a member j of row k, from 1 on: what is joined by the place before it.
-pub record MemberPart (Fits : ℕ → Type 0) (table : List ℕ) (k j v : ℕ) : Type 0 where
-  pub from-on : 1 ≤ j
-  pub reached : InRow table k j
-  pub joined : RowJoined Fits table (j - 1) v
+-- The simple type at k may close the one at i: the two could contract, and what stands between them vanishes.
+pub record Closable (Le : Relation) (X : PregroupType) (k i : ℕ) : Type 0 where
+  pub before : i < k
+  pub contracts : Contracts Le (atPlace X i) (atPlace X k)
+  pub between : Vanish Le (slice (suc i) k X)
+
+-- The table is right up to the place behind k, and the row `closed` has the places that the simple type at k may close.
+pub record Extended (Le : Relation) (X : PregroupType) (table closed : List ℕ) (k : ℕ) : Type 0 where
+  pub right : Right Le X table (k + 1)
+  pub closes : RowSays closed 0 (Closable Le X k)

@@ -1,21 +1,22 @@
 -- `chart::simple_row` meets its contract: each turn joins the part of one member, and passes over the numbers before the next one.
 use native.Mathlib.Omega.{arith}
-use Prim.Native.Nat.{ℕ, _+_, _-_, _≤_, _<_}
+use Prim.Native.Nat.{_-_}
 use mathlib.Core.Path.{_≡_, refl}
 use lib.ListN.{getD}
 use Rattle.pregroup.specs.Held.{InRows}
 use Rattle.figures.specs.Limits.{rowBits}
-use Rattle.bits.specs.Rows.{InRow}
 use Rattle.bits.specs.Gathered.{Only}
-use Rattle.chart.specs.Chart.{Joined, LinkPart}
-use Rattle.bits.proofs.Gathering.{GatheredTo, gather-starts, gather-one, gather-skip, gather-ends, part-says, alone-says}
+use Rattle.chart.specs.Chart.{LinkPart}
+use Rattle.bits.proofs.Gathering.{part-says, alone-says}
+use Rattle.bits.proofs.Walking.{OfMembers, Walking, walking-starts, walking-turns, walking-ends}
+use Rattle.chart.proofs.Filling.{first-behind}
 use Rattle.chart.proofs.simple_row.Statement.{statement}
 use Rattle.chart.proofs.simple_row.Tie as tie
 
 abbrev Inv-loop : tie.InvT-loop
 Inv-loop order simples nexts rows u behind x row₀ y₀ row y =
-    (y ≤ rowBits) × ((behind ≡ getD nexts u 0) × (x ≡ getD simples u 0)) × (y < rowBits → InRow rows behind y)
-    × GatheredTo (row .words) (Only u) (LinkPart (InRows order) simples nexts rows u) y
+    (behind ≡ getD nexts u 0) × (x ≡ getD simples u 0)
+    × Walking rows (getD nexts u 0) (getD nexts u 0) (Only u) (LinkPart (InRows order) simples nexts rows u) (row .words) y
 
 abbrev μ-loop : tie.MeasureT-loop
 μ-loop order simples nexts rows u behind x row₀ y₀ row y = rowBits - y
@@ -41,26 +42,25 @@ empty-requires c κs = omega arith
 put-requires : tie.Need-put-requires Inv-loop μ-loop
 put-requires c κs = omega arith
 
--- The parts that are gathered.
-abbrev link-part : tie.Start Inv-loop μ-loop → ℕ → ℕ → Type 0
-link-part s = LinkPart (InRows (s .args .order .now)) (s .args .simples .now) (s .args .nexts .now) (s .args .rows .now) (s .args .u)
+-- The start, from a turn of the loop.
+abbrev entry : tie.At-loop Inv-loop μ-loop → tie.Start Inv-loop μ-loop
+entry c = c .before .before .before .before .before .before .before .before .before
+
+-- The parts that are gathered are those of members.
+parts :
+    (s : tie.Start Inv-loop μ-loop) → let a = s .args in
+    OfMembers (a .rows .now) (getD (a .nexts .now) (a .u) 0) (getD (a .nexts .now) (a .u) 0) (LinkPart (InRows (a .order .now)) (a .simples .now) (a .nexts .now) (a .rows .now) (a .u))
+parts s = record { member = λ m v p. p .reached; from-on = λ m v p. s .pre .1 .reached m (p .reached) .0 }
 
 loop-holds : tie.Need-loop-holds Inv-loop μ-loop
 loop-holds c =
     let s = c .before .before .before .before .before .before .before .before in
-    let there = s .pre .1 in (
-      omega (arith, there .first .small),
-      (refl, refl),
-      λ _. there .first,
-      gather-starts (Only (s .args .u)) (link-part s) _ (getD (s .args .nexts .now) (s .args .u) 0) (alone-says _ _ refl (c .before .empty .ensures) (c .put .ensures))
-          (λ m v h p. omega (arith, there .reached m (p .reached) .0)),
-    )
+    (refl, refl, walking-starts (parts s) _ _ (alone-says _ _ refl (c .before .empty .ensures) (c .put .ensures)) (first-behind (s .pre .1)))
 
 join-row-requires : tie.Need-join-row-requires Inv-loop μ-loop
 join-row-requires c κs =
     let l = c .before .loop in
-    let pre = c .before .before .before .before .before .before .before .before .before .before .pre .1 in
-    let there = pre .reached (l .y) (l .inv .2 (c .loop-test .taken)) in
+    let there = entry (c .before) .pre .1 .reached (l .y) (l .inv .2 .member (c .loop-test .taken)) in
     (there .1, there .2)
 
 add-next-member : tie.Need-add-next-member Inv-loop μ-loop
@@ -74,24 +74,16 @@ loop-less c = omega arith
 
 loop-again : tie.Need-loop-again Inv-loop μ-loop
 loop-again c =
-    let s = c .before .before .before .before .before .before .before .before .before .before .before .before in
-    let l = c .before .before .before .loop in
-    let next = c .next-member .ensures in
-    let one = gather-one (Only (s .args .u)) (link-part s) (l .row .words) (c .before .join-row .result .words) (l .y) (l .inv .3)
-    (part-says {B = Joined (InRows (s .args .order .now)) (s .args .simples .now) (s .args .nexts .now) (s .args .rows .now) (getD (s .args .simples .now) (s .args .u) 0) (l .y)} (c .before .join-row .result .words) (c .before .join-row .ensures)
-    (λ v. (λ j. record { reached = l .inv .2 (c .before .before .loop-test .taken); joined = j }, λ p. p .joined))) in (
-      next .within,
-      (refl, refl),
-      next .member,
-      gather-skip (Only (s .args .u)) (link-part s) (c .before .join-row .result .words) (l .y + 1) (c .next-member .result) one (next .from-on)
-          (λ m v on h p. next .least m on h (p .reached)),
-    )
+    let turn = c .before .before in
+    let l = turn .before .loop in
+    let s = entry (turn .before) in
+    let joined = c .before .join-row in
+    let part = part-says {C = LinkPart (InRows (s .args .order .now)) (s .args .simples .now) (s .args .nexts .now) (s .args .rows .now) (s .args .u) (l .y)} (joined .result .words) (joined .ensures)
+    (λ v. (λ j. record { reached = l .inv .2 .member (turn .loop-test .taken); joined = j }, λ p. p .joined)) in
+    (refl, refl, walking-turns (parts s) (l .row .words) (l .y) (l .inv .2) _ _ part (c .next-member .ensures))
 
 returns : tie.Need-returns Inv-loop μ-loop
-returns c =
-    let s = c .before .before .before .before .before .before .before .before .before .before in
-    let l = c .before .loop in
-    gather-ends (Only (s .args .u)) (link-part s) (l .row .words) (l .y) (λ m v p. omega (arith, p .reached .small)) (l .inv .3)
+returns c = let l = c .before .loop in walking-ends (parts (entry (c .before))) (l .row .words) (l .y) (l .inv .2) (c .loop-test .left)
 
 pub simple-row-spec : {M : Type 1} → statement M
 simple-row-spec =

@@ -1,48 +1,31 @@
--- `choice::grow` meets its contract: a row is made of the rows before and stored, the table extended, and the row of the new string gathered.
+-- `choice::grow` meets its contract: the partners are found, the table is extended, and the row of both is stored.
 use borrow.Author.Needs.{needs}
 use native.Mathlib.Omega.{arith}
-use Prim.Native.Nat.{_+_}
-use Rattle.pregroup.specs.Order.{Relation}
-use Rattle.pregroup.specs.Held.{InRows}
-use Rattle.choice.proofs.Growing.{leaving-there, grew}
+use mathlib.Core.Logic.{Iff·trans}
+use Rattle.bits.proofs.Gathering.{gathered-iff}
 use Rattle.choice.proofs.grow.Statement.{statement}
 use Rattle.choice.proofs.grow.Tie as tie
 
-abbrev the-order : tie.Start → Relation
-the-order s = InRows (s .args .order .now)
+-- The start, from where the table is extended.
+abbrev entry : tie.After-extend → tie.Start
+entry c = c .before .before .before .before .before .before .before .before .before .before .before
 
-mul-link-targets : tie.Need-mul-link-targets
-mul-link-targets c = search needs
-
-shared-slice-read-link-targets : tie.Need-shared-slice-read-link-targets
-shared-slice-read-link-targets c = search needs
-
-link-targets-requires : tie.Need-link-targets-requires
-link-targets-requires c κs = search needs
-
-add-store : tie.Need-add-store
-add-store c = search needs
-
-reaching-requires : tie.Need-reaching-requires
-reaching-requires c κs = search needs
-
-store-requires : tie.Need-store-requires
-store-requires c κs = let s = c .before .before .before .before .before .before .before .before .before .before .before in s .pre .leaving-room (s .args .j + 1) (omega arith)
+partners-requires : tie.Need-partners-requires
+partners-requires c κs = search needs
 
 extend-requires : tie.Need-extend-requires
 extend-requires c κs = search needs
 
-add-finished-row : tie.Need-add-finished-row
-add-finished-row c = omega (arith, c .before .before .before .before .before .before .before .before .before .before .before .before .before .before .before .before .before .before .before .before .pre .string-there .few)
+unite-all-requires : tie.Need-unite-all-requires
+unite-all-requires c κs = λ i h.
+    let extended = c .before .before .before in
+    omega (arith, entry extended .pre .needs-room, extended .extend .ensures .closes i .0 h .before)
 
-finished-row-requires : tie.Need-finished-row-requires
-finished-row-requires c κs =
-    let s = c .before .before .before .before .before .before .before .before .before .before .before .before .before .before .before .before .before .before .before .before in
-    let a = s .args in (
-      omega (arith, s .pre .table-room),
-      leaving-there (the-order s) (a .simples .now) (a .nexts .now) (a .rows .now) (a .count) (a .string .now) (a .j) (a .finishing .words) (a .table .now)
-          (a .leaving .now) (s .pre) _ (c .before .before .before .before .before .before .before .before .store .last .0) (c .before .before .before .before .extend .ensures) (c .before .before .before .before .before .before .before .before .store .ensures .length-kept),
-    )
+add-store : tie.Need-add-store
+add-store c = search needs
+
+store-requires : tie.Need-store-requires
+store-requires c κs = search needs
 
 same-length : tie.Need-same-length
 same-length c = search needs
@@ -52,24 +35,30 @@ same-length-2 c = search needs
 
 returns : tie.Need-returns
 returns c =
-    let s = c .before .before .before .before .before .before .before .before .before .before .before .before .before .before .before .before .before .before .before .before .before in
-    let a = s .args in
-    grew (the-order s) (a .simples .now) (a .nexts .now) (a .rows .now) (a .count) (a .string .now) (a .j) (a .finishing .words) (a .table .now)
-    (a .leaving .now) (s .pre) _ (c .before .before .before .before .before .before .before .before .before .before .before .before .link-targets .ensures) _ _ _ _ (c .before .before .before .before .before .before .before .before .before .before .reaching .ensures) (c .before .before .before .before .before .before .before .before .before .store .ensures) (c .before .before .before .before .before .extend .ensures) (c .finished-row .ensures)
+    let stored = c .before .before .store .ensures in
+    let united = c .before .before .before .before in
+    let extended = united .before .before .before .before in
+    let grown = extended .extend .ensures in
+    let partners = extended .before .before .partners .ensures in
+    record {
+      right = grown .right;
+      needs-new = λ v. Iff·trans (Iff·trans (stored .stored v) (united .unite-all .ensures v))
+          (gathered-iff partners (λ i w. (
+            λ p. record { closed = grown .closes i .0 (p .chosen); needed = p .there },
+            λ p. record { chosen = grown .closes i .1 (p .closed); there = p .needed },
+          )) v);
+      needs-kept = stored .others;
+    }
 
 pub grow-spec : {M : Type 1} → statement M
 grow-spec =
     tie.close
     (tie.spec
-    mul-link-targets
-    shared-slice-read-link-targets
-    link-targets-requires
-    add-store
-    reaching-requires
-    store-requires
+    partners-requires
     extend-requires
-    add-finished-row
-    finished-row-requires
+    unite-all-requires
+    add-store
+    store-requires
     same-length
     same-length-2
     returns)

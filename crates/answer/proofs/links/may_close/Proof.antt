@@ -32,14 +32,14 @@ member-requires c κs = search needs
 returns : tie.Need-returns
 returns c =
     let a = c .before .before .before .before .before .before .before .before .args in
-    false-iff (λ h. told-apart (a .order .now) _ _ (c .before .before .may-contract .ensures) (c .enum-told .given .1) (h .contract))
+    false-iff (λ h. told-apart (a .order .now) _ _ (c .before .before .may-contract .ensures) (c .enum-told .given .1) (h .fits))
 
 returns-2 : tie.Need-returns-2
 returns-2 c =
     let a = c .before .before .before .before .before .before .before .before .args in
     let may = told-contracts (a .order .now) _ _ (c .before .before .may-contract .ensures) (c .before .match .keys2) in
     let member = c .member .ensures in
-    (λ h. record { contract = may; between = member .0 h }, λ h. member .1 (h .between))
+    (λ h. record { fits = may; behind = member .0 h }, λ h. member .1 (h .behind))
 
 pub may-close-spec : {M : Type 1} → statement M
 may-close-spec =

@@ -25,12 +25,12 @@ returns : tie.Need-returns
 returns c =
     let may = c .before .before .may-remain .ensures in
     let member = c .member .ensures in
-    (λ h. record { remains = may .0 (c .before .if1 .taken); behind = member .0 h }, λ h. member .1 (h .behind))
+    (λ h. record { fits = may .0 (c .before .if1 .taken); behind = member .0 h }, λ h. member .1 (h .behind))
 
 returns-2 : tie.Need-returns-2
 returns-2 c =
     let may = c .before .may-remain .ensures in
-    false-iff (λ h. true≢false (sym (may .1 (h .remains)) ∙ c .if1 .left))
+    false-iff (λ h. true≢false (sym (may .1 (h .fits)) ∙ c .if1 .left))
 
 pub may-stay-spec : {M : Type 1} → statement M
 may-stay-spec =

@@ -1,10 +1,10 @@
--- `choice::sets::put_where` meets its contract: by the flag, one member more or none.
+-- `bits::rows::put_where` meets its contract: by the flag, one member more or none.
 use borrow.Author.Needs.{needs}
 use mathlib.Core.Path.{sym, _∙_}
 use mathlib.Core.Bool.{false≢true}
 use Rattle.bits.proofs.Gathering.{part-says, none-says}
-use Rattle.choice.proofs.sets.put_where.Statement.{statement}
-use Rattle.choice.proofs.sets.put_where.Tie as tie
+use Rattle.bits.proofs.rows.put_where.Statement.{statement}
+use Rattle.bits.proofs.rows.put_where.Tie as tie
 
 put-in-requires : tie.Need-put-in-requires
 put-in-requires c κs = search needs
