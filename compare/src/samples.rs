@@ -1,6 +1,7 @@
 //! Books and lines to time: a typical book with its lines and a batch of such, lines at the bounds where much contracts with much,
 //! books full of entries of one word or of words alike, the dearest line that a search has found, and books and lines in slash notation
-//! beside the same by numbers. Lines have one target, some of them again eight. A sample's name ends with whether its line reads.
+//! beside the same by numbers. Lines have one target, some of them again eight; the dearest line has eight, and again one. A sample's
+//! name ends with whether its line reads.
 mod dearest;
 mod full;
 mod hard;

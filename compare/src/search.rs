@@ -1,8 +1,10 @@
 //! A search for the dearest line: it climbs from several starts by small changes, on the cost by a model whose weights are fitted to
-//! instruction counts. `search.sh` counts what it finds.
+//! instruction counts. `search.sh` counts what it finds, as a line and as a batch of copies of it. A line takes less in a batch than alone,
+//! where its book is opened for it: the search climbs on lines.
 //!
 //! - `compare search [STEPS] [SEED]`: prints the dearest candidate that is found, as text.
-//! - `compare search read FILE`: reads each candidate of a file once with the library, for a tool that counts instructions.
+//! - `compare search read line|batch FILE`: reads each candidate of a file once with the library, its line or a batch of 32 copies of it,
+//!   for a tool that counts instructions.
 //! - `compare search spread COUNT SEED`: prints candidates for a fit.
 //! - `compare search fit FILE COUNTS`: prints the weights that fit the candidates of a file and their instruction counts.
 mod candidate;
@@ -16,11 +18,13 @@ mod weights;
 
 use crate::random::Random;
 use crate::readers::LIBRARY;
-pub use candidate::{Candidate, PAIR};
+use crate::twin::figures::limits::{MAX_BATCH_VALUES, MAX_VALUES};
+use crate::types::Refusal;
+pub use candidate::Candidate;
 pub use text::read as read_text;
 
 const USAGE: &str =
-    "compare search [STEPS] [SEED] | read FILE | spread COUNT SEED | fit FILE COUNTS";
+    "compare search [STEPS] [SEED] | read line|batch FILE | spread COUNT SEED | fit FILE COUNTS";
 
 /// What part of the cost a change may lose at the beginning of a climb; at its end it may lose nothing.
 const LOSS: f64 = 0.001;
@@ -29,7 +33,8 @@ const LOSS: f64 = 0.001;
 pub fn command(arguments: &[&str]) -> bool {
     let done = match *arguments {
         [] => search("15000", "1"),
-        ["read", file] => load(file).map(|all| all.iter().for_each(read_once)),
+        ["read", "line", file] => read_each(file, read_line),
+        ["read", "batch", file] => read_each(file, read_batch),
         ["spread", count, seed] => spread(count, seed),
         ["fit", file, counts] => print_fit(file, counts),
         [steps] => search(steps, "1"),
@@ -103,10 +108,24 @@ fn load(file: &str) -> Option<Vec<Candidate>> {
     text::read(&std::fs::read_to_string(file).ok()?)
 }
 
-fn read_once(candidate: &Candidate) {
+/// What a call of the library gives.
+type Outcome = Result<u64, Refusal>;
+
+fn read_each(file: &str, read: fn(&Candidate) -> Outcome) -> Option<()> {
+    for candidate in load(file)? {
+        println!("{:?}", read(&candidate));
+    }
+    Some(())
+}
+
+fn read_line(candidate: &Candidate) -> Outcome {
     let (book, line) = (candidate.book(), candidate.line_bytes());
-    let outcome = (LIBRARY.read_line)(&book, &line, &mut [0; 512]);
-    println!("{outcome:?}");
+    (LIBRARY.read_line)(&book, &line, &mut [0; MAX_VALUES])
+}
+
+fn read_batch(candidate: &Candidate) -> Outcome {
+    let (book, lines) = (candidate.book(), candidate.batch_bytes());
+    (LIBRARY.read_batch)(&book, &lines, &mut [0; MAX_BATCH_VALUES])
 }
 
 fn spread(count: &str, seed: &str) -> Option<()> {
@@ -139,20 +158,44 @@ mod tests {
     use super::*;
     use crate::books::word_ranges;
     use crate::readers::TWIN;
+    use crate::twin::figures::limits::MAX_TARGETS;
+    use crate::twin::figures::refusals::NO_READING;
     use crate::twin::keys::key_of;
-    use steps::Step;
 
-    /// The model's string is the answer's with the target behind it.
+    /// The exponents of the twin's choice with the target's behind them; none where there is no reading.
+    fn string_of_the_twin(candidate: &Candidate) -> Vec<i8> {
+        let (book, line) = (candidate.book(), candidate.line_bytes());
+        let mut answer = [0; MAX_VALUES];
+        if let Err(refusal) = (TWIN.read_line)(&book, &line, &mut answer) {
+            assert_eq!(refusal, (NO_READING, 0));
+            return Vec::new();
+        }
+        let entries = candidate.entries();
+        let chosen = answer[2..].iter().take(candidate.line.len());
+        let simples = chosen.flat_map(|&entry| entries[entry as usize].1);
+        simples.copied().chain([1]).collect()
+    }
+
     #[test]
     fn model_reads_as_the_twin_does() {
         for candidate in fit::spread(12, 1) {
-            let (book, line) = (candidate.book(), candidate.line_bytes());
-            let outcome = (TWIN.read_line)(&book, &line, &mut [0; 512]);
-            let places = model::count(&candidate).0[Step::Place as usize] as u64;
-            match outcome {
-                Ok(values) => assert_eq!(places + 2 + candidate.line.len() as u64, values),
-                Err(refusal) => assert_eq!((places, refusal), (0, (15, 0))),
+            for targets in 1..=MAX_TARGETS {
+                let candidate = Candidate {
+                    targets,
+                    ..candidate.clone()
+                };
+                let string = model::read(&candidate).string;
+                assert_eq!(string, string_of_the_twin(&candidate));
             }
+        }
+    }
+
+    #[test]
+    fn batch_has_32_lines() {
+        for candidate in fit::spread(2, 1) {
+            let (book, lines) = (candidate.book(), candidate.batch_bytes());
+            let outcome = (TWIN.read_batch)(&book, &lines, &mut [0; MAX_BATCH_VALUES]);
+            assert_eq!(outcome, Ok(32));
         }
     }
 
@@ -165,6 +208,12 @@ mod tests {
             assert_eq!(text::write(&read[0]), text);
             assert_eq!(read[0].book(), candidate.book());
         }
+    }
+
+    #[test]
+    fn text_without_targets_has_one() {
+        let read = text::read("word 0\nline 0\n").expect("the text is read");
+        assert_eq!(read[0].targets, 1);
     }
 
     /// The keys of a candidate's words are those that the model takes them to have.

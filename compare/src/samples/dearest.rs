@@ -1,33 +1,35 @@
-//! The dearest line that the search has found, and the same with eight targets.
+//! The dearest line that the search has found, which has eight targets, and the same with one.
 use super::Sample;
-use crate::books::Records;
-use crate::search::{self, Candidate, PAIR};
+use crate::search::{self, Candidate};
 
-/// The line and its book, from the text that the search printed.
-pub fn dearest() -> Sample {
+/// What the search has found, from the text that it printed.
+fn found() -> Candidate {
     let candidates = search::read_text(include_str!("dearest.txt"));
-    let candidates = candidates.expect("the text of candidates");
-    let dearest: &Candidate = &candidates[0];
+    let first = candidates
+        .expect("the text of candidates")
+        .into_iter()
+        .next();
+    first.expect("a candidate")
+}
+
+fn sample(name: &str, candidate: &Candidate) -> Sample {
     Sample {
-        name: "dearest of a search, reads".to_string(),
-        book: dearest.book(),
-        line: dearest.line_bytes(),
+        name: name.to_string(),
+        book: candidate.book(),
+        line: candidate.line_bytes(),
     }
 }
 
-/// The line with seven targets more, all equal, in the place of the book's last pairs.
-pub fn dearest_of_eight_targets() -> Sample {
-    let Sample { mut book, line, .. } = dearest();
-    let mut targets = Records::default();
-    for _ in 0..7 {
-        targets.target(0);
-    }
-    let targets = targets.bytes();
-    book.truncate(book.len() - targets.len().next_multiple_of(PAIR));
-    book.extend(targets);
-    Sample {
-        name: "dearest of a search, eight equal targets, reads".to_string(),
-        book,
-        line,
-    }
+/// The line and its book.
+pub fn dearest() -> Sample {
+    sample("dearest of a search, reads", &found())
+}
+
+/// The line with one target.
+pub fn dearest_of_one_target() -> Sample {
+    let candidate = Candidate {
+        targets: 1,
+        ..found()
+    };
+    sample("dearest of a search, one target, reads", &candidate)
 }

@@ -1,6 +1,6 @@
 //! Lines against full books: 1,024 entries of one word, of words alike or of words with one key, hard lines in a book at its bounds, and
-//! the dearest line, with one target and with eight.
-use super::dearest::{dearest, dearest_of_eight_targets};
+//! the dearest line, with eight targets and with one.
+use super::dearest::{dearest, dearest_of_one_target};
 use super::hard::{self, Bases, Exponents};
 use super::Sample;
 use crate::books::Records;
@@ -107,7 +107,7 @@ pub fn full() -> Vec<Sample> {
         samples.push(crowded(kind, &words));
     }
     samples.push(dearest());
-    samples.push(dearest_of_eight_targets());
+    samples.push(dearest_of_one_target());
     let (book, line) = alike_book();
     let capitals = line.to_ascii_uppercase();
     for (kind, line) in [("24 words", line), ("24 words in capitals", capitals)] {

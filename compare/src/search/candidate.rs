@@ -1,15 +1,16 @@
-//! A book and a line as the search changes them: the exponents of each word's entries, the line's words, and which words share a key.
-//! The basic types are all equal by a cycle of the order, so that their numbers do not matter, and the book is filled up to its limits.
+//! A book and a line as the search changes them: the exponents of each word's entries, the line's words, which words share a key, and
+//! how many targets there are. The basic types are all equal by a cycle of the order, so that their numbers do not matter, and the book
+//! is filled up to its limits.
 use crate::books::Records;
 use crate::twin::figures::limits::{
-    MAX_BOOK, MAX_ENTRIES, MAX_ENTRY_SIMPLES, MAX_LINE_SIMPLES, MAX_TYPES, MAX_WORDS,
+    MAX_BOOK, MAX_ENTRIES, MAX_ENTRY_SIMPLES, MAX_LINES, MAX_LINE_SIMPLES, MAX_TYPES, MAX_WORDS,
 };
 
 /// The number of basic types as a type number.
 const TYPES: u8 = MAX_TYPES as u8;
 
 /// How many bytes a pair's record has.
-pub const PAIR: usize = 6;
+const PAIR: usize = 6;
 
 /// What words and the names of types begin with. They differ in their last bytes alone, and have seven: so few are compared one by
 /// one, which is dearer than up to 31 of them eight at a time.
@@ -23,7 +24,7 @@ const STRANGER: usize = MAX_WORDS + 1;
 pub type Entry = Vec<i8>;
 
 /// A book and a line.
-#[derive(Clone, Default)]
+#[derive(Clone)]
 pub struct Candidate {
     /// The entries of each word.
     pub words: Vec<Vec<Entry>>,
@@ -32,6 +33,8 @@ pub struct Candidate {
     /// Where all words have one key, how many entries of a stranger stand before theirs, as far as there is room. Where each word has a
     /// key of its own, nothing.
     pub strangers: Option<usize>,
+    /// How many targets the book has. All are equal.
+    pub targets: usize,
 }
 
 impl Candidate {
@@ -99,7 +102,7 @@ impl Candidate {
         all
     }
 
-    /// The book: types, their cycle, the target, the entries, and as many pairs of a type with itself as there is room for.
+    /// The book: types, their cycle, the targets, the entries, and as many pairs of a type with itself as there is room for.
     pub fn book(&self) -> Vec<u8> {
         let mut book = Records::default();
         for number in 0..TYPES {
@@ -108,7 +111,9 @@ impl Candidate {
         for number in 0..TYPES {
             book.pair(number, (number + 1) % TYPES);
         }
-        book.target(0);
+        for _ in 0..self.targets {
+            book.target(0);
+        }
         for (word, entry) in self.entries() {
             let simples: Vec<(u8, i8)> = entry.iter().map(|&exponent| (0, exponent)).collect();
             book.entry(self.spelt(word).as_bytes(), &simples);
@@ -131,6 +136,13 @@ impl Candidate {
     pub fn line_bytes(&self) -> Vec<u8> {
         let words: Vec<String> = self.line.iter().map(|&word| self.spelt(word)).collect();
         words.join(" ").to_ascii_uppercase().into_bytes()
+    }
+
+    /// A batch of as many copies of the line as it may have, each closed by byte 10.
+    pub fn batch_bytes(&self) -> Vec<u8> {
+        let mut line = self.line_bytes();
+        line.push(10);
+        line.repeat(MAX_LINES)
     }
 }
 

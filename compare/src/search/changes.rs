@@ -1,12 +1,12 @@
 //! Small changes of a candidate, picked at random.
 use super::candidate::{Candidate, Entry};
 use crate::random::Random;
-use crate::twin::figures::limits::{MAX_ENTRIES, MAX_ENTRY_SIMPLES};
+use crate::twin::figures::limits::{MAX_ENTRIES, MAX_ENTRY_SIMPLES, MAX_TARGETS};
 
 type Change = fn(&mut Candidate, &mut Random);
 
 /// What may be changed, some of it more often.
-const CHANGES: [Change; 18] = [
+const CHANGES: [Change; 19] = [
     change_exponent,
     change_exponent,
     change_exponent,
@@ -25,6 +25,7 @@ const CHANGES: [Change; 18] = [
     change_place,
     swap_places,
     change_strangers,
+    change_targets,
 ];
 
 /// How many changes are made at once, at most.
@@ -183,4 +184,8 @@ fn swap_places(candidate: &mut Candidate, random: &mut Random) {
 fn change_strangers(candidate: &mut Candidate, random: &mut Random) {
     let some = random.below(MAX_ENTRIES);
     candidate.strangers = *random.pick(&[None, Some(0), Some(some), Some(MAX_ENTRIES)]);
+}
+
+fn change_targets(candidate: &mut Candidate, random: &mut Random) {
+    candidate.targets = 1 + random.below(MAX_TARGETS);
 }

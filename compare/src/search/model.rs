@@ -4,7 +4,10 @@ use super::candidate::{Candidate, Entry};
 use super::steps::{Step, Steps};
 use super::weights::WEIGHTS;
 use crate::twin::figures::limits::{ROW_BITS, ROW_WORDS};
-use crate::twin::rows::{empty, member, next_member, put, put_in, store, unite, words_of, Row};
+use crate::twin::graph::end_of;
+use crate::twin::rows::{
+    empty, member, next_member, put, put_in, store, unite, unite_all, words_of, Row,
+};
 
 /// How exponents from -8 to 8, and those beside them, are numbered.
 const EXPONENTS: usize = 19;
@@ -20,17 +23,22 @@ pub fn cost(candidate: &Candidate) -> f64 {
 
 /// The steps that reading a candidate takes.
 pub fn count(candidate: &Candidate) -> Steps {
+    read(candidate).steps
+}
+
+/// Reads a candidate. Where it has no reading, the string stays empty.
+pub fn read(candidate: &Candidate) -> Reading {
     let mut reading = Reading::new(candidate);
     reading.fill();
-    if member(&reading.chart, 0, reading.end()) {
+    if member(&reading.chart, 0, reading.end) {
         reading.choose();
         reading.link();
     }
-    reading.steps
+    reading
 }
 
-/// A line's graph with its chart, the chosen string with its table, and the steps so far.
-struct Reading {
+/// A line's graph with its chart, the chosen string with its table and its needs, and the steps so far.
+pub struct Reading {
     steps: Steps,
     exponents: Vec<i8>,
     /// The node behind each, 0 for a boundary.
@@ -39,12 +47,15 @@ struct Reading {
     enters: Vec<Vec<usize>>,
     /// The simple nodes of each exponent.
     nodes: [Row; EXPONENTS],
+    /// The end of the first target. All are equal: it has a reading where any has.
+    end: usize,
     chart: Vec<u64>,
-    string: Vec<i8>,
+    /// The exponents of the chosen string, with the target's behind it.
+    pub string: Vec<i8>,
     /// The places behind simple types of each exponent.
     places: [Row; EXPONENTS],
     table: Vec<u64>,
-    leaving: Vec<u64>,
+    needs: Vec<u64>,
 }
 
 /// Row u of rows.
@@ -77,21 +88,18 @@ impl Reading {
             nexts: Vec::new(),
             enters: Vec::new(),
             nodes: [empty(); EXPONENTS],
+            end: 0,
             chart: Vec::new(),
             string: Vec::new(),
             places: [empty(); EXPONENTS],
             table: Vec::new(),
-            leaving: Vec::new(),
+            needs: Vec::new(),
         };
         reading.steps.add(Step::Call, 1);
         reading.look_up(candidate);
         reading.lay_out(candidate);
         reading.chart = vec![0; ROW_WORDS * reading.nexts.len()];
         reading
-    }
-
-    fn end(&self) -> usize {
-        self.nexts.len() - 1
     }
 
     fn boundary(&mut self) {
@@ -134,11 +142,7 @@ impl Reading {
         for &word in &candidate.line {
             self.lay_word(&candidate.words[word]);
         }
-        let goal = self.nexts.len() + 1;
-        self.boundary();
-        self.enters[goal - 1].push(goal);
-        self.simple(1, goal + 1);
-        self.boundary();
+        self.lay_goals(candidate.targets);
     }
 
     fn lay_word(&mut self, entries: &[Entry]) {
@@ -154,6 +158,20 @@ impl Reading {
                 self.simple(exponent, if last { behind } else { first + k + 1 });
             }
         }
+    }
+
+    /// The boundary behind the last word, with a slot for each target; a target has a simple node and an end of its own.
+    fn lay_goals(&mut self, targets: usize) {
+        let last = self.nexts.len();
+        self.end = end_of(last, 0);
+        self.boundary();
+        for _ in 0..targets {
+            let goal = self.nexts.len();
+            self.enters[last].push(goal);
+            self.simple(1, goal + 1);
+            self.boundary();
+        }
+        self.steps.add(Step::Target, targets);
     }
 
     fn fill(&mut self) {
@@ -174,29 +192,32 @@ impl Reading {
     }
 
     fn simple_row(&mut self, u: usize, behind: usize) -> Row {
-        let walked = words_of(&self.chart, behind);
-        let fits = common(walked, &self.nodes[number(self.exponents[u] + 1)]);
+        let fits = self.fitting(u, Step::ChartMember, Step::ChartJoin);
         self.steps.add(Step::ChartWord, ROW_WORDS - behind / 64);
-        self.steps.add(Step::ChartMember, size(walked));
-        self.steps.add(Step::ChartJoin, size(&fits.words));
         let own = put(empty(), u);
         members(fits).fold(own, |row, y| unite(row, &self.chart, self.nexts[y]))
     }
 
+    /// The members of the chart's row behind the simple node u that its simple type may contract with. A member walked and one that fits
+    /// are steps of the kinds.
+    fn fitting(&mut self, u: usize, walk: Step, fit: Step) -> Row {
+        let walked = words_of(&self.chart, self.nexts[u]);
+        let fits = common(walked, &self.nodes[number(self.exponents[u] + 1)]);
+        self.steps.add(walk, size(walked));
+        self.steps.add(fit, size(&fits.words));
+        fits
+    }
+
     fn choose(&mut self) {
-        let end = self.end();
-        let mut finishing = empty();
-        for u in (0..=end).filter(|&u| member(&self.chart, u, end)) {
-            put_in(&mut finishing.words, u);
-        }
+        self.steps.add(Step::Choice, 1);
         self.table.extend(put(empty(), 0).words);
-        self.leaving.extend(finishing.words);
+        self.needs.extend(put(empty(), self.end).words);
         let mut u = 0;
-        while u != end {
+        while u != self.end {
             if self.nexts[u] == 0 {
                 u = self.first_slot(u);
             } else {
-                finishing = self.grow(&finishing, self.exponents[u]);
+                self.grow(u);
                 u = self.nexts[u];
             }
         }
@@ -204,69 +225,63 @@ impl Reading {
 
     /// The node that the first slot of a boundary enters from which the string is finished.
     fn first_slot(&mut self, u: usize) -> usize {
-        let row = row_at(&self.table, self.string.len());
         for slot in 0..self.enters[u].len() {
             let node = self.enters[u][slot];
-            self.steps.add(Step::Try, 1);
-            for m in members(row) {
-                self.steps.add(Step::TryMember, 1);
-                if member(&self.leaving, m, node) {
-                    return node;
-                }
+            if self.meets(node, Step::SlotWord) {
+                return node;
             }
         }
         unreachable!("a line that reads has a slot that fits");
     }
 
-    /// Adds a simple type to the string, and the rows for it; the nodes from which the string is then finished.
-    fn grow(&mut self, finishing: &Row, exponent: i8) -> Row {
-        self.steps.add(Step::Place, 1);
-        let targets = self.link_targets(finishing, exponent);
-        let reaching = self.reaching(&targets);
-        self.leaving.extend(reaching.words);
-        let row = self.next_row(exponent);
-        self.table.extend(row.words);
+    /// Whether row u of the chart and the last row of the needs have a member in common. Each word compared is a step of the kind.
+    fn meets(&mut self, u: usize, word: Step) -> bool {
+        let reached = words_of(&self.chart, u);
+        let needed = words_of(&self.needs, self.string.len());
+        let met = (0..ROW_WORDS).find(|&k| reached[k] & needed[k] != 0);
+        self.steps.add(word, met.map_or(ROW_WORDS, |k| k + 1));
+        met.is_some()
+    }
+
+    /// Adds the simple type of node u to the string, and the rows for it.
+    fn grow(&mut self, u: usize) {
+        let exponent = self.exponents[u];
+        let closers = self.partners(u);
+        let closed = self.closed_by(exponent);
         self.string.push(exponent);
-        put_in(&mut self.places[number(exponent)].words, self.string.len());
-        self.steps.add(Step::TableMember, size(&row.words));
-        members(row).fold(empty(), |row, m| unite(row, &self.leaving, m))
+        let n = self.string.len();
+        put_in(&mut self.places[number(exponent)].words, n);
+        let vanishing = unite_all(put(empty(), n), &self.table, closed);
+        self.table.extend(vanishing.words);
+        let needed = unite_all(closers, &self.needs, closed);
+        self.needs.extend(needed.words);
+        self.steps.add(Step::Place, 1);
+        self.steps.add(Step::Closed, size(&closed.words));
     }
 
-    fn link_targets(&mut self, finishing: &Row, exponent: i8) -> Row {
-        let fits = self.nodes[number(exponent + 1)];
-        let mut targets = empty();
-        for u in members(fits).filter(|&u| member(&finishing.words, 0, self.nexts[u])) {
-            put_in(&mut targets.words, u);
-        }
-        self.steps.add(Step::LinkNode, self.nexts.len());
-        self.steps.add(Step::LinkFit, size(&fits.words));
-        self.steps.add(Step::Link, size(&targets.words));
-        targets
-    }
-
-    fn reaching(&mut self, targets: &Row) -> Row {
-        let mut row = empty();
-        for u in 0..self.nexts.len() {
-            let words = words_of(&self.chart, u);
-            match (0..ROW_WORDS).find(|&k| words[k] & targets.words[k] != 0) {
-                Some(k) => {
-                    self.steps.add(Step::MeetWord, k + 1);
-                    self.steps.add(Step::Meet, 1);
-                    put_in(&mut row.words, u);
-                }
-                None => self.steps.add(Step::MeetWord, ROW_WORDS),
+    /// The nodes that may close the link of the simple node u.
+    fn partners(&mut self, u: usize) -> Row {
+        let mut partners = empty();
+        for y in members(self.fitting(u, Step::PartnerMember, Step::PartnerFit)) {
+            if self.meets(self.nexts[y], Step::MeetWord) {
+                put_in(&mut partners.words, y);
             }
         }
-        row
+        self.steps.add(Step::Meet, size(&partners.words));
+        partners
     }
 
-    /// The row of the table behind one more simple type.
-    fn next_row(&mut self, exponent: i8) -> Row {
-        let n = self.string.len();
-        let fits = common(words_of(&self.table, n), &self.places[number(exponent - 1)]);
-        self.steps.add(Step::TableJoin, size(&fits.words));
-        let own = put(empty(), n + 1);
-        members(fits).fold(own, |row, j| unite(row, &self.table, j - 1))
+    /// The places that a simple type behind the string may close. Member 0 of the table's row is not walked.
+    fn closed_by(&mut self, exponent: i8) -> Row {
+        let walked = words_of(&self.table, self.string.len());
+        let fits = common(walked, &self.places[number(exponent - 1)]);
+        let unwalked = usize::from(member(walked, 0, 0));
+        self.steps.add(Step::TableMember, size(walked) - unwalked);
+        let mut closed = empty();
+        for j in members(fits) {
+            put_in(&mut closed.words, j - 1);
+        }
+        closed
     }
 
     /// Links the chosen string but for the target's simple type behind it.

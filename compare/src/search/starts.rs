@@ -1,5 +1,5 @@
 //! Candidates to start from: one word in all places but the last, with an entry of twelve that vanishes, nine of one simple type
-//! before or behind it, and an empty one. Both words have one key.
+//! before or behind it, and an empty one. Both words have one key, and there is one target.
 use super::candidate::{Candidate, Entry};
 use crate::twin::figures::limits::{MAX_ENTRY_SIMPLES, MAX_WORDS};
 
@@ -21,6 +21,7 @@ fn start(exponent: i8, before: bool) -> Candidate {
         words: vec![word, last],
         line,
         strangers: Some(0),
+        targets: 1,
     }
 }
 

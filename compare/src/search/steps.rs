@@ -9,28 +9,28 @@ pub enum Step {
     /// The look-up: an entry of another word passed on a key's thread, one put on the thread of its word.
     Pass,
     Join,
-    /// The layout: an entry of a word's thread, which was tallied for the line and is again for the word; a simple type laid.
+    /// The layout: an entry of a word's thread, which was tallied for the line and is again for the word; a simple type laid; a target.
     Found,
     Simple,
+    Target,
     /// The chart: a row joined to that of a boundary; for a simple node, a word of the row walked, a member, one that is joined.
     Enter,
     ChartWord,
     ChartMember,
     ChartJoin,
-    /// The choice: a place; for each place, a node looked at, one whose exponent fits, one to link to.
+    /// What each choice takes; a word of a slot's row compared with the needs.
+    Choice,
+    SlotWord,
+    /// A place of the choice; for its partners, a member of the chart's row walked, one whose exponent fits, a word of the row behind that
+    /// one compared with the needs, a row that meets them.
     Place,
-    LinkNode,
-    LinkFit,
-    Link,
-    /// A word in which a row and the nodes to link to are compared, a row that meets them.
+    PartnerMember,
+    PartnerFit,
     MeetWord,
     Meet,
-    /// The table: a member of its rows, one that is joined.
+    /// The table: a member of its row walked; a closed place, whose rows of the table and of the needs are joined to the new ones.
     TableMember,
-    TableJoin,
-    /// A slot tried, a member walked for it.
-    Try,
-    TryMember,
+    Closed,
     /// The linking: a member walked.
     NearestMember,
 }

@@ -1,7 +1,16 @@
 //! Candidates as text: for each word a row `word 0 1 | -1 | -` with its entries parted by bars and a dash for an empty one, where all
-//! words have one key a row `strangers 8`, and a row `line 0 0 1` that ends the candidate.
+//! words have one key a row `strangers 8`, a row `targets 2`, without which there is one target, and a row `line 0 0 1` that ends the
+//! candidate.
 use super::candidate::{Candidate, Entry};
 use std::fmt::Display;
+
+/// A candidate of which no row is read.
+const UNREAD: Candidate = Candidate {
+    words: Vec::new(),
+    line: Vec::new(),
+    strangers: None,
+    targets: 1,
+};
 
 /// The text of a candidate.
 pub fn write(candidate: &Candidate) -> String {
@@ -13,6 +22,7 @@ pub fn write(candidate: &Candidate) -> String {
     if let Some(strangers) = candidate.strangers {
         text += &format!("strangers {strangers}\n");
     }
+    text += &format!("targets {}\n", candidate.targets);
     text + &format!("line {}\n", spaced(&candidate.line))
 }
 
@@ -31,7 +41,7 @@ fn spaced(numbers: &[impl Display]) -> String {
 /// All candidates of a text; none where a row cannot be read.
 pub fn read(text: &str) -> Option<Vec<Candidate>> {
     let mut all = Vec::new();
-    let mut candidate = Candidate::default();
+    let mut candidate = UNREAD;
     for row in text.lines() {
         match row.split_once(' ')? {
             ("word", entries) => {
@@ -39,11 +49,12 @@ pub fn read(text: &str) -> Option<Vec<Candidate>> {
                 candidate.words.push(entries?);
             }
             ("strangers", count) => candidate.strangers = Some(count.parse().ok()?),
+            ("targets", count) => candidate.targets = count.parse().ok()?,
             ("line", words) => {
                 let words: Option<Vec<usize>> =
                     words.split(' ').map(|word| word.parse().ok()).collect();
                 candidate.line = words?;
-                all.push(std::mem::take(&mut candidate));
+                all.push(std::mem::replace(&mut candidate, UNREAD));
             }
             _ => return None,
         }

@@ -1,7 +1,7 @@
-//! What a step of each kind costs in instructions, in the order of `Step`: the output of `search.sh fit 400 1`.
+//! What a step of each kind costs in instructions, in the order of `Step`: the output of `search.sh fit 400 1` with the library.
 use super::steps::Steps;
 
 pub const WEIGHTS: Steps = Steps([
-    700772.03, -657.93, 147.99, 227.48, 33.88, 16.40, 59.38, 20.61, 21.66, 26.19, 474.71, 14.78,
-    13.85, 9.88, 2.13, 6.33, 46.97, 26.72, 122.60, 17.96, -9.42,
+    667182.78, 350.01, 148.03, 225.70, 60.07, 17.85, 155.25, 65.49, 15.46, 18.81, 29.07, 42633.64,
+    4.27, 495.23, 18.81, 20.80, 2.87, 8.01, 21.73, 84.51, 44.07,
 ]);

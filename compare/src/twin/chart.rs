@@ -23,14 +23,14 @@ fn join_row(
     x: u16,
     y: usize,
 ) -> Row {
+    if !pregroup::may_contract(order, x, simples[y]) {
+        return row;
+    }
     let next = nexts[y];
     if next == 0 {
         return row;
     }
-    if pregroup::may_contract(order, x, simples[y]) {
-        return rows::unite(row, rows, next as usize);
-    }
-    row
+    rows::unite(row, rows, next as usize)
 }
 
 /// The row of the simple node u: itself, and what it can be linked past. The first member of the row behind u is the node behind u.

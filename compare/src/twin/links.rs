@@ -1,6 +1,6 @@
 //! The first linking of a string that reduces to the target, given the table of what vanishes: each position stays unlinked if it can,
 //! and else takes the nearest partner that leaves the rest linkable. Partners count from 1.
-use super::figures::limits::ROW_BITS;
+use super::figures::limits::{ROW_BITS, ROW_WORDS};
 use super::pregroup;
 use super::rows::{self, Row};
 
@@ -51,31 +51,16 @@ fn write_link(answer: &mut [u16], at: usize, i: usize, k: usize) {
     answer[at + k] = (i + 1) as u16;
 }
 
-/// The row with that of u, where the simple type at u may remain.
-fn join_remaining(
-    order: &[u64],
-    string: &[u16],
-    target: u8,
-    table: &[u64],
-    row: Row,
-    u: usize,
-) -> Row {
-    if pregroup::may_remain(order, string[u], target) {
-        return rows::unite(row, table, u);
-    }
-    row
-}
-
-/// The places from which the string reduces to the target: what stands before each simple type that may remain and has what vanishes
-/// behind it.
-fn reducing_row(order: &[u64], string: &[u16], target: u8, table: &[u64], m: usize) -> Row {
-    let mut row = rows::empty();
+/// The places that may stay unlinked.
+fn staying(order: &[u64], string: &[u16], target: u8, table: &[u64], m: usize) -> Row {
+    let mut words = [0; ROW_WORDS];
     let mut j = rows::next_member(table, m, 1);
     while j < ROW_BITS {
-        row = join_remaining(order, string, target, table, row, j - 1);
+        let may = pregroup::may_remain(order, string[j - 1], target);
+        rows::put_where(&mut words, j - 1, may);
         j = rows::next_member(table, m, j + 1);
     }
-    row
+    Row { words }
 }
 
 /// Writes the partners of the stretch from i up to j, which vanishes: each the nearest that leaves the rest vanishing.
@@ -120,7 +105,7 @@ fn link_from(
 }
 
 /// Writes the first linking of the string of the first m simple types, which reduces to the target, into `answer` from `at` on: m
-/// partners.
+/// partners. It reduces from a place where what stands from there up to one that may stay vanishes.
 pub fn first_linking(
     order: &[u64],
     string: &[u16],
@@ -130,6 +115,7 @@ pub fn first_linking(
     answer: &mut [u16],
     at: usize,
 ) {
-    let row = reducing_row(order, string, target, table, m);
+    let stays = staying(order, string, target, table, m);
+    let row = rows::unite_all(rows::empty(), table, stays);
     link_from(order, string, target, table, &row.words, m, 0, answer, at);
 }

@@ -11,7 +11,7 @@ mod choice;
 mod compare;
 pub mod figures;
 mod find;
-mod graph;
+pub mod graph;
 pub mod keys;
 mod letters;
 mod line;

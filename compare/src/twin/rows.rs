@@ -75,3 +75,22 @@ pub fn next_member(rows: &[u64], u: usize, from: usize) -> usize {
     }
     ROW_BITS
 }
+
+/// Puts v into a row where it stands, where the flag says so.
+#[inline]
+pub fn put_where(words: &mut [u64; ROW_WORDS], v: usize, flag: bool) {
+    if flag {
+        put_in(words, v);
+    }
+}
+
+/// The members of the row and those of each row whose number is in the set.
+#[inline]
+pub fn unite_all(mut row: Row, rows: &[u64], set: Row) -> Row {
+    let mut u = next_member(&set.words, 0, 0);
+    while u < ROW_BITS {
+        row = unite(row, rows, u);
+        u = next_member(&set.words, 0, u + 1);
+    }
+    row
+}

@@ -104,10 +104,9 @@ fn read_or_ask(
     let mut string = [0u16; MAX_PLACES];
     let mut slots = [0u16; MAX_NODES];
     let mut table = [0u64; TABLE_WORDS];
-    let mut leaving = [0u64; TABLE_WORDS];
+    let mut needs = [0u64; TABLE_WORDS];
     let places = choose(
         order,
-        count_nodes(last, targets.len()),
         &simples,
         &nexts,
         &froms,
@@ -118,7 +117,7 @@ fn read_or_ask(
         &mut string,
         &mut slots,
         &mut table,
-        &mut leaving,
+        &mut needs,
     );
     let m = places - 1;
     let needed = 3 + words + m;
