@@ -18,6 +18,10 @@ Inv-loop rows chosen all₀ u₀ all u = Walking chosen 0 0 (InRow (all₀ .word
 abbrev μ-loop : tie.MeasureT-loop
 μ-loop rows chosen all₀ u₀ all u = rowBits - u
 
+-- The start, from a turn of the loop.
+abbrev entry : tie.At-loop Inv-loop μ-loop → tie.Start Inv-loop μ-loop
+entry c = c .before .before .before .before .before
+
 set-long : (s : tie.Start Inv-loop μ-loop) → length (s .args .set .words) ≡ rowWords
 set-long s = sym (length-map (s .args .set .words) (λ (x : ℕ). x)) ∙ s .good .1 .1 .0 .1 .1 .0 .1 .0 .1
 
@@ -34,16 +38,16 @@ loop-holds : tie.Need-loop-holds Inv-loop μ-loop
 loop-holds c = walking-starts (parts _ _) _ _ (λ v. (λ h. h, λ h. h)) (c .next-member .ensures)
 
 unite-requires : tie.Need-unite-requires Inv-loop μ-loop
-unite-requires c κs = c .before .before .before .before .before .before .pre (c .before .loop .u) (c .before .loop .inv .member (c .loop-test .taken))
+unite-requires c κs = entry (c .before) .pre (c .before .loop .u) (c .before .loop .inv .member (c .loop-test .taken))
 
 slice-aggregate-next-member-2 : tie.Need-slice-aggregate-next-member-2 Inv-loop μ-loop
-slice-aggregate-next-member-2 c = sym (set-long (c .before .before .before .before .before .before .before .before))
+slice-aggregate-next-member-2 c = sym (set-long (entry (c .before .before .before)))
 
 add-next-member : tie.Need-add-next-member Inv-loop μ-loop
 add-next-member c = omega arith
 
 next-member-requires-2 : tie.Need-next-member-requires-2 Inv-loop μ-loop
-next-member-requires-2 c κs = (omega (arith, set-long (c .before .before .before .before .before .before .before .before)), omega arith)
+next-member-requires-2 c κs = (omega (arith, set-long (entry (c .before .before .before))), omega arith)
 
 loop-less : tie.Need-loop-less Inv-loop μ-loop
 loop-less c = omega (arith, c .next-member2 .ensures .from-on)
@@ -52,7 +56,7 @@ loop-again : tie.Need-loop-again Inv-loop μ-loop
 loop-again c =
     let l = c .before .before .before .before .loop in
     let u = c .before .before .unite in
-    let a = c .before .before .before .before .before .before .before .before .before .args in
+    let a = entry (c .before .before .before .before) .args in
     let part = part-says {C = RowPart (a .set .words) (a .rows .now) (l .u)} (u .result .words) (u .ensures) (λ v. (λ h. record { chosen = l .inv .member (c .before .before .before .loop-test .taken); there = h }, λ p. p .there)) in
     walking-turns (parts _ _) (l .all .words) (l .u) (l .inv) _ _ part (c .next-member2 .ensures)
 

@@ -40,7 +40,9 @@ shared-slice-read-x : tie.Need-shared-slice-read-x Inv-loop μ-loop
 shared-slice-read-x c = omega arith
 
 loop-holds : tie.Need-loop-holds Inv-loop μ-loop
-loop-holds c = (refl, refl, refl, putting-starts _ _ _ _ _ _ _ empty-says (first-behind (c .before .before .before .before .before .before .before .pre .0)))
+loop-holds c =
+    let s = c .before .before .before .before .before .before .before in
+    (refl, refl, refl, putting-starts _ _ _ _ _ _ _ empty-says (first-behind (s .pre .0)))
 
 slice-aggregate-put-where : tie.Need-slice-aggregate-put-where Inv-loop μ-loop
 slice-aggregate-put-where c = omega arith
