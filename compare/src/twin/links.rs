@@ -105,7 +105,7 @@ fn link_from(
 }
 
 /// Writes the first linking of the string of the first m simple types, which reduces to the target, into `answer` from `at` on: m
-/// partners. It reduces from a place where what stands from there up to one that may stay vanishes.
+/// partners. The row has the places from which the string reduces: what stands between such a place and one that may stay vanishes.
 pub fn first_linking(
     order: &[u64],
     string: &[u16],
