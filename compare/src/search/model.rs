@@ -4,7 +4,7 @@ use super::candidate::{Candidate, Entry};
 use super::steps::{Step, Steps};
 use super::weights::WEIGHTS;
 use crate::twin::figures::limits::{ROW_BITS, ROW_WORDS};
-use crate::twin::graph::end_of;
+use crate::twin::layout::end_at;
 use crate::twin::rows::{
     empty, member, next_member, put, put_in, store, unite, unite_all, words_of, Row,
 };
@@ -163,7 +163,7 @@ impl Reading {
     /// The boundary behind the last word, with a slot for each target; a target has a simple node and an end of its own.
     fn lay_goals(&mut self, targets: usize) {
         let last = self.nexts.len();
-        self.end = end_of(last, 0);
+        self.end = end_at(last, 0);
         self.boundary();
         for _ in 0..targets {
             let goal = self.nexts.len();

@@ -1,13 +1,15 @@
-//! Reads a batch of lines against a book: the lines are counted, the book is opened once, each line is read into a store, and the store
-//! is copied into the lent buffer where its values fit.
-use super::figures::limits::{MAX_BATCH, MAX_BATCH_VALUES, MAX_ENTRIES, MAX_LINES, MAX_TARGETS};
+//! Reads a batch of lines against a book: the lines are counted, the book is opened once, each line is read into a store behind the
+//! others, with one list of threads for all, and the store is copied into the lent buffer where its values fit.
+use super::book::Scan;
+use super::figures::limits::{MAX_BATCH, MAX_BATCH_VALUES, MAX_ENTRIES, MAX_LINES};
 use super::figures::refusals::{ANSWERS_TOO_LONG, BAD_BATCH};
-use super::keys::{NO_ENTRY, PLACES};
-use super::reader::{open, read_open, Answer, Open};
+use super::names::Names;
+use super::opening::open_book;
+use super::reader::{read_open, Answer};
 use super::search::find_byte;
 
 /// The byte that closes a line.
-const CLOSE: u8 = 10;
+const LINE_BREAK: u8 = 10;
 
 /// How many lines there are, or `BAD_BATCH`.
 fn count_lines(lines: &[u8]) -> Answer {
@@ -16,7 +18,7 @@ fn count_lines(lines: &[u8]) -> Answer {
     }
     let mut count = 0;
     for &byte in lines {
-        if byte == CLOSE {
+        if byte == LINE_BREAK {
             count += 1;
         }
     }
@@ -24,67 +26,107 @@ fn count_lines(lines: &[u8]) -> Answer {
         return Err((BAD_BATCH, 0));
     }
     match lines.last() {
-        Some(&last) if last != CLOSE => Err((BAD_BATCH, 0)),
+        Some(&last) if last != LINE_BREAK => Err((BAD_BATCH, 0)),
         _ => Ok(count),
     }
 }
 
-/// Reads a line and makes its part at `used` of the store: the count of the values behind it, 0 and the answer, or the number of the
-/// refusal and its value. What is returned is where the part ends.
+/// Puts a refused line's part, and gives how many values it has.
+fn put_refusal(part: &mut [u16], number: u32, value: usize) -> usize {
+    part[0] = 2;
+    part[1] = number as u16;
+    part[2] = value as u16;
+    3
+}
+
+/// Puts the two values before an answer that stands behind them already, and gives how many values the part has.
+fn put_head(part: &mut [u16], values: usize) -> usize {
+    part[0] = (1 + values) as u16;
+    part[1] = 0;
+    2 + values
+}
+
+/// Reads a line and puts its part. Gives how many values it has.
 fn read_part(
     book: &[u8],
-    offsets: &[u16],
+    names: &Names,
+    entries: &[u16],
     alike: &[u16],
-    open: &Open,
+    order: &[u64],
     targets: &[u8],
+    same: &mut [u16],
     line: &[u8],
-    store: &mut [u16],
-    used: usize,
+    part: &mut [u16],
 ) -> usize {
-    let answer = &mut store[used + 2..];
-    let length = match read_open(book, offsets, alike, open, targets, line, answer) {
-        Ok(values) => {
-            store[used + 1] = 0;
-            values
-        }
-        Err((number, value)) => {
-            store[used + 1] = number as u16;
-            store[used + 2] = value as u16;
-            1
-        }
-    };
-    store[used] = 1 + length as u16;
-    used + 2 + length
+    let answer = &mut part[2..];
+    match read_open(
+        book, names, entries, alike, order, targets, same, line, answer,
+    ) {
+        Ok(values) => put_head(part, values),
+        Err((number, value)) => put_refusal(part, number, value),
+    }
+}
+
+/// Reads all lines of a batch and puts their parts one behind another. Gives how many values these are.
+fn read_parts(
+    book: &[u8],
+    names: &Names,
+    entries: &[u16],
+    alike: &[u16],
+    order: &[u64],
+    targets: &[u8],
+    same: &mut [u16],
+    batch: &[u8],
+    store: &mut [u16],
+) -> usize {
+    let mut at = 0;
+    let mut used = 0;
+    while at < batch.len() {
+        let end = find_byte(batch, at, LINE_BREAK);
+        used += read_part(
+            book,
+            names,
+            entries,
+            alike,
+            order,
+            targets,
+            same,
+            &batch[at..end],
+            &mut store[used..],
+        );
+        at = end + 1;
+    }
+    used
 }
 
 /// Reads lines, each closed by byte 10: how many there are, or a refusal.
 #[inline(never)]
 pub fn read_batch(book: &[u8], lines: &[u8], answers: &mut [u16]) -> Answer {
     let count = count_lines(lines)?;
-    let mut offsets = [0u16; MAX_ENTRIES];
-    let mut alike = [NO_ENTRY; PLACES];
-    let mut targets = [0u8; MAX_TARGETS];
-    let open = open(book, &mut offsets, &mut alike, &mut targets)?;
-    let mut store = [0u16; MAX_BATCH_VALUES];
-    let mut used = 0;
-    let mut at = 0;
-    while at < lines.len() {
-        let end = find_byte(lines, at, CLOSE);
-        used = read_part(
-            book,
-            &offsets,
-            &alike,
-            &open,
-            &targets[..open.targets],
-            &lines[at..end],
-            &mut store,
-            used,
-        );
-        at = end + 1;
+    let open = open_book(book);
+    match open.scan {
+        Scan::Refused { number, value } => Err((number, value)),
+        Scan::Accepted {
+            entries, targets, ..
+        } => {
+            let mut same = [0u16; MAX_ENTRIES];
+            let mut store = [0u16; MAX_BATCH_VALUES];
+            let used = read_parts(
+                book,
+                &open.names,
+                &open.entries[..entries],
+                &open.alike,
+                &open.order,
+                &open.targets[..targets],
+                &mut same,
+                lines,
+                &mut store,
+            );
+            if answers.len() < used {
+                return Err((ANSWERS_TOO_LONG, used));
+            }
+            answers[..used].copy_from_slice(&store[..used]);
+            Ok(count)
+        }
     }
-    if answers.len() < used {
-        return Err((ANSWERS_TOO_LONG, used));
-    }
-    answers[..used].copy_from_slice(&store[..used]);
-    Ok(count)
 }

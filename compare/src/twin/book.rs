@@ -161,7 +161,7 @@ fn kind_at(book: &[u8], at: usize) -> usize {
 }
 
 /// How many simple types the entry at an offset has.
-pub fn count_simples(book: &[u8], at: usize) -> usize {
+pub fn entry_length(book: &[u8], at: usize) -> usize {
     let part = type_part(body_at(book, at));
     match kind_at(book, at) {
         SLASHED => count_names(part),

@@ -2,6 +2,7 @@
 //! its places a row of the nodes that are needed there.
 use super::bits;
 use super::figures::limits::{ROW_BITS, ROW_WORDS};
+use super::graph::{entered_at, from_at, next_at, simple_at, to_at};
 use super::pregroup;
 use super::rows::{self, Row};
 use super::table;
@@ -23,37 +24,28 @@ fn meets(chart: &[u64], u: usize, needs: &[u64], n: usize) -> bool {
 /// Whether y is simple, x may contract with it, and what is needed after n places can be reached from behind it.
 fn links_to(
     order: &[u64],
-    simples: &[u16],
-    nexts: &[u16],
+    nodes: &[u64],
     chart: &[u64],
     needs: &[u64],
     n: usize,
     x: u16,
     y: usize,
 ) -> bool {
-    if !pregroup::may_contract(order, x, simples[y]) {
+    if !pregroup::may_contract(order, x, simple_at(nodes, y)) {
         return false;
     }
-    let next = nexts[y];
-    next != 0 && meets(chart, next as usize, needs, n)
+    let next = next_at(nodes, y);
+    next != 0 && meets(chart, next, needs, n)
 }
 
 /// The nodes that the simple node u, chosen behind n places, may be linked to. The first member of the row behind u is the node behind u.
-fn partners(
-    order: &[u64],
-    simples: &[u16],
-    nexts: &[u16],
-    chart: &[u64],
-    needs: &[u64],
-    n: usize,
-    u: usize,
-) -> Row {
-    let behind = nexts[u] as usize;
-    let x = simples[u];
+fn partners(order: &[u64], nodes: &[u64], chart: &[u64], needs: &[u64], n: usize, u: usize) -> Row {
+    let behind = next_at(nodes, u);
+    let x = simple_at(nodes, u);
     let mut words = [0; ROW_WORDS];
     let mut y = behind;
     while y < ROW_BITS {
-        let links = links_to(order, simples, nexts, chart, needs, n, x, y);
+        let links = links_to(order, nodes, chart, needs, n, x, y);
         rows::put_where(&mut words, y, links);
         y = rows::next_member(chart, behind, y + 1);
     }
@@ -70,8 +62,7 @@ fn start(end: usize, table: &mut [u64], needs: &mut [u64]) {
 /// it closes a place, what was needed there.
 fn grow(
     order: &[u64],
-    simples: &[u16],
-    nexts: &[u16],
+    nodes: &[u64],
     chart: &[u64],
     u: usize,
     string: &[u16],
@@ -79,7 +70,7 @@ fn grow(
     table: &mut [u64],
     needs: &mut [u64],
 ) {
-    let partners = partners(order, simples, nexts, chart, needs, n, u);
+    let partners = partners(order, nodes, chart, needs, n, u);
     let closed = table::extend(order, string, n, table);
     rows::store(needs, n + 1, rows::unite_all(partners, needs, closed));
 }
@@ -87,7 +78,7 @@ fn grow(
 /// The first slot from whose node the string of n places is finished: a search over slots and over the nodes that are needed, which part
 /// the rest into what vanishes and what the open link closes on; 64 nodes at a time, and left from inside once one is found.
 fn first_slot(
-    enters: &[u16],
+    slots: &[u64],
     chart: &[u64],
     needs: &[u64],
     n: usize,
@@ -96,7 +87,7 @@ fn first_slot(
 ) -> usize {
     let mut s = from;
     'search: while s < to {
-        let node = enters[s] as usize;
+        let node = entered_at(slots, s);
         let mut k = 0;
         while k < ROW_WORDS {
             if meets_in(chart, node, needs, n, k) {
@@ -109,43 +100,43 @@ fn first_slot(
     s
 }
 
-/// The first choice of a line that reads for the target of an end: the slot of each word into `slots`, its simple types with the target
-/// behind them into `string`, and the table of that string into `table`. `needs` is for rows on the way. How many simple types there
-/// are is returned.
+/// How many words the choice has, and how many simple types.
+pub struct Chosen {
+    pub words: usize,
+    pub places: usize,
+}
+
+/// The first choice of a line that reads for the target of an end: the slot of each word into `chosen`, its simple types with the target
+/// behind them into `string`, and the table of that string into `table`. `needs` is for rows on the way.
 pub fn choose(
     order: &[u64],
-    simples: &[u16],
-    nexts: &[u16],
-    froms: &[u16],
-    tos: &[u16],
-    enters: &[u16],
+    nodes: &[u64],
+    slots: &[u64],
     chart: &[u64],
     end: usize,
     string: &mut [u16],
-    slots: &mut [u16],
+    chosen: &mut [u16],
     table: &mut [u64],
     needs: &mut [u64],
-) -> usize {
+) -> Chosen {
     start(end, table, needs);
     let mut u = 0;
     let mut words = 0;
     let mut places = 0;
     while u != end {
-        if nexts[u] == 0 {
-            let from = froms[u] as usize;
-            let to = tos[u] as usize;
-            let slot = first_slot(enters, chart, needs, places, from, to);
-            slots[words] = slot as u16;
+        let next = next_at(nodes, u);
+        if next == 0 {
+            let (from, to) = (from_at(nodes, u), to_at(nodes, u));
+            let slot = first_slot(slots, chart, needs, places, from, to);
+            chosen[words] = slot as u16;
             words += 1;
-            u = enters[slot] as usize;
+            u = entered_at(slots, slot);
         } else {
-            string[places] = simples[u];
-            grow(
-                order, simples, nexts, chart, u, string, places, table, needs,
-            );
+            string[places] = simple_at(nodes, u);
+            grow(order, nodes, chart, u, string, places, table, needs);
             places += 1;
-            u = nexts[u] as usize;
+            u = next;
         }
     }
-    places
+    Chosen { words, places }
 }

@@ -44,8 +44,11 @@ pub mod limits {
     pub const MAX_LINES: usize = 32;
     pub const MAX_BATCH: usize = 65535;
 
+    /// How many values an answer has beside entries and partners: the target's number, the number of words and that of simple types.
+    pub const ANSWER_HEAD: usize = 3;
+
     /// How many values hold any answer, and the answers of any batch: before each stand a count and a number.
-    pub const MAX_VALUES: usize = 3 + MAX_WORDS + MAX_STRING;
+    pub const MAX_VALUES: usize = ANSWER_HEAD + MAX_WORDS + MAX_STRING;
     pub const MAX_BATCH_VALUES: usize = MAX_LINES * (2 + MAX_VALUES);
 }
 

@@ -1,21 +1,14 @@
 //! A word found in a book: the thread of its entries, and how many simple types these have.
-use super::book::{count_simples, wide_number};
+use super::book::{entry_length, wide_number};
 use super::figures::limits::MAX_ENTRIES;
 use super::keys::{entry_word, key_of};
 use super::letters::same_word;
 
 /// The first of a word's entries on the thread of its key, from an entry on.
-fn seek(
-    book: &[u8],
-    offsets: &[u16],
-    count: usize,
-    alike: &[u16],
-    word: &[u8],
-    from: usize,
-) -> usize {
+fn seek(book: &[u8], entries: &[u16], alike: &[u16], word: &[u8], from: usize) -> usize {
     let mut i = from;
-    while i < count {
-        if same_word(entry_word(book, wide_number(offsets[i])), word) {
+    while i < entries.len() {
+        if same_word(entry_word(book, wide_number(entries[i])), word) {
             return i;
         }
         i = wide_number(alike[i]);
@@ -24,18 +17,10 @@ fn seek(
 }
 
 /// Threads the entries of a word, from its first one on.
-fn join(
-    book: &[u8],
-    offsets: &[u16],
-    count: usize,
-    alike: &[u16],
-    word: &[u8],
-    first: usize,
-    same: &mut [u16],
-) {
+fn join(book: &[u8], entries: &[u16], alike: &[u16], word: &[u8], first: usize, same: &mut [u16]) {
     let mut i = first;
-    while i < count {
-        let next = seek(book, offsets, count, alike, word, wide_number(alike[i]));
+    while i < entries.len() {
+        let next = seek(book, entries, alike, word, wide_number(alike[i]));
         same[i] = next as u16;
         i = next;
     }
@@ -45,26 +30,25 @@ fn join(
 /// already.
 pub fn find_word(
     book: &[u8],
-    offsets: &[u16],
-    count: usize,
+    entries: &[u16],
     alike: &[u16],
     word: &[u8],
     same: &mut [u16],
 ) -> usize {
     let head = wide_number(alike[MAX_ENTRIES + key_of(word)]);
-    let first = seek(book, offsets, count, alike, word, head);
-    if first < count && same[first] == 0 {
-        join(book, offsets, count, alike, word, first, same);
+    let first = seek(book, entries, alike, word, head);
+    if first < entries.len() && same[first] == 0 {
+        join(book, entries, alike, word, first, same);
     }
     first
 }
 
 /// How many simple types the entries of a thread have together.
-pub fn tally(book: &[u8], offsets: &[u16], count: usize, same: &[u16], first: usize) -> usize {
+pub fn tally(book: &[u8], entries: &[u16], same: &[u16], first: usize) -> usize {
     let mut sum = 0;
     let mut i = first;
-    while i < count {
-        sum += count_simples(book, wide_number(offsets[i]));
+    while i < entries.len() {
+        sum += entry_length(book, wide_number(entries[i]));
         i = wide_number(same[i]);
     }
     sum

@@ -27,8 +27,8 @@ pub fn entry_word(book: &[u8], at: usize) -> &[u8] {
 }
 
 /// Threads the entries of a book by their keys, from the last to the first, so that each thread has them in the book's order.
-pub fn thread_entries(book: &[u8], offsets: &[u16], count: usize, alike: &mut [u16]) {
-    for (i, &at) in offsets[..count].iter().enumerate().rev() {
+pub fn thread_entries(book: &[u8], entries: &[u16], alike: &mut [u16]) {
+    for (i, &at) in entries.iter().enumerate().rev() {
         let head = MAX_ENTRIES + key_of(entry_word(book, wide_number(at)));
         alike[i] = alike[head];
         alike[head] = i as u16;

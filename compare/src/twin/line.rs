@@ -60,31 +60,28 @@ fn split(line: &[u8], starts: &mut [usize], ends: &mut [usize]) -> CheckedLine {
 }
 
 /// Looks up all words of a line: each must have an entry (13), and all entries together not too many simple types (14). The first entry
-/// of each word is kept in `firsts`, and the thread of all in `same`.
+/// of each word goes into `firsts`, and `same` threads the others.
 fn look_up(
     book: &[u8],
-    offsets: &[u16],
-    count: usize,
+    entries: &[u16],
     alike: &[u16],
     line: &[u8],
     starts: &[usize],
     ends: &[usize],
-    words: usize,
-    same: &mut [u16],
     firsts: &mut [u16],
+    same: &mut [u16],
 ) -> CheckedLine {
     let mut sum = 0;
-    for k in 0..words {
-        let (start, end) = (starts[k], ends[k]);
-        let first = find_word(book, offsets, count, alike, &line[start..end], same);
-        if count <= first {
+    for (k, (&start, &end)) in starts.iter().zip(ends).enumerate() {
+        let first = find_word(book, entries, alike, &line[start..end], same);
+        if entries.len() <= first {
             return CheckedLine::Refused {
                 number: UNKNOWN_WORD,
                 value: start,
             };
         }
         firsts[k] = first as u16;
-        sum += tally(book, offsets, count, same, first);
+        sum += tally(book, entries, same, first);
     }
     if MAX_LINE_SIMPLES < sum {
         return CheckedLine::Refused {
@@ -92,26 +89,26 @@ fn look_up(
             value: 0,
         };
     }
-    CheckedLine::Found(words)
+    CheckedLine::Found(starts.len())
 }
 
-/// Checks a line against a book whose entries are threaded: how many words it has, with their entries in `firsts` and `same`, or the
-/// refusal 11 to 14 that it gets.
+/// Checks a line against a book whose entries are threaded by their keys: how many words it has, with their entries in `firsts` and
+/// `same`, or the refusal 11 to 14 that it gets. What `same` has is about the book, so that the next line can go on with it.
 pub fn check_line(
     book: &[u8],
-    offsets: &[u16],
-    count: usize,
+    entries: &[u16],
     alike: &[u16],
     line: &[u8],
-    same: &mut [u16],
     firsts: &mut [u16],
+    same: &mut [u16],
 ) -> CheckedLine {
     let mut starts = [0usize; MAX_WORDS];
     let mut ends = [0usize; MAX_WORDS];
     match split(line, &mut starts, &mut ends) {
-        CheckedLine::Found(words) => look_up(
-            book, offsets, count, alike, line, &starts, &ends, words, same, firsts,
-        ),
+        CheckedLine::Found(words) => {
+            let (starts, ends) = (&starts[..words], &ends[..words]);
+            look_up(book, entries, alike, line, starts, ends, firsts, same)
+        }
         refused => refused,
     }
 }

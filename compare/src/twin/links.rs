@@ -5,9 +5,9 @@ use super::pregroup;
 use super::rows::{self, Row};
 
 /// Whether i may stay unlinked: its simple type may remain, and what stands behind it vanishes.
-fn may_stay(order: &[u64], string: &[u16], target: u8, table: &[u64], m: usize, i: usize) -> bool {
+fn may_stay(order: &[u64], string: &[u16], target: u8, table: &[u64], i: usize) -> bool {
     if pregroup::may_remain(order, string[i], target) {
-        return rows::member(table, m, i + 1);
+        return rows::member(table, string.len(), i + 1);
     }
     false
 }
@@ -52,7 +52,8 @@ fn write_link(answer: &mut [u16], at: usize, i: usize, k: usize) {
 }
 
 /// The places that may stay unlinked.
-fn staying(order: &[u64], string: &[u16], target: u8, table: &[u64], m: usize) -> Row {
+fn staying(order: &[u64], string: &[u16], target: u8, table: &[u64]) -> Row {
+    let m = string.len();
     let mut words = [0; ROW_WORDS];
     let mut j = rows::next_member(table, m, 1);
     while j < ROW_BITS {
@@ -88,34 +89,32 @@ fn link_from(
     target: u8,
     table: &[u64],
     ends: &[u64],
-    m: usize,
     i: usize,
     answer: &mut [u16],
     at: usize,
 ) {
-    if may_stay(order, string, target, table, m, i) {
+    if may_stay(order, string, target, table, i) {
         write_stay(answer, at, i);
-        link_within(order, string, table, i + 1, m, answer, at);
+        link_within(order, string, table, i + 1, string.len(), answer, at);
     } else {
         let k = nearest(order, string, table, ends, 0, i);
         write_link(answer, at, i, k);
         link_within(order, string, table, i + 1, k, answer, at);
-        link_from(order, string, target, table, ends, m, k + 1, answer, at);
+        link_from(order, string, target, table, ends, k + 1, answer, at);
     }
 }
 
-/// Writes the first linking of the string of the first m simple types, which reduces to the target, into `answer` from `at` on: m
-/// partners. The row has the places from which the string reduces: what stands between such a place and one that may stay vanishes.
+/// Writes the first linking of the string, which reduces to the target, into `answer` from `at` on: a partner for each simple type. The row
+/// has the places from which the string reduces: what stands between such a place and one that may stay vanishes.
 pub fn first_linking(
     order: &[u64],
     string: &[u16],
-    m: usize,
     target: u8,
     table: &[u64],
     answer: &mut [u16],
     at: usize,
 ) {
-    let stays = staying(order, string, target, table, m);
+    let stays = staying(order, string, target, table);
     let row = rows::unite_all(rows::empty(), table, stays);
-    link_from(order, string, target, table, &row.words, m, 0, answer, at);
+    link_from(order, string, target, table, &row.words, 0, answer, at);
 }

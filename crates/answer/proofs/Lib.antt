@@ -1,4 +1,5 @@
--- The laws of what is written into an answer: its first values, then the links, from the search for the nearest to the first linking, and the whole.
+-- The laws of what is written into an answer: its first values, then the links, from the search for the nearest to the first linking, and the whole; and
+-- those of its parts.
 pub mod ValueLaws
 pub mod LinkSearch
 pub mod Nearest
@@ -8,3 +9,4 @@ pub mod LinkWriting
 pub mod FirstLinked
 pub mod WrittenLaws
 pub mod GivenLaws
+pub mod PartLaws

@@ -59,25 +59,25 @@ module _ (Le : Relation) (string table ends : List ℕ) (e i : ℕ) where
   }
 
   -- The search stands at j with the partner that it has found: `rowBits` as long as there is none, and then one before j.
-  pub data Seeking (j : ℕ) : ℕ → Type 0 where
-    ahead : Searched j → Seeking j rowBits
-    behind : {k : ℕ} → k < j → NearestLink Le string table ends e i k → Seeking j k
+  pub data SeekingPartner (j : ℕ) : ℕ → Type 0 where
+    ahead : Searched j → SeekingPartner j rowBits
+    behind : {k : ℕ} → k < j → NearestLink Le string table ends e i k → SeekingPartner j k
 
-  pub seeking-starts : (j : ℕ) → NextMember ends e (i + 2) j → Seeking j rowBits
+  pub seeking-starts : (j : ℕ) → NextMember ends e (i + 2) j → SeekingPartner j rowBits
   seeking-starts j first = ahead (search-starts j first)
 
-  pub seeking-ahead : {j k : ℕ} → Seeking j k → j < k → (i + 2 ≤ j) × (j < rowBits) × InRow ends e j
+  pub seeking-ahead : {j k : ℕ} → SeekingPartner j k → j < k → (i + 2 ≤ j) × (j < rowBits) × InRow ends e j
   seeking-ahead (ahead s) h = (s .from-on, h, s .member h)
   seeking-ahead (behind l n) h = absurd (omega arith)
 
   pub seeking-turns :
-      {j j′ k k′ : ℕ} {may : Bool} → Seeking j k → j < k → (may ≡ true) ↔ Closes Le string table i (j - 1) → NextMember ends e (j + 1) j′
-      → ((may ≡ true) × (k′ ≡ j - 1)) ⊎ ((may ≡ false) × (k′ ≡ k)) → Seeking j′ k′
+      {j j′ k k′ : ℕ} {may : Bool} → SeekingPartner j k → j < k → (may ≡ true) ↔ Closes Le string table i (j - 1) → NextMember ends e (j + 1) j′
+      → ((may ≡ true) × (k′ ≡ j - 1)) ⊎ ((may ≡ false) × (k′ ≡ k)) → SeekingPartner j′ k′
   seeking-turns {j} {j′} (ahead s) h says next (inl w) =
       rw (w .1) (behind {k = j - 1} (omega (arith, next .from-on)) (search-finds j s h (says .0 (w .0))))
   seeking-turns {j} {j′} (ahead s) h says next (inr w) = rw (w .1) (ahead (search-turns j j′ s (λ c. true≢false (sym (says .1 c) ∙ w .0)) next))
   seeking-turns (behind l n) h says next w = absurd (omega arith)
 
-  pub seeking-ends : {j k : ℕ} → Seeking j k → k ≤ j → NearestLink Le string table ends e i k
+  pub seeking-ends : {j k : ℕ} → SeekingPartner j k → k ≤ j → NearestLink Le string table ends e i k
   seeking-ends {j} (ahead s) h = search-ends j s h
   seeking-ends (behind l n) h = n

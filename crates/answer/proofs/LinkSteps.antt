@@ -11,7 +11,7 @@ use Rattle.linking.specs.Greedy.{Stay, VanishBehind, ReducesFrom}
 use Rattle.bits.specs.Rows.{InRow}
 use Rattle.figures.specs.Limits.{maxPlaces}
 use Rattle.table.specs.Table.{stringOf, StringThere}
-use Rattle.answer.specs.Links.{Stays, NearestLink, EndsThere, LinkingThere, ReducingThere}
+use Rattle.answer.specs.Links.{Stays, NearestLink, EndRowThere, LinkingThere, ReducingThere}
 use Rattle.table.proofs.TableLaws.{right-of-string}
 use Rattle.table.proofs.Stretches.{length-string}
 use Rattle.answer.proofs.Nearest.{Chosen, chosen-within, chosen-from}
@@ -52,7 +52,7 @@ module _ {Le : Relation} {string table answer : List ℕ} {at j : ℕ} (there : 
     space = omega (arith, there .space);
   }
 
-  pub row-ends-there : EndsThere string table table j
+  pub row-ends-there : EndRowThere string table table j
   row-ends-there = record {
     room = there .room;
     reached = λ i h.
@@ -81,7 +81,7 @@ module _ {Le : Relation} {s : Basic} {string table answer ends : List ℕ} {at m
   pub from-inside : i < m
   from-inside = reduced-inside i (reducing .here)
 
-  pub reducing-ends-there : EndsThere string table ends 0
+  pub reducing-ends-there : EndRowThere string table ends 0
   reducing-ends-there = record {
     room = reducing .room;
     reached = λ j h.

@@ -4,21 +4,22 @@ use native.Mathlib.Omega.{arith}
 use mathlib.Core.Path.{_≡_, refl, sym, ap, ap₂, _∙_}
 use mathlib.Core.List.{List, [], _∷_, _++_, map, map-append, append-assoc}
 use lib.ListN.{getD, length, take, drop, set, length-map, length-append, length-set}
-use lib.Seq.{length-take-le, take-suc, drop-cons, append-snoc, set-at, take-at, drop-at, drop-drop, drop-set-lt}
+use lib.Seq.{length-take-le, take-all, take-suc, drop-cons, append-snoc, set-at, take-at, drop-at, drop-drop, drop-set-lt}
+use Rattle.graph.specs.Graph.{numberAt}
 use Rattle.answer.specs.Entries.{entryNumbers}
 
--- There are as many numbers as slots were taken.
-pub entry-numbers-length : (numbers slots : List ℕ) (n : ℕ) → n ≤ length slots → length (entryNumbers numbers slots n) ≡ n
+-- There is a number for each chosen slot.
+pub entry-numbers-length : (slots chosen : List ℕ) → length (entryNumbers slots chosen) ≡ length chosen
 unfolding entryNumbers
-entry-numbers-length numbers slots n h = length-map (take n slots) (λ s. getD numbers s 0) ∙ length-take-le n slots h
+entry-numbers-length slots chosen = length-map chosen (λ s. numberAt slots s)
 
 -- One slot more is one number more.
 entry-numbers-next :
-    (numbers slots : List ℕ) (i : ℕ) → i < length slots
-    → entryNumbers numbers slots (suc i) ≡ entryNumbers numbers slots i ++ (getD numbers (getD slots i 0) 0 ∷ [])
+    (slots chosen : List ℕ) (i : ℕ) → i < length chosen
+    → entryNumbers slots (take (suc i) chosen) ≡ entryNumbers slots (take i chosen) ++ (numberAt slots (getD chosen i 0) ∷ [])
 unfolding entryNumbers
-entry-numbers-next numbers slots i h =
-    ap (map (λ s. getD numbers s 0)) (take-suc slots i 0 h) ∙ map-append (λ s. getD numbers s 0) (take i slots) (getD slots i 0 ∷ [])
+entry-numbers-next slots chosen i h =
+    ap (map (λ s. numberAt slots s)) (take-suc chosen i 0 h) ∙ map-append (λ s. numberAt slots s) (take i chosen) (getD chosen i 0 ∷ [])
 
 -- A value is written behind t, n and a list of i numbers.
 set-behind :
@@ -31,11 +32,11 @@ set-behind before ns t n i v size space =
     (ap (λ (l : List ℕ). t ∷ n ∷ set (ns ++ l) i v) (drop-cons before (suc (suc i)) 0 (omega arith))
     ∙ ap (λ (l : List ℕ). t ∷ n ∷ l) (set-at ns (getD before (suc (suc i)) 0) (drop (suc (suc (suc i))) before) v i size))
 
--- After i turns: value 0 is t, value 1 is n, and the numbers of the first i slots stand behind them.
-pub record Entering (t : ℕ) (numbers slots before answer : List ℕ) (n i : ℕ) : Type 0 where
-  pub within : i ≤ n
+-- After i turns: value 0 is t, value 1 is the number of words, and the numbers of the first i chosen slots stand behind them.
+pub record EntriesWritten (t : ℕ) (slots chosen before answer : List ℕ) (i : ℕ) : Type 0 where
+  pub within : i ≤ length chosen
   pub size : length answer ≡ length before
-  pub written : answer ≡ t ∷ n ∷ (entryNumbers numbers slots i ++ drop (i + 2) before)
+  pub written : answer ≡ t ∷ length chosen ∷ (entryNumbers slots (take i chosen) ++ drop (i + 2) before)
 
 -- Before the first turn the first two values are written.
 abbrev pub headed : List ℕ → ℕ → ℕ → List ℕ
@@ -44,43 +45,49 @@ headed before t n = set (set before 0 t) 1 n
 pub headed-length : (before : List ℕ) (t n : ℕ) → length (headed before t n) ≡ length before
 headed-length before t n = length-set (set before 0 t) 1 n ∙ length-set before 0 t
 
-pub entering-start : (t : ℕ) (numbers slots before : List ℕ) (n : ℕ) → n + 1 < length before → Entering t numbers slots (headed before t n) (headed before t n) n 0
+pub entries-start :
+    (t : ℕ) (slots chosen before : List ℕ) → length chosen + 1 < length before
+    → EntriesWritten t slots chosen (headed before t (length chosen)) (headed before t (length chosen)) 0
 unfolding entryNumbers
-entering-start t numbers slots [] n h = absurd (omega arith)
-entering-start t numbers slots (x ∷ []) n h = absurd (omega arith)
-entering-start t numbers slots (x ∷ y ∷ xs) n h = record { within = omega arith; size = refl; written = refl }
+entries-start t slots chosen [] h = absurd (omega arith)
+entries-start t slots chosen (x ∷ []) h = absurd (omega arith)
+entries-start t slots chosen (x ∷ y ∷ xs) h = record { within = omega arith; size = refl; written = refl }
 
-module _ (t : ℕ) (numbers slots before answer : List ℕ) (n i : ℕ) (entering : Entering t numbers slots before answer n i) where
-  pub entering-next :
-      i < n → n + 1 < length before → n ≤ length slots
-      → Entering t numbers slots before (set answer (i + 2) (getD numbers (getD slots i 0) 0)) n (i + 1)
-  entering-next h space there =
-      let v = getD numbers (getD slots i 0) 0 in
-      let ns = entryNumbers numbers slots i in
+module _ (t : ℕ) (slots chosen before answer : List ℕ) (i : ℕ) (so-far : EntriesWritten t slots chosen before answer i) where
+  pub entries-next :
+      (v : ℕ) → i < length chosen → length chosen + 1 < length before → v ≡ numberAt slots (getD chosen i 0)
+      → EntriesWritten t slots chosen before (set answer (i + 2) v) (i + 1)
+  entries-next v h space e =
+      let n = length chosen in
+      let ns = entryNumbers slots (take i chosen) in
+      let few = entry-numbers-length slots (take i chosen) ∙ length-take-le i chosen (omega arith) in
       let one : i + 1 ≡ suc i = omega arith in
       let three : i + 1 + 2 ≡ i + 3 = omega arith in
       let rest = drop (i + 3) before in
-      let more = entry-numbers-next numbers slots i (omega arith) in
-      let next = sym (append-snoc ns v rest) ∙ ap (λ (l : List ℕ). l ++ rest) (sym more) in
+      let more = ap (λ (w : ℕ). ns ++ (w ∷ [])) e ∙ sym (entry-numbers-next slots chosen i h) in
+      let next = sym (append-snoc ns v rest) ∙ ap (λ (l : List ℕ). l ++ rest) more in
       record {
         within = omega arith;
-        size = length-set answer (i + 2) v ∙ entering .size;
+        size = length-set answer (i + 2) v ∙ so-far .size;
         written =
-            ap (λ (l : List ℕ). set l (i + 2) v) (entering .written)
-            ∙ set-behind before ns t n i v (entry-numbers-length numbers slots i (omega arith)) (omega arith)
+            ap (λ (l : List ℕ). set l (i + 2) v) (so-far .written)
+            ∙ set-behind before ns t n i v few (omega arith)
             ∙ rw (three, one) (ap (λ (l : List ℕ). t ∷ n ∷ l) next);
       }
 
--- When all n are written: what stood in the buffer behind them is kept.
-pub entering-end :
-    (t : ℕ) (numbers slots before answer : List ℕ) (n i : ℕ) → Entering t numbers slots (headed before t n) answer n i → n ≤ i
-    → answer ≡ t ∷ n ∷ (entryNumbers numbers slots n ++ drop (n + 2) before)
-entering-end t numbers slots before answer n i entering h =
-    let w = entering .within in
-    let all : i ≡ n = omega arith in
-    let written : answer ≡ t ∷ n ∷ (entryNumbers numbers slots n ++ drop (n + 2) (headed before t n)) = rw all at (entering .written) in
+-- When all are written: what stood in the buffer behind them is kept.
+pub entries-end :
+    (t : ℕ) (slots chosen before answer : List ℕ) (i : ℕ) → EntriesWritten t slots chosen (headed before t (length chosen)) answer i → length chosen ≤ i
+    → answer ≡ t ∷ length chosen ∷ (entryNumbers slots chosen ++ drop (length chosen + 2) before)
+entries-end t slots chosen before answer i so-far h =
+    let n = length chosen in
+    let w = so-far .within in
+    let end : i ≡ n = omega arith in
+    let all = take-all i chosen h in
     let kept = drop-set-lt (n + 2) (set before 0 t) 1 n (omega arith) ∙ drop-set-lt (n + 2) before 0 t (omega arith) in
-    written ∙ ap (λ (l : List ℕ). t ∷ n ∷ (entryNumbers numbers slots n ++ l)) kept
+    so-far .written ∙ ap (λ (l : List ℕ). t ∷ n ∷ (entryNumbers slots l ++ drop (i + 2) (headed before t n))) all
+    ∙ ap (λ (k : ℕ). t ∷ n ∷ (entryNumbers slots chosen ++ drop (k + 2) (headed before t n))) end
+    ∙ ap (λ (l : List ℕ). t ∷ n ∷ (entryNumbers slots chosen ++ l)) kept
 
 -- The count is written behind the entries.
 counted-parts :

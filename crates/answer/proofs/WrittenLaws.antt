@@ -8,6 +8,7 @@ use Rattle.pregroup.specs.Types.{Basic}
 use Rattle.pregroup.specs.Order.{Relation}
 use Rattle.table.specs.Table.{stringOf}
 use Rattle.table.proofs.Stretches.{length-string}
+use Rattle.answer.specs.Answers.{answerLength}
 use Rattle.answer.specs.Entries.{entryNumbers}
 use Rattle.answer.specs.Links.{FirstLinked}
 use Rattle.answer.specs.Written.{WroteAnswer}
@@ -15,15 +16,18 @@ use Rattle.answer.proofs.ValueLaws.{entry-numbers-length, values-writte
 
 -- The three writes make the answer.
 pub wrote-answer :
-    {Le : Relation} (string : List ℕ) {m : ℕ} {s : Basic} {t : ℕ} {numbers slots before entered counted after : List ℕ} {n : ℕ} → n ≤ length slots
-    → 3 + n + m ≤ length before → entered ≡ t ∷ n ∷ (entryNumbers numbers slots n ++ drop (n + 2) before) → counted ≡ set entered (n + 2) m
-    → FirstLinked Le s (stringOf string m) counted after (n + 3) → WroteAnswer Le string m s t numbers slots n before after
-wrote-answer string {m} {t = t} {numbers} {slots} {before} {entered} {counted} {after} {n} slots-room space e c f =
+    {Le : Relation} (string : List ℕ) {s : Basic} {t : ℕ} (slots chosen : List ℕ) {before entered counted after : List ℕ}
+    → answerLength (length chosen) (length string) ≤ length before
+    → entered ≡ t ∷ length chosen ∷ (entryNumbers slots chosen ++ drop (length chosen + 2) before)
+    → counted ≡ set entered (length chosen + 2) (length string)
+    → FirstLinked Le s (stringOf string (length string)) counted after (length chosen + 3) → WroteAnswer Le string s t slots chosen before after
+wrote-answer string {t = t} slots chosen {before} {entered} {counted} {after} space e c f =
+    let n = length chosen in
+    let m = length string in
     let long = length-string string m in
-    let count = entry-numbers-length numbers slots n slots-room in
-    let ns = entryNumbers numbers slots n in
-    let same : n + 3 + m ≡ 3 + n + m = omega arith in
-    let w = values-written before entered counted after ns (f .partners) t n m count (omega arith) e c
+    let ns = entryNumbers slots chosen in
+    let same : n + 3 + m ≡ answerLength n m = omega arith in
+    let w = values-written before entered counted after ns (f .partners) t n m (entry-numbers-length slots chosen) (omega arith) e c
     (f .written ∙ ap (λ (k : ℕ). take (n + 3) counted ++ (f .partners ++ drop (n + 3 + k) counted)) long) in
     record {
       partners = f .partners;

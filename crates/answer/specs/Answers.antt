@@ -1,11 +1,12 @@
 -- Document 01, "When the screen says no", from 15 on: what reading answers, and what the answer buffer holds then.
-use Prim.Native.Nat.{ℕ}
+use Prim.Native.Nat.{ℕ, _+_}
 use mathlib.Core.Path.{_≡_}
 use mathlib.Core.Bool.{cond}
 use mathlib.Core.List.{List, _∷_, _++_}
 use mathlib.Core.Option.{Option, none, some}
 use lib.Dec.{ltb}
 use lib.ListN.{length, take, drop}
+use Rattle.figures.specs.Limits.{answerHead}
 use Rattle.figures.specs.Refusals.{Reply, refusal, noReading, bufferTooShort}
 use Rattle.linking.specs.Reading.{Answer}
 use Rattle.answer.specs.declared.LineAnswer.{LineAnswer}
@@ -29,6 +30,10 @@ outcomeReply o = lineReply (o .answer) (o .buffer)
 -- An answer of n words and m simple types: the target's number, n, the n entry numbers, m, the m partners.
 abbrev pub valuesOf : Answer → List ℕ
 valuesOf a = a .target ∷ length (a .entries) ∷ (a .entries ++ (length (a .partners) ∷ a .partners))
+
+-- How many values that are.
+abbrev pub answerLength : ℕ → ℕ → ℕ
+answerLength n m = answerHead + n + m
 
 -- 15: no reading. 16: answer buffer too short, with the values needed. Values behind an answer stay.
 unfoldable pub given : Option Answer → List ℕ → Outcome LineAnswer

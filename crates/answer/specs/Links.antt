@@ -36,7 +36,7 @@ pub record NearestLink (Le : Relation) (string table ends : List ℕ) (e i r : �
   pub found : r < rowBits → (i < r) × MayLink Le string table ends e i r
 
 -- What the search for the nearest asks: row e of `ends` leads to simple types that are there.
-pub record EndsThere (string table ends : List ℕ) (e : ℕ) : Type 0 where
+pub record EndRowThere (string table ends : List ℕ) (e : ℕ) : Type 0 where
   pub room : HasRow ends e
   pub reached : (j : ℕ) → InRow ends e j → StringThere string j × HasRow table j
 

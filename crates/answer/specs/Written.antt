@@ -10,26 +10,27 @@ use Rattle.pregroup.specs.Order.{Relation}
 use Rattle.pregroup.specs.Vanish.{Reduces}
 use Rattle.linking.specs.Greedy.{GreedyFrom}
 use Rattle.table.specs.Table.{stringOf, Right, StringThere}
+use Rattle.answer.specs.Answers.{answerLength}
 use Rattle.answer.specs.Entries.{entryNumbers}
 
--- The string of m simple types can be linked: it is there with its table, and reduces to the target.
-pub record Linkable (Le : Relation) (string table : List ℕ) (m : ℕ) (t : Basic) : Type 0 where
-  pub string-there : StringThere string m
-  pub room : HasRow table m
-  pub right : Right Le (stringOf string m) table m
-  pub reduces : Reduces Le t (stringOf string m)
+-- The string can be linked: it is there with its table, and reduces to the target.
+pub record Linkable (Le : Relation) (string table : List ℕ) (s : Basic) : Type 0 where
+  pub string-there : StringThere string (length string)
+  pub room : HasRow table (length string)
+  pub right : Right Le (stringOf string (length string)) table (length string)
+  pub reduces : Reduces Le s (stringOf string (length string))
 
--- What the writing of an answer for target number t, of n words and m simple types, asks besides.
-pub record Writable (t : ℕ) (numbers slots : List ℕ) (n m : ℕ) (answer : List ℕ) : Type 0 where
+-- What the writing of an answer for target number t, of the chosen slots and m simple types, asks besides.
+pub record Writable (t : ℕ) (slots chosen : List ℕ) (m : ℕ) (answer : List ℕ) : Type 0 where
   pub low : t < maxTargets
-  pub few : n ≤ maxWords
-  pub there : n ≤ length slots
-  pub numbered : (i : ℕ) → i < n → getD slots i 0 < length numbers
-  pub space : 3 + n + m ≤ length answer
+  pub few : length chosen ≤ maxWords
+  pub numbered : (i : ℕ) → i < length chosen → getD chosen i 0 < length slots
+  pub space : answerLength (length chosen) m ≤ length answer
 
--- The answer is written: t, n, the entries of the slots, m, and the first linking of the string with the target s. What stands behind it is kept.
-pub record WroteAnswer (Le : Relation) (string : List ℕ) (m : ℕ) (s : Basic) (t : ℕ) (numbers slots : List ℕ) (n : ℕ) (before after : List ℕ) : Type 0 where
+-- The answer is written: t, the number of words, the entries of their slots, the number of simple types, and the first linking of the string with the
+-- target s. What stands behind it is kept.
+pub record WroteAnswer (Le : Relation) (string : List ℕ) (s : Basic) (t : ℕ) (slots chosen before after : List ℕ) : Type 0 where
   pub partners : List ℕ
-  pub whole : length partners ≡ m
-  pub greedy : GreedyFrom Le s (stringOf string m) partners 1
-  pub written : after ≡ (t ∷ n ∷ (entryNumbers numbers slots n ++ (m ∷ partners))) ++ drop (3 + n + m) before
+  pub whole : length partners ≡ length string
+  pub greedy : GreedyFrom Le s (stringOf string (length string)) partners 1
+  pub written : after ≡ (t ∷ length chosen ∷ (entryNumbers slots chosen ++ (length string ∷ partners))) ++ drop (answerLength (length chosen) (length string)) before

@@ -15,17 +15,18 @@ ghost use Rattle.pregroup.specs.Vanish.{Reduces};
 ghost use Rattle.figures.specs.Limits.{maxPlaces};
 ghost use Rattle.bits.specs.Rows.{InRow, HasRow, RowSays};
 ghost use Rattle.table.specs.Table.{stringOf, StringThere, Bounded};
-ghost use Rattle.answer.specs.Links.{Stays, Closes, NearestLink, EndsThere, withLink, LinkingThere, LinkedWithin, LinkedFrom, ReducingThere, FirstLinked};
+ghost use Rattle.answer.specs.Links.{Stays, Closes, NearestLink, EndRowThere, withLink, LinkingThere, LinkedWithin, LinkedFrom, ReducingThere, FirstLinked};
 
 // Whether i may stay unlinked: its simple type may remain, and what stands behind it vanishes.
-fn may_stay(order: &[u64], string: &[u16], target: u8, table: &[u64], m: usize, i: usize) -> bool
-    requires { ⌜ i < m ⌝ }
-    requires { ⌜ StringThere (now string) m ⌝ }
-    requires { ⌜ HasRow (now table) m ⌝ }
-    ensures { λ r. ⌜ (r ≡ true) ↔ Stays (InRows (now (order .entry))) target (now (string .entry)) (now (table .entry)) m i ⌝ }
+fn may_stay(order: &[u64], string: &[u16], target: u8, table: &[u64], i: usize) -> bool
+    requires { ⌜ i < length (now string) ⌝ }
+    requires { ⌜ StringThere (now string) (length (now string)) ⌝ }
+    requires { ⌜ HasRow (now table) (length (now string)) ⌝ }
+    ensures { λ r. ⌜ (r ≡ true)
+        ↔ Stays (InRows (now (order .entry))) target (now (string .entry)) (now (table .entry)) (length (now (string .entry))) i ⌝ }
 {
     if pregroup::may_remain(order, string[i], target) {
-        return rows::member(table, m, i + 1);
+        return rows::member(table, string.len(), i + 1);
     }
     false
 }
@@ -46,7 +47,7 @@ fn may_close(order: &[u64], string: &[u16], table: &[u64], i: usize, k: usize) -
 // The nearest k that i may be linked to such that k + 1 is in row e of `ends`; `ROW_BITS` where there is none.
 fn nearest(order: &[u64], string: &[u16], table: &[u64], ends: &[u64], e: usize, i: usize) -> usize
     requires { ⌜ i < maxPlaces ⌝ }
-    requires { ⌜ EndsThere (now string) (now table) (now ends) e ⌝ }
+    requires { ⌜ EndRowThere (now string) (now table) (now ends) e ⌝ }
     ensures { λ r. ⌜ NearestLink (InRows (now (order .entry))) (now (string .entry)) (now (table .entry)) (now (ends .entry)) e i r ⌝ }
 {
     let mut found = ROW_BITS;
@@ -80,20 +81,21 @@ fn write_link(answer: &mut [u16], at: usize, i: usize, k: usize)
 }
 
 // The places that may stay unlinked.
-fn staying(order: &[u64], string: &[u16], target: u8, table: &[u64], m: usize) -> Row
-    requires { ⌜ StringThere (now string) m ⌝ }
-    requires { ⌜ HasRow (now table) m × Bounded (now table) m ⌝ }
-    ensures { λ r. ⌜ RowSays (r .words) 0 (Stays (InRows (now (order .entry))) target (now (string .entry)) (now (table .entry)) m) ⌝ }
+fn staying(order: &[u64], string: &[u16], target: u8, table: &[u64]) -> Row
+    requires { ⌜ StringThere (now string) (length (now string)) ⌝ }
+    requires { ⌜ HasRow (now table) (length (now string)) × Bounded (now table) (length (now string)) ⌝ }
+    ensures { λ r. ⌜ RowSays (r .words) 0
+        (Stays (InRows (now (order .entry))) target (now (string .entry)) (now (table .entry)) (length (now (string .entry)))) ⌝ }
 {
     let mut words = [0u64; ROW_WORDS];
-    let mut j = rows::next_member(table, m, 1);
+    let mut j = rows::next_member(table, string.len(), 1);
     while j < ROW_BITS {
         rows::put_where(
             &mut words,
             j - 1,
             pregroup::may_remain(order, string[j - 1], target),
         );
-        j = rows::next_member(table, m, j + 1);
+        j = rows::next_member(table, string.len(), j + 1);
     }
     Row { words }
 }
@@ -127,43 +129,43 @@ fn link_from(
     target: u8,
     table: &[u64],
     ends: &[u64],
-    m: usize,
     i: usize,
     answer: &mut [u16],
     at: usize,
 )
-    requires { ⌜ LinkingThere (InRows (now order)) (now string) (now table) (now answer) at m ⌝ }
-    requires { ⌜ ReducingThere (InRows (now order)) target (stringOf (now string) m) (now ends) i ⌝ }
-    ensures { λ _. ⌜ LinkedFrom (InRows (now (order .entry))) target (now (string .entry)) (now (answer .entry)) (now (answer .exit)) at m i ⌝ }
+    requires { ⌜ LinkingThere (InRows (now order)) (now string) (now table) (now answer) at (length (now string)) ⌝ }
+    requires { ⌜ ReducingThere (InRows (now order)) target (stringOf (now string) (length (now string))) (now ends) i ⌝ }
+    ensures { λ _. ⌜ LinkedFrom (InRows (now (order .entry))) target (now (string .entry)) (now (answer .entry)) (now (answer .exit)) at
+        (length (now (string .entry))) i ⌝ }
 {
-    if may_stay(order, string, target, table, m, i) {
+    if may_stay(order, string, target, table, i) {
         write_stay(answer, at, i);
-        link_within(order, string, table, i + 1, m, answer, at);
+        link_within(order, string, table, i + 1, string.len(), answer, at);
     } else {
         let k = nearest(order, string, table, ends, 0, i);
         write_link(answer, at, i, k);
         link_within(order, string, table, i + 1, k, answer, at);
-        link_from(order, string, target, table, ends, m, k + 1, answer, at);
+        link_from(order, string, target, table, ends, k + 1, answer, at);
     }
 }
 
-// Writes the first linking of the string of the first m simple types, which reduces to the target, into `answer` from `at` on: m partners. `ends` has
+// Writes the first linking of the string, which reduces to the target, into `answer` from `at` on: a partner for each simple type. `ends` has
 // the places from which the string reduces: what stands between such a place and one that may stay vanishes.
 pub(crate) fn first_linking(
     order: &[u64],
     string: &[u16],
-    m: usize,
     target: u8,
     table: &[u64],
     answer: &mut [u16],
     at: usize,
 )
-    requires { ⌜ LinkingThere (InRows (now order)) (now string) (now table) (now answer) at m ⌝ }
-    requires { ⌜ Reduces (InRows (now order)) target (stringOf (now string) m) ⌝ }
-    ensures { λ _. ⌜ FirstLinked (InRows (now (order .entry))) target (stringOf (now (string .entry)) m) (now (answer .entry)) (now (answer .exit)) at ⌝ }
+    requires { ⌜ LinkingThere (InRows (now order)) (now string) (now table) (now answer) at (length (now string)) ⌝ }
+    requires { ⌜ Reduces (InRows (now order)) target (stringOf (now string) (length (now string))) ⌝ }
+    ensures { λ _. ⌜ FirstLinked (InRows (now (order .entry))) target (stringOf (now (string .entry)) (length (now (string .entry))))
+        (now (answer .entry)) (now (answer .exit)) at ⌝ }
 {
-    let stays = staying(order, string, target, table, m);
+    let stays = staying(order, string, target, table);
     let row = rows::unite_all(rows::empty(), table, stays);
     let ends = row.words;
-    link_from(order, string, target, table, &ends, m, 0, answer, at);
+    link_from(order, string, target, table, &ends, 0, answer, at);
 }

@@ -55,8 +55,10 @@ module _ (book batch : Bytes) (before : List ℕ) (lines : List Bytes) (split : 
         subst (λ (o : Outcome BatchAnswer). Gives o (Refused answersTooLong used) before) (sym outcome-is)
         (rw (needed, lt-ltb (length before) used h) (record { returned = refl; left = refl }))
 
-    pub gives-answers : (n : ℕ) → length lines ≡ n → used ≤ length before → Gives (batchOutcome book batch before) (Answered n) (take used store ++ drop used before)
+    pub gives-answers : (n : ℕ) → length lines ≡ n → used ≤ length before
+        → Gives (batchOutcome book batch before) (Answered n) (take used store ++ drop (length (take used store)) before)
     unfolding givenParts
     gives-answers n count h =
-        subst (λ (o : Outcome BatchAnswer). Gives o (Answered n) (take used store ++ drop used before)) (sym outcome-is)
-        (rw (needed, le-ltb (length before) used h) (record { returned = ap Answered (sym count); left = ap (λ (l : List ℕ). l ++ drop used before) parts }))
+        let so-many = length-take-le used store (stored .within) in
+        subst (λ (o : Outcome BatchAnswer). Gives o (Answered n) (take used store ++ drop (length (take used store)) before)) (sym outcome-is)
+        (rw (needed, le-ltb (length before) used h, so-many) (record { returned = ap Answered (sym count); left = ap (λ (l : List ℕ). l ++ drop used before) parts }))

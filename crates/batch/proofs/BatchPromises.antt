@@ -14,10 +14,10 @@ use Rattle.figures.specs.Refusals.{Reply, refusal, noReading, badBatch, answers
 use Rattle.bits.proofs.Cases.{some-same, none-some}
 use Rattle.format.specs.Records.{Bytes}
 use Rattle.book.specs.Format.{Book, Parsed, accepted, refused, parse}
-use Rattle.linking.specs.Reading.{Words}
+use Rattle.linking.specs.Reading.{Words, HasChain}
 use Rattle.answer.specs.Answers.{Outcome, Gives}
 use Rattle.reader.specs.Outcome.{outcome}
-use Rattle.reader.specs.Demands.{Readable, TooShort, NoChain}
+use Rattle.reader.specs.Demands.{OrderOf, Readable, TooShort}
 use Rattle.reader.proofs.Refusals.{book-some, NamedParse, parse-named}
 use Rattle.book.specs.Check.{BookNumber}
 use Rattle.reader.proofs.Promises.{outcome-promised, other-number, same-value}
@@ -43,7 +43,7 @@ line-gets book line =
     record {
       alone = alone-ample book line;
       never-short = not-short (alone-is book line);
-      answered = λ h. let a = promised .answered h in let w = a .3 in (a .0, a .1, a .2, record { target = w .target; entries = w .entries; partners = w .partners; first = w .first; whole = w .whole });
+      answered = λ h. let a = promised .answered h in (a .0, a .1, a .2, a .3 .reading);
       found = λ B words r t entries partners reads. ⊎-elim (λ e. e) (λ s. absurd (never-lent r zeros-long (s .1))) (promised .found B words r t entries partners reads);
       unread = promised .unread;
     }
@@ -55,7 +55,7 @@ part-tells {one} {other} e =
     let values : one .values ≡ other .values = cc in
     ap (λ (n : ℕ). record { number = n; values = one .values }) numbers ∙ ap (λ (v : List ℕ). record { number = other .number; values = v }) values
 
-pub part-unread : (book line : Bytes) (B : Book) (words : Words) → Readable book line B words → (partOf (aloneReply book line) ≡ partOf (refusal noReading 0)) ↔ NoChain B words
+pub part-unread : (book line : Bytes) (B : Book) (words : Words) → Readable book line B words → (partOf (aloneReply book line) ≡ partOf (refusal noReading 0)) ↔ (HasChain (OrderOf B) (B .targets) words → ⊥)
 part-unread book line B words r = let unread = line-gets book line .unread B words r in (λ e. unread .0 (part-tells e), λ h. ap partOf (unread .1 h))
 
 pub parts-are : (book : Bytes) (lines : List Bytes) → Parts book lines (partsOf book lines)

@@ -10,11 +10,11 @@ use Rattle.figures.specs.Limits.{maxValues}
 use Rattle.figures.specs.Refusals.{refusal, noReading, bufferTooShort, badBatch, answersTooLong}
 use Rattle.format.specs.Records.{Bytes}
 use Rattle.book.specs.Format.{Book}
-use Rattle.linking.specs.Reading.{Words}
+use Rattle.linking.specs.Reading.{Words, HasChain}
 use Rattle.answer.specs.declared.LineAnswer.the-variants.{Refused as RefusedLine}
 use Rattle.answer.specs.Answers.{lineReply, outcomeReply}
 use Rattle.reader.specs.Outcome.{outcome}
-use Rattle.reader.specs.Demands.{Readable, NoChain}
+use Rattle.reader.specs.Demands.{OrderOf, Readable}
 use Rattle.book.specs.Check.{BookNumber}
 use Rattle.reader.proofs.Ample.{ample-reply, never-short}
 use Rattle.batch.specs.declared.BatchAnswer.the-variants.{Refused}
@@ -54,7 +54,7 @@ module _ (book : Bytes) where
 
   -- Demand 3 for each line of a batch: its part says 15 and 0 exactly when no choice of its entries can be turned into any of the targets by a chain.
   pub unread-in-a-batch : (line : Bytes) (B : Book) (words : Words) → Readable book line B words
-      → (partOf (aloneReply book line) ≡ partOf (refusal noReading 0)) ↔ NoChain B words
+      → (partOf (aloneReply book line) ≡ partOf (refusal noReading 0)) ↔ (HasChain (OrderOf B) (B .targets) words → ⊥)
   unread-in-a-batch = part-unread book
 
   -- The parts of a batch's lines are what `partsOf` defines, and nothing else is.

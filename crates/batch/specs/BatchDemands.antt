@@ -9,23 +9,15 @@ use Rattle.figures.specs.Limits.{maxValues}
 use Rattle.figures.specs.Refusals.{Reply, refusal, noReading, bufferTooShort, badBatch, answersTooLong}
 use Rattle.format.specs.Records.{Bytes}
 use Rattle.book.specs.Format.{Book, accepted, refused, parse}
-use Rattle.linking.specs.Reading.{Words, IsReading, IsFirst, answer}
-use Rattle.answer.specs.Answers.{outcomeReply, valuesOf}
+use Rattle.linking.specs.Reading.{Words, IsReading, HasChain}
+use Rattle.answer.specs.Answers.{outcomeReply}
 use Rattle.reader.specs.Outcome.{outcome}
-use Rattle.reader.specs.Demands.{OrderOf, Readable, NoChain}
+use Rattle.reader.specs.Demands.{OrderOf, Readable, FirstWhole}
 use Rattle.batch.specs.declared.BatchAnswer.{BatchAnswer}
 use Rattle.batch.specs.declared.BatchAnswer.the-variants.{Answered}
 use Rattle.batch_lines.specs.Lines.{IsBatch, BadBatch}
 use Rattle.batch_parts.specs.Parts.{partOf}
 use Rattle.batch.specs.Batch.{batchReply}
-
--- The values are the first reading, whole.
-pub record FirstWhole (B : Book) (words : Words) (values : List ℕ) : Type 0 where
-  pub target : ℕ
-  pub entries : List ℕ
-  pub partners : List ℕ
-  pub first : IsFirst (OrderOf B) (B .targets) words target entries partners
-  pub whole : values ≡ valuesOf (answer target entries partners)
 
 -- What a line of a batch gets.
 pub record LineGets (book line : Bytes) (reply : Reply) : Type 0 where
@@ -39,7 +31,7 @@ pub record LineGets (book line : Bytes) (reply : Reply) : Type 0 where
   pub found : (B : Book) (words : Words) → Readable book line B words → (t : ℕ) (entries partners : List ℕ) → IsReading (OrderOf B) (B .targets) words t entries partners
       → reply .number ≡ 0
   -- 15 with 0, exactly when no choice of entries can be turned into any of the targets by a chain.
-  pub unread : (B : Book) (words : Words) → Readable book line B words → (reply ≡ refusal noReading 0) ↔ NoChain B words
+  pub unread : (B : Book) (words : Words) → Readable book line B words → (reply ≡ refusal noReading 0) ↔ (HasChain (OrderOf B) (B .targets) words → ⊥)
 
 -- The parts of the lines, one after another in their order.
 pub data Parts (book : Bytes) : List Bytes → List ℕ → Type 0 where

@@ -10,10 +10,8 @@ use figures::limits::MAX_BATCH_VALUES;
 use figures::limits::MAX_ENTRIES;
 use figures::refusals::ANSWERS_TOO_LONG;
 use figures::refusals::BAD_BATCH;
-use format::names::NAME_PLACES;
-use lookup::keys::NO_ENTRY;
-use lookup::keys::PLACES;
-use reader::open_book;
+use opening::Opening;
+use opening::open_book;
 ghost use Rattle.answer.specs.Answers.{Gives};
 ghost use Rattle.batch.specs.Batch.{batchOutcome};
 ghost use Rattle.batch.specs.BatchDemands.{BatchPromised};
@@ -37,13 +35,14 @@ pub fn read_batch(book: &[u8], lines: &[u8], answers: &mut [u16]) -> BatchAnswer
             value: 0,
         };
     };
-    let mut names = [0u16; NAME_PLACES];
-    let mut entries = [0u16; MAX_ENTRIES];
-    let mut alike = [NO_ENTRY; PLACES];
-    let opening = open_book(book, &mut names, &mut entries, &mut alike);
-    let rows = opening.rows;
-    let targets = opening.targets;
-    let scan = opening.scan;
+    let Opening {
+        scan,
+        names,
+        entries,
+        alike,
+        order,
+        targets,
+    } = open_book(book);
     match scan {
         Scan::Refused { number, value } => BatchAnswer::Refused { number, value },
         Scan::Accepted {
@@ -51,16 +50,17 @@ pub fn read_batch(book: &[u8], lines: &[u8], answers: &mut [u16]) -> BatchAnswer
             entries: count,
             targets: goals,
         } => {
+            let mut same = [0u16; MAX_ENTRIES];
             let mut store = [0u16; MAX_BATCH_VALUES];
             let used = read_parts(
                 book,
                 &names,
                 types,
-                &entries,
-                count,
+                &entries[..count],
                 &alike,
-                &rows,
+                &order,
                 &targets[..goals],
+                &mut same,
                 lines,
                 &mut store,
             );
@@ -70,7 +70,7 @@ pub fn read_batch(book: &[u8], lines: &[u8], answers: &mut [u16]) -> BatchAnswer
                     value: used,
                 };
             }
-            copy_front(&store, used, answers);
+            copy_front(&store[..used], answers);
             BatchAnswer::Answered {
                 lines: number_of_lines,
             }

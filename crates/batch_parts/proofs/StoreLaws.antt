@@ -7,7 +7,7 @@ use mathlib.Core.Logic.{_⊎_, inl, inr}
 use mathlib.Core.List.{List, [], _∷_, _++_, append-assoc, append-nil}
 use mathlib.Core.Option.{Option, none, some}
 use lib.ListN.{length, getD, take, drop, length-drop, length-take, take-append-drop, drop-of-length-le}
-use lib.Seq.{drop-cons, drop-drop, getD-take, getD-drop, take-all}
+use lib.Seq.{drop-cons, drop-drop, getD-take, getD-drop, take-all, take-append-add, take-append-le, length-take-le}
 use Rattle.figures.specs.Limits.{maxPart}
 use Rattle.bits.proofs.Cases.{less-or-not, some-same, none-some}
 use Rattle.bytewise.specs.First.{First}
@@ -89,20 +89,28 @@ module _ (book batch store : List ℕ) (at used end : ℕ) (more : at < length b
   pub part-room : used + maxPart ≤ length store
   part-room = omega (arith, r .room, ap length (here .first))
 
-  pub reading-turns : (next : ℕ) (after : List ℕ) → length after ≡ length store → Put (partOf (aloneReply book (between batch at end))) used store next after
-      → Reading book batch after (end + 1) next
-  unfolding partsOf
-  reading-turns next after same p = record {
-    reached = omega (arith, here .closed);
-    rest = here .lines;
-    split = here .behind;
-    room = omega (arith, r .room, ap length (here .first), p .more, p .short);
-    stored = λ lines q.
-        r .stored lines q
-        ∙ ap (λ (ls : List Bytes). take used store ++ partsOf book ls) (here .first)
-        ∙ sym (append-assoc (take used store) (partOf (aloneReply book (between batch at end))) (partsOf book (here .lines)))
-        ∙ ap (λ (l : List ℕ). l ++ partsOf book (here .lines)) (sym (p .stored));
-  }
+  -- What was lent behind the parts has the line's part in front.
+  module _ (next : ℕ) (after post : List ℕ) (p : Put (partOf (aloneReply book (between batch at end))) next after) where
+    stored-more : take (used + next) (take used store ++ (after ++ post)) ≡ take used store ++ partOf (aloneReply book (between batch at end))
+    stored-more =
+        let front : length (take used store) ≡ used = length-take-le used store (omega (arith, r .room)) in
+        ap (λ (n : ℕ). take (n + next) (take used store ++ (after ++ post))) (sym front)
+        ∙ take-append-add (take used store) (after ++ post) next
+        ∙ ap (λ (l : List ℕ). take used store ++ l) (take-append-le next after post (omega (arith, p .counted, ap length (p .stored), length-take next after)) ∙ p .stored)
+
+    pub reading-turns : length (take used store ++ (after ++ post)) ≡ length store → Reading book batch (take used store ++ (after ++ post)) (end + 1) (used + next)
+    unfolding partsOf
+    reading-turns same = record {
+      reached = omega (arith, here .closed);
+      rest = here .lines;
+      split = here .behind;
+      room = omega (arith, r .room, ap length (here .first), p .counted, p .short);
+      stored = λ lines q.
+          r .stored lines q
+          ∙ ap (λ (ls : List Bytes). take used store ++ partsOf book ls) (here .first)
+          ∙ sym (append-assoc (take used store) (partOf (aloneReply book (between batch at end))) (partsOf book (here .lines)))
+          ∙ ap (λ (l : List ℕ). l ++ partsOf book (here .lines)) (sym stored-more);
+    }
 
 -- Nothing is left.
 pub reading-ends : (book batch store : List ℕ) (at used : ℕ) → length batch ≤ at → Reading book batch store at used → StoredParts book batch used store

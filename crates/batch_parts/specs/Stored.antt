@@ -1,7 +1,7 @@
 -- How the parts of a batch's lines are stored.
-use Prim.Native.Nat.{ℕ, _+_, _*_, _≤_}
+use Prim.Native.Nat.{ℕ, _*_, _≤_}
 use mathlib.Core.Path.{_≡_}
-use mathlib.Core.List.{List, _++_}
+use mathlib.Core.List.{List}
 use mathlib.Core.Option.{some}
 use lib.ListN.{length, take}
 use Rattle.figures.specs.Limits.{maxBatch, maxPart}
@@ -9,11 +9,11 @@ use Rattle.format.specs.Records.{Bytes}
 use Rattle.batch_lines.specs.Lines.{linesOf}
 use Rattle.batch_parts.specs.Parts.{partsOf}
 
--- A part is put behind the first values of a store, of which there are `used` before and `next` then.
-pub record Put (part : List ℕ) (used : ℕ) (before : List ℕ) (next : ℕ) (after : List ℕ) : Type 0 where
-  pub more : next ≡ used + length part
+-- A part is put: it is the first values of what was lent for it, and there are so many.
+pub record Put (part : List ℕ) (values : ℕ) (after : List ℕ) : Type 0 where
+  pub counted : values ≡ length part
   pub short : length part ≤ maxPart
-  pub stored : take next after ≡ take used before ++ part
+  pub stored : take values after ≡ part
 
 -- The batch has lines, and the store has room for their parts.
 pub record Readying (batch : Bytes) (store : List ℕ) : Type 0 where

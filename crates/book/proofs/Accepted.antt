@@ -13,9 +13,9 @@ use Rattle.format.specs.Records.{Bytes, kindAt, bodyAt, every}
 use Rattle.rules.specs.Rules.{exponents, exponentListed, bodyRules, firstBroken}
 use Rattle.book.specs.Format.{Book, Entry, accepted, parse, add, entryOf}
 use Rattle.book.specs.Check.{GoodUpTo, start, next}
-use Rattle.rules.proofs.NoFault.{Kind, basic-type, order-pair, entry, target, slashed-entry, no-fault-kind, no-fault-body, name-no-fault, pair-no-fault, target-no-fault}
+use Rattle.rules.proofs.NoFault.{no-fault-kind, no-fault-body, name-no-fault, pair-no-fault, target-no-fault}
 use Rattle.format.proofs.NameLaws.{name-short}
-use Rattle.rules.specs.Layouts.{EntryKind, of-simples, of-text}
+use Rattle.rules.specs.Layouts.{Kind, basic-type, order-pair, entry, target, slashed-entry, kindNumber, EntryKind, of-simples, of-text}
 use Rattle.book.proofs.GoodEntries.{good-entry, add-entry}
 use Rattle.book.proofs.Keeping.{listed-more}
 use Rattle.book.proofs.FirstBroken.{fault-clean}
@@ -73,8 +73,8 @@ entry-declares {kind} k body B fine s =
       few-targets = s .few-targets;
     })
 
-declares-add : {kind : ℕ} → Kind kind → (body : Bytes) (B : Book) → firstBroken (bodyRules kind body (B .names) (length (B .entries)) (length (B .targets))) ≡ 0
-    → BookDeclares B → BookDeclares (add kind body B)
+declares-add : (kind : Kind) (body : Bytes) (B : Book) → firstBroken (bodyRules (kindNumber kind) body (B .names) (length (B .entries)) (length (B .targets))) ≡ 0
+    → BookDeclares B → BookDeclares (add (kindNumber kind) body B)
 unfolding add
 declares-add basic-type body B fine s =
     let n = length-append (B .names) (body ∷ []) in
@@ -129,9 +129,9 @@ good-declares start =
       few-targets = omega arith;
     }
 good-declares {bytes} (next {at} {B} good h never) =
-    let fine = no-fault-body bytes at (B .names) (length (B .entries)) (length (B .targets)) (fault-clean bytes at B never) refl in
-    let kind = no-fault-kind (bodyAt bytes at) (B .names) (length (B .entries)) (length (B .targets)) (kindAt bytes at) fine in
-    declares-add kind (bodyAt bytes at) B fine (good-declares good)
+    let clean = fault-clean bytes at B never in
+    let k = no-fault-kind (bodyAt bytes at) (B .names) (length (B .entries)) (length (B .targets)) (kindAt bytes at) (no-fault-body bytes at _ _ _ clean refl) in
+    subst (λ (number : ℕ). BookDeclares (add number (bodyAt bytes at) B)) (sym (k .1)) (declares-add (k .0) (bodyAt bytes at) B (no-fault-body bytes at _ _ _ clean (k .1)) (good-declares good))
 
 pub accepted-declares : (bytes : Bytes) (B : Book) → parse bytes ≡ accepted B → BookDeclares B
 accepted-declares bytes B e = good-declares (accepted-good bytes B e .0)

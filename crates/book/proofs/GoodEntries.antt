@@ -19,7 +19,7 @@ use Rattle.notation.specs.Trees.{treeOf, meaningOf, textType}
 use Rattle.notation.proofs.MeaningLaws.{meaning-more}
 use Rattle.rules.specs.Layouts.{EntryKind, of-simples, of-text, simplesOf, slashed, typePart, isWorded}
 use Rattle.rules.specs.Rules.{bases, exponents, declaredAmong, exponentListed, bodyRules, firstBroken}
-use Rattle.book.specs.Format.{Book, Entry, typeBy, entryOf, add}
+use Rattle.book.specs.Format.{Book, Entry, partType, entryOf, withEntry, add}
 use Rattle.book.specs.Kept.{entryFrom, entriesAt, Shaped, as-simples, as-text, Formed, AllFormed}
 use Rattle.rules.proofs.Layouts.{entry-worded, entry-pairs}
 use Rattle.rules.proofs.NoFault.{entry-no-fault, slashed-no-fault}
@@ -62,7 +62,7 @@ good-entry of-text body names entries targets h =
 
 -- It is put behind the others, whatever its kind.
 pub add-entry : {kind : ℕ} → EntryKind kind → (body : Bytes) (B : Book)
-    → add kind body B ≡ record { names = B .names; pairs = B .pairs; entries = B .entries ++ (entryOf kind (B .names) body ∷ []); targets = B .targets }
+    → add kind body B ≡ withEntry B (entryOf kind (B .names) body)
 unfolding add
 add-entry of-simples body B = refl
 add-entry of-text body B = refl
@@ -91,7 +91,7 @@ module _ (names more : List Bytes) where
   tree-more none h = refl
   tree-more (some T) h = meaning-more names more T (each-declared (length names) (meaningOf names (some T)) h)
 
-  type-more : (kind : ℕ) (part : Bytes) → every (declaredAmong (length names)) (bases (typeBy kind names part)) ≡ true → typeBy kind (names ++ more) part ≡ typeBy kind names part
+  type-more : (kind : ℕ) (part : Bytes) → every (declaredAmong (length names)) (bases (partType kind names part)) ≡ true → partType kind (names ++ more) part ≡ partType kind names part
   type-more kind part = by (eqb kind slashed)
     where
       by :

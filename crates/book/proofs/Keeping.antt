@@ -15,28 +15,31 @@ use Rattle.pregroup.specs.Held.{InRows}
 use Rattle.order.specs.Closed.{Pair, Within, Listed}
 use Rattle.figures.specs.Limits.{maxTypes, maxEntries, maxTargets, maxName}
 use Rattle.order.specs.Rows.{Hold}
-use Rattle.format.specs.Records.{Bytes, sameBytes, twoBytes, bodyAt, nextAt, kindAt, bodiesAt, Whole}
+use Rattle.format.specs.Records.{Bytes, sameBytes, bodyAt, nextAt, kindAt, bodiesAt, Whole}
 use Rattle.format.specs.Names.{numberOf, isAmong, Named, Keeping}
 use Rattle.format.proofs.NameLaws.{equal-same, bodies-length, bodies-at, name-short}
 use Rattle.notation.proofs.Counting.{name-form}
 use Rattle.rules.specs.Rules.{bodyRules, recordRules, firstBroken}
-use Rattle.book.specs.Format.{Book, Entry, add}
-use Rattle.book.specs.Kept.{entryFrom, entriesAt, Formed, AllFormed, TargetsDeclared, Store, store, Sound, Keeps, Taking, nextFault}
+use Rattle.book.specs.Format.{Book, Entry, add, withNext}
+use Rattle.book.specs.Kept.{entryFrom, entriesAt, Formed, AllFormed, Store, store, EntriesSound, PairsSound, TargetsSound, Sound, Keeps, Taking, nextFault}
 use Rattle.book.specs.declared.Progress.{Progress}
-use Rattle.rules.specs.Layouts.{EntryKind}
+use Rattle.rules.specs.Layouts.{basic-type, order-pair, target, kindNumber, EntryKind}
+use Rattle.rules.proofs.KindLaws.{Unlisted}
 use Rattle.book.proofs.GoodEntries.{good-entry, add-entry, formed-more, entries-more}
-use Rattle.rules.proofs.NoFault.{no-fault-whole, no-fault-body, name-no-fault, pair-no-fault, target-no-fault, Kind, basic-type, order-pair, entry, target, slashed-entry, no-fault-kind}
+use Rattle.rules.proofs.NoFault.{no-fault-whole, no-fault-body, name-no-fault, pair-no-fault, target-no-fault, no-fault-kind}
+
+-- What holds of each of the first and of a new one holds of the first with it behind them.
+each-more : (P : ℕ → Type 0) (l : List ℕ) (n x : ℕ) → n < length l → P x → ((i : ℕ) → i < n → P (getD {A = ℕ} l i 0)) → (i : ℕ) → i < n + 1 → P (getD {A = ℕ} (set l n x) i 0)
+each-more P l n x room new all i h = go (ℕ-discrete i n)
+  where
+    go : Dec (i ≡ n) → P (getD {A = ℕ} (set l n x) i 0)
+    go (yes e) = rw (e, getD-set-same l n x 0 room) new
+    go (no d) = rw (getD-set-other l n i x 0 d) (all i (omega (arith, d)))
 
 -- One offset more.
 whole-more : (bytes : Bytes) (offsets : List ℕ) (n at : ℕ) → n < length offsets → nextAt bytes at ≤ length bytes → Whole bytes offsets n → Whole bytes (set offsets n at) (n + 1)
-whole-more bytes offsets n at room whole w = record { room = omega (arith, length-set offsets n at); whole = each }
-  where
-    each : (i : ℕ) → i < n + 1 → nextAt bytes (getD {A = ℕ} (set offsets n at) i 0) ≤ length bytes
-    each i h = go (ℕ-discrete i n)
-      where
-        go : Dec (i ≡ n) → nextAt bytes (getD {A = ℕ} (set offsets n at) i 0) ≤ length bytes
-        go (yes e) = rw (e, getD-set-same offsets n at 0 room) whole
-        go (no d) = rw (getD-set-other offsets n i at 0 d) (w .whole i (omega (arith, d)))
+whole-more bytes offsets n at room whole w =
+    record { room = omega (arith, length-set offsets n at); whole = each-more (λ m. nextAt bytes m ≤ length bytes) offsets n at room whole (w .whole) }
 
 take-more : (l : List ℕ) (n x : ℕ) → n < length l → take (n + 1) (set l n x) ≡ take n l ++ (x ∷ [])
 take-more l n x room = rw (add-one n) (take-suc-set l n x room)
@@ -115,25 +118,27 @@ module _ (bytes : Bytes) (offsets : List ℕ) (n at : ℕ) (offsets′ : List �
       }
 
 -- One entry more.
-formed-next :
-    (bytes : Bytes) (names : List Bytes) (offsets : List ℕ) (n at : ℕ) → n < length offsets → Formed bytes names at → AllFormed bytes names offsets n
-    → AllFormed bytes names (set offsets n at) (n + 1)
-formed-next bytes names offsets n at room f all i h = go (ℕ-discrete i n)
-  where
-    go : Dec (i ≡ n) → Formed bytes names (getD {A = ℕ} (set offsets n at) i 0)
-    go (yes e) = rw (e, getD-set-same offsets n at 0 room) f
-    go (no d) = rw (getD-set-other offsets n i at 0 d) (all i (omega (arith, d)))
+entries-sound : (bytes : Bytes) (names : List Bytes) (offsets : List ℕ) (n at : ℕ) → n < maxEntries → nextAt bytes at ≤ length bytes → Formed bytes names at
+    → EntriesSound bytes names offsets n → EntriesSound bytes names (set offsets n at) (n + 1)
+entries-sound bytes names offsets n at few whole formed s =
+    let room : n < length offsets = omega (arith, s .room) in
+    record {
+      room = omega (arith, length-set offsets n at, s .room);
+      few = omega arith;
+      whole = whole-more bytes offsets n at room whole (s .whole);
+      formed = each-more (Formed bytes names) offsets n at room formed (s .formed);
+    }
 
 entries-next : (bytes : Bytes) (names : List Bytes) (offsets : List ℕ) (n at : ℕ) → n < length offsets → entriesAt bytes names (set offsets n at) (n + 1) ≡ entriesAt bytes names offsets n ++ (entryFrom bytes names at ∷ [])
 entries-next bytes names offsets n at room = ap (map (entryFrom bytes names)) (take-more offsets n at room) ∙ map-append (entryFrom bytes names) (take n offsets) (at ∷ [])
 
 -- One target more.
-declared-next : (targets : List ℕ) (types n t : ℕ) → n < length targets → t < types → TargetsDeclared targets types n → TargetsDeclared (set targets n t) types (n + 1)
-declared-next targets types n t room small all i h = go (ℕ-discrete i n)
-  where
-    go : Dec (i ≡ n) → getD {A = ℕ} (set targets n t) i 0 < types
-    go (yes e) = rw (e, getD-set-same targets n t 0 room) small
-    go (no d) = rw (getD-set-other targets n i t 0 d) (all i (omega (arith, d)))
+targets-sound : (targets : List ℕ) (types n t : ℕ) → n < maxTargets → t < types → TargetsSound targets types n → TargetsSound (set targets n t) types (n + 1)
+targets-sound targets types n t few small s = record {
+  room = omega (arith, length-set targets n t, s .room);
+  few = omega arith;
+  declared = each-more (λ m. m < types) targets n t (omega (arith, s .room)) small (s .declared);
+}
 
 -- One pair more.
 pub listed-more :
@@ -183,215 +188,149 @@ within-more rows types a b w room small smaller members within p q = go (ℕ-dis
         (omega arith, ⊎-elim (λ l. within a q l .1) (λ l. omega arith) (members q .0 k))
     go (no d) h = within p q (rw (getD-set-other rows a p w 0 d) at h)
 
+pairs-sound :
+    (rows : List ℕ) (types a b w : ℕ) → a < length rows → a < types → b < types → Members w (λ k. Has (getD {A = ℕ} rows a 0) k ⊎ (k ≡ b))
+    → PairsSound rows types → PairsSound (set rows a w) types
+pairs-sound rows types a b w room small smaller members s =
+    record { rows = length-set rows a w ∙ s .rows; within = within-more rows types a b w room small smaller members (s .within) }
+
+-- One name more: all else stays as it was.
+entries-wider :
+    (bytes : Bytes) (names more : List Bytes) (offsets : List ℕ) (n : ℕ) → EntriesSound bytes names offsets n → EntriesSound bytes (names ++ more) offsets n
+entries-wider bytes names more offsets n s =
+    record { room = s .room; few = s .few; whole = s .whole; formed = λ i h. formed-more names more bytes (getD {A = ℕ} offsets i 0) (s .formed i h) }
+
+pairs-wider : (direct : List ℕ) (types : ℕ) → PairsSound direct types → PairsSound direct (types + 1)
+pairs-wider direct types s = record { rows = s .rows; within = λ a b h. let t = s .within a b h in (omega arith, omega arith) }
+
+targets-wider : (targets : List ℕ) (types n : ℕ) → TargetsSound targets types n → TargetsSound targets (types + 1) n
+targets-wider targets types n s = record { room = s .room; few = s .few; declared = λ i h. omega (arith, s .declared i h) }
+
 module _ (bytes : Bytes) (s : Store) (p : Progress) (sound : Sound bytes s p) where
-  names-count : length (bodiesAt bytes (s .names) (p .types)) ≡ p .types
-  names-count = bodies-length bytes (s .names) (p .types) (sound .named .whole .room)
+  abbrev names-kept : List Bytes
+  names-kept = bodiesAt bytes (s .names) (p .types)
+
+  names-count : length names-kept ≡ p .types
+  names-count = bodies-length bytes (s .names) (p .types) (sound .names .whole .room)
 
   entries-count : (B : Book) → Keeps bytes s p B → length (B .entries) ≡ p .entries
   entries-count B k =
-      ap length (k .entries) ∙ length-map (take (p .entries) (s .entries)) (entryFrom bytes (B .names)) ∙ length-take-le (p .entries) (s .entries) (sound .entries-whole .room)
+      ap length (k .entries) ∙ length-map (take (p .entries) (s .entries)) (entryFrom bytes (B .names)) ∙ length-take-le (p .entries) (s .entries) (sound .entries .whole .room)
 
   pub targets-count : (B : Book) → Keeps bytes s p B → length (B .targets) ≡ p .targets
-  targets-count B k = ap length (k .targets) ∙ length-take-le (p .targets) (s .targets) (omega (arith, sound .few-targets, sound .roomy .targets-room))
+  targets-count B k = ap length (k .targets) ∙ length-take-le (p .targets) (s .targets) (omega (arith, sound .targets .few, sound .targets .room))
 
   -- The fault of the next record, by what is kept.
-  abbrev pub Found : ℕ → Type 0
-  Found fault = fault ≡ firstBroken (recordRules bytes (p .at) (bodiesAt bytes (s .names) (p .types)) (p .entries) (p .targets))
+  abbrev pub FaultFound : ℕ → Type 0
+  FaultFound fault = fault ≡ firstBroken (recordRules bytes (p .at) names-kept (p .entries) (p .targets))
 
-  pub fault-kept : (fault : ℕ) → Found fault → (B : Book) → Keeps bytes s p B → nextFault bytes (p .at) B ≡ fault
+  pub fault-kept : (fault : ℕ) → FaultFound fault → (B : Book) → Keeps bytes s p B → nextFault bytes (p .at) B ≡ fault
   fault-kept fault found B k =
       ap (λ (names : List Bytes). firstBroken (recordRules bytes (p .at) names (length (B .entries)) (length (B .targets)))) (k .names)
-      ∙ ap₂ (λ (n m : ℕ). firstBroken (recordRules bytes (p .at) (bodiesAt bytes (s .names) (p .types)) n m)) (entries-count B k)
-      (targets-count B k)
+      ∙ ap₂ (λ (n m : ℕ). firstBroken (recordRules bytes (p .at) names-kept n m)) (entries-count B k) (targets-count B k)
       ∙ sym found
 
-  module _ (found : Found 0) where
+  module _ (found : FaultFound 0) where
+    abbrev body : Bytes
+    body = bodyAt bytes (p .at)
+
     pub whole : nextAt bytes (p .at) ≤ length bytes
     whole = no-fault-whole bytes (p .at) _ _ _ (sym found)
 
-    body-fault : {kind : ℕ} → kindAt bytes (p .at) ≡ kind → firstBroken (bodyRules kind (bodyAt bytes (p .at)) (bodiesAt bytes (s .names) (p .types)) (p .entries) (p .targets)) ≡ 0
+    body-fault : {number : ℕ} → kindAt bytes (p .at) ≡ number → firstBroken (bodyRules number body names-kept (p .entries) (p .targets)) ≡ 0
     body-fault k = no-fault-body bytes (p .at) _ _ _ (sym found) k
 
+    -- Its kind is listed.
+    pub kind-listed : (number : ℕ) → number ≡ kindAt bytes (p .at) → Unlisted number → ⊥
+    kind-listed number is never = let k = no-fault-kind _ _ _ _ _ (body-fault refl) in never (k .0) (is ∙ k .1)
+
     -- The places that the code reads and writes are there.
-    pub name-place : kindAt bytes (p .at) ≡ 1 → (p .types < maxTypes) × (1 ≤ length (bodyAt bytes (p .at))) × (length (bodyAt bytes (p .at)) ≤ maxName)
+    pub name-place : kindAt bytes (p .at) ≡ kindNumber basic-type → (p .types < maxTypes) × (1 ≤ length body) × (length body ≤ maxName)
     name-place kind =
         let fine = name-no-fault _ _ _ _ (body-fault kind) in
-        (omega (arith, names-count, fine .2), name-form (bodyAt bytes (p .at)) (fine .0) .some-bytes, name-short (bodyAt bytes (p .at)) (fine .0))
+        (omega (arith, names-count, fine .2), name-form body (fine .0) .some-bytes, name-short body (fine .0))
 
     pub entry-place : EntryKind (kindAt bytes (p .at)) → p .entries < maxEntries
     entry-place kind = good-entry kind _ _ _ _ (body-fault refl) .1
 
-    entry-formed : EntryKind (kindAt bytes (p .at)) → Formed bytes (bodiesAt bytes (s .names) (p .types)) (p .at)
+    entry-formed : EntryKind (kindAt bytes (p .at)) → Formed bytes names-kept (p .at)
     entry-formed kind =
         let good = good-entry kind _ _ _ _ (body-fault refl) .0 in
         record { worded = good .worded; shaped = good .shaped; declared = good .declared; listed = good .listed; short = good .short }
 
-    pub pair-place : kindAt bytes (p .at) ≡ 2
-        → (length (bodyAt bytes (p .at)) ≡ 2) × (getD {A = ℕ} (bodyAt bytes (p .at)) 0 0 < p .types) × (getD {A = ℕ} (bodyAt bytes (p .at)) 1 0 < p .types)
+    pub pair-place : kindAt bytes (p .at) ≡ kindNumber order-pair → (length body ≡ 2) × (getD {A = ℕ} body 0 0 < p .types) × (getD {A = ℕ} body 1 0 < p .types)
     pair-place kind =
         let fine = pair-no-fault _ _ _ _ (body-fault kind) in
         (fine .0, omega (arith, names-count), omega (arith, names-count))
 
-    pub target-place : kindAt bytes (p .at) ≡ 4
-        → (length (bodyAt bytes (p .at)) ≡ 1) × (getD {A = ℕ} (bodyAt bytes (p .at)) 0 0 < p .types) × (p .targets < maxTargets)
+    pub target-place : kindAt bytes (p .at) ≡ kindNumber target → (length body ≡ 1) × (getD {A = ℕ} body 0 0 < p .types) × (p .targets < maxTargets)
     target-place kind = let fine = target-no-fault _ _ _ _ (body-fault kind) in (fine .0, omega (arith, names-count), fine .2)
 
-    -- A record that breaks no rule, and is no basic type, no pair and no entry, is a target.
-    pub kind-left : (n : ℕ) → n ≡ twoBytes bytes (p .at + 2) → (n ≡ 1 → ⊥) → (n ≡ 2 → ⊥) → (n ≡ 3 → ⊥) → (n ≡ 5 → ⊥) → kindAt bytes (p .at) ≡ 4
-    kind-left n e a b c d = go (no-fault-kind _ _ _ _ _ (body-fault refl)) (λ k. a (e ∙ k)) (λ k. b (e ∙ k)) (λ k. c (e ∙ k)) (λ k. d (e ∙ k))
-      where
-        go : {kind : ℕ} → Kind kind → (kind ≡ 1 → ⊥) → (kind ≡ 2 → ⊥) → (kind ≡ 3 → ⊥) → (kind ≡ 5 → ⊥) → kind ≡ 4
-        go basic-type f g h k = absurd (f refl)
-        go order-pair f g h k = absurd (g refl)
-        go entry f g h k = absurd (h refl)
-        go target f g h k = refl
-        go slashed-entry f g h k = absurd (k refl)
+    -- The record is taken in where what is kept behind it is sound, and stands for the book with the record.
+    taken : (s′ : Store) (p′ : Progress) → p′ .at ≡ nextAt bytes (p .at) → Named bytes (s′ .names) (p′ .types)
+        → EntriesSound bytes (bodiesAt bytes (s′ .names) (p′ .types)) (s′ .entries) (p′ .entries)
+        → PairsSound (s′ .direct) (p′ .types)
+        → TargetsSound (s′ .targets) (p′ .types) (p′ .targets)
+        → ((B : Book) → Keeps bytes s p B → Keeps bytes s′ p′ (withNext bytes (p .at) B))
+        → Taking bytes s p s′ p′
+    taken s′ p′ on names entries pairs targets keeps = record {
+      sound = record { short = sound .short; reached = rw on whole; names = names; entries = entries; pairs = pairs; targets = targets };
+      on = on;
+      right = λ B k. (fault-kept 0 found B k, keeps B k);
+    }
 
-  module _ (found : Found 0) (next : ℕ) (on : next ≡ nextAt bytes (p .at)) where
-    pub name-taken : kindAt bytes (p .at) ≡ 1 → (names : List ℕ) → Keeping (s .names) (p .types) (p .at) names
-        → Taking bytes s p (store names (s .entries) (s .direct) (s .targets)) (record { at = next; types = p .types + 1; entries = p .entries; targets = p .targets })
-    unfolding add
-    name-taken kind names kept =
-        let few = name-place found kind .0 in
-        let more = kept-bodies bytes (s .names) (p .types) (p .at) names kept few (sound .named) in
-        record {
-          sound = record {
-            short = sound .short;
-            reached = rw on (whole found);
-            roomy = record {
-              names-room = omega (arith, kept-length bytes (s .names) (p .types) (p .at) names kept few (sound .named), sound .roomy .names-room);
-              entries-room = sound .roomy .entries-room;
-              rows = sound .roomy .rows;
-              targets-room = sound .roomy .targets-room;
-            };
-            few-entries = sound .few-entries;
-            few-targets = sound .few-targets;
-            named = named-more bytes (s .names) (p .types) (p .at) names kept few (sound .named) (whole found) (name-no-fault _ _ _ _ (body-fault found kind) .1);
-            entries-whole = sound .entries-whole;
-            formed = λ i h.
-                subst (λ (l : List Bytes). Formed bytes l (getD {A = ℕ} (s .entries) i 0)) (sym more)
-                (formed-more (bodiesAt bytes (s .names) (p .types)) (bodyAt bytes (p .at) ∷ []) bytes (getD {A = ℕ} (s .entries) i 0) (sound .formed i h));
-            targets-declared = λ i h. omega (arith, sound .targets-declared i h);
-            within = λ a b h. let t = sound .within a b h in (omega arith, omega arith);
-          };
-          on = on;
-          right = λ B k.
-              let formed : AllFormed bytes (B .names) (s .entries) (p .entries) = subst (λ (l : List Bytes). AllFormed bytes l (s .entries) (p .entries)) (sym (k .names)) (sound .formed) in (
-                fault-kept 0 found B k,
-                rw kind
-                    (record {
-                      names = ap (λ (l : List Bytes). l ++ (bodyAt bytes (p .at) ∷ [])) (k .names) ∙ sym more;
-                      pairs = k .pairs;
-                      entries = k .entries ∙ sym (entries-more (B .names) (bodyAt bytes (p .at) ∷ []) bytes (s .entries) (p .entries) (sound .entries-whole .room) formed);
-                      targets = k .targets;
-                    }),
-              );
-        }
+    module _ (next : ℕ) (on : next ≡ nextAt bytes (p .at)) where
+      pub name-taken : kindAt bytes (p .at) ≡ kindNumber basic-type → (names : List ℕ) → Keeping (s .names) (p .types) (p .at) names
+          → Taking bytes s p (store names (s .entries) (s .direct) (s .targets)) (record { at = next; types = p .types + 1; entries = p .entries; targets = p .targets })
+      unfolding add
+      name-taken kind names kept =
+          let few = name-place kind .0 in
+          let more = kept-bodies bytes (s .names) (p .types) (p .at) names kept few (sound .names) in
+          let wider = subst (λ (l : List Bytes). EntriesSound bytes l (s .entries) (p .entries)) (sym more) (entries-wider bytes names-kept (body ∷ []) (s .entries) (p .entries) (sound .entries)) in
+          let named = named-more bytes (s .names) (p .types) (p .at) names kept few (sound .names) whole (name-no-fault _ _ _ _ (body-fault kind) .1) in
+          taken _ _ on named wider (pairs-wider (s .direct) (p .types) (sound .pairs)) (targets-wider (s .targets) (p .types) (p .targets) (sound .targets))
+          (λ B k.
+          let formed : AllFormed bytes (B .names) (s .entries) (p .entries) = subst (λ (l : List Bytes). AllFormed bytes l (s .entries) (p .entries)) (sym (k .names)) (sound .entries .formed) in
+          rw kind
+          (record {
+            names = ap (λ (l : List Bytes). l ++ (body ∷ [])) (k .names) ∙ sym more;
+            pairs = k .pairs;
+            entries = k .entries ∙ sym (entries-more (B .names) (body ∷ []) bytes (s .entries) (p .entries) (sound .entries .whole .room) formed);
+            targets = k .targets;
+          }))
 
-    pub entry-taken : EntryKind (kindAt bytes (p .at))
-        → Taking bytes s p (store (s .names) (set (s .entries) (p .entries) (p .at)) (s .direct) (s .targets)) (record { at = next; types = p .types; entries = p .entries + 1; targets = p .targets })
-    entry-taken kind =
-        let few = entry-place found kind in
-        let room : p .entries < length (s .entries) = omega (arith, sound .roomy .entries-room) in
-        record {
-          sound = record {
-            short = sound .short;
-            reached = rw on (whole found);
-            roomy = record {
-              names-room = sound .roomy .names-room;
-              entries-room = omega (arith, length-set (s .entries) (p .entries) (p .at), sound .roomy .entries-room);
-              rows = sound .roomy .rows;
-              targets-room = sound .roomy .targets-room;
-            };
-            few-entries = omega arith;
-            few-targets = sound .few-targets;
-            named = sound .named;
-            entries-whole = whole-more bytes (s .entries) (p .entries) (p .at) room (whole found) (sound .entries-whole);
-            formed = formed-next bytes (bodiesAt bytes (s .names) (p .types)) (s .entries) (p .entries) (p .at) room (entry-formed found kind) (sound .formed);
-            targets-declared = sound .targets-declared;
-            within = sound .within;
-          };
-          on = on;
-          right = λ B k. (
-            fault-kept 0 found B k,
-            rw (add-entry kind (bodyAt bytes (p .at)) B)
-                (record {
-                  names = k .names;
-                  pairs = k .pairs;
-                  entries =
-                      ap (λ (l : List Entry). l ++ (entryFrom bytes (B .names) (p .at) ∷ [])) (k .entries)
-                      ∙ sym (entries-next bytes (B .names) (s .entries) (p .entries) (p .at) room);
-                  targets = k .targets;
-                }),
-          );
-        }
+      pub entry-taken : EntryKind (kindAt bytes (p .at))
+          → Taking bytes s p (store (s .names) (set (s .entries) (p .entries) (p .at)) (s .direct) (s .targets)) (record { at = next; types = p .types; entries = p .entries + 1; targets = p .targets })
+      entry-taken kind =
+          let more = entries-sound bytes names-kept (s .entries) (p .entries) (p .at) (entry-place kind) whole (entry-formed kind) (sound .entries) in
+          let next-entry : (B : Book) → entriesAt bytes (B .names) (set (s .entries) (p .entries) (p .at)) (p .entries + 1) ≡ entriesAt bytes (B .names) (s .entries) (p .entries) ++ (entryFrom bytes (B .names) (p .at) ∷ []) =
+          λ B. entries-next bytes (B .names) (s .entries) (p .entries) (p .at) (omega (arith, entry-place kind, sound .entries .room)) in
+          taken _ _ on (sound .names) more (sound .pairs) (sound .targets)
+          (λ B k.
+          rw (add-entry kind body B)
+          (record { names = k .names; pairs = k .pairs; entries = ap (λ (l : List Entry). l ++ (entryFrom bytes (B .names) (p .at) ∷ [])) (k .entries) ∙ sym (next-entry B); targets = k .targets }))
 
-    pub pair-taken : kindAt bytes (p .at) ≡ 2 → (lower upper row : ℕ) → lower ≡ getD {A = ℕ} (bodyAt bytes (p .at)) 0 0 → upper ≡ getD {A = ℕ} (bodyAt bytes (p .at)) 1 0
-        → Members row (λ k. Has (getD {A = ℕ} (s .direct) lower 0) k ⊎ (k ≡ upper))
-        → Taking bytes s p (store (s .names) (s .entries) (set (s .direct) lower row) (s .targets)) (record { at = next; types = p .types; entries = p .entries; targets = p .targets })
-    unfolding add
-    pair-taken kind lower upper row lo up members =
-        let fine = pair-place found kind in
-        let room : lower < length (s .direct) = omega (arith, fine .1, sound .named .few, sound .roomy .rows) in
-        record {
-          sound = record {
-            short = sound .short;
-            reached = rw on (whole found);
-            roomy = record {
-              names-room = sound .roomy .names-room;
-              entries-room = sound .roomy .entries-room;
-              rows = length-set (s .direct) lower row ∙ sound .roomy .rows;
-              targets-room = sound .roomy .targets-room;
-            };
-            few-entries = sound .few-entries;
-            few-targets = sound .few-targets;
-            named = sound .named;
-            entries-whole = sound .entries-whole;
-            formed = sound .formed;
-            targets-declared = sound .targets-declared;
-            within = within-more (s .direct) (p .types) lower upper row room (omega (arith, fine .1)) (omega (arith, fine .2)) members (sound .within);
-          };
-          on = on;
-          right = λ B k. (
-            fault-kept 0 found B k,
-            rw (kind, ← lo, ← up)
-                (record { names = k .names; pairs = hold-more (s .direct) (B .pairs) lower upper row room members (k .pairs); entries = k .entries; targets = k .targets }),
-          );
-        }
+      pub pair-taken : kindAt bytes (p .at) ≡ kindNumber order-pair → (lower upper row : ℕ) → lower ≡ getD {A = ℕ} body 0 0 → upper ≡ getD {A = ℕ} body 1 0
+          → Members row (λ k. Has (getD {A = ℕ} (s .direct) lower 0) k ⊎ (k ≡ upper))
+          → Taking bytes s p (store (s .names) (s .entries) (set (s .direct) lower row) (s .targets)) (record { at = next; types = p .types; entries = p .entries; targets = p .targets })
+      unfolding add
+      pair-taken kind lower upper row lo up members =
+          let fine = pair-place kind in
+          let room : lower < length (s .direct) = omega (arith, fine .1, sound .names .few, sound .pairs .rows) in
+          let more = pairs-sound (s .direct) (p .types) lower upper row room (omega (arith, fine .1)) (omega (arith, fine .2)) members (sound .pairs) in
+          taken _ _ on (sound .names) (sound .entries) more (sound .targets)
+          (λ B k.
+          rw (kind, ← lo, ← up)
+          (record { names = k .names; pairs = hold-more (s .direct) (B .pairs) lower upper row room members (k .pairs); entries = k .entries; targets = k .targets }))
 
-    pub target-taken : kindAt bytes (p .at) ≡ 4 → (t : ℕ) → t ≡ getD {A = ℕ} (bodyAt bytes (p .at)) 0 0
-        → Taking bytes s p (store (s .names) (s .entries) (s .direct) (set (s .targets) (p .targets) t)) (record { at = next; types = p .types; entries = p .entries; targets = p .targets + 1 })
-    unfolding add
-    target-taken kind t e =
-        let fine = target-place found kind in
-        let room : p .targets < length (s .targets) = omega (arith, fine .2, sound .roomy .targets-room) in
-        record {
-          sound = record {
-            short = sound .short;
-            reached = rw on (whole found);
-            roomy = record {
-              names-room = sound .roomy .names-room;
-              entries-room = sound .roomy .entries-room;
-              rows = sound .roomy .rows;
-              targets-room = omega (arith, length-set (s .targets) (p .targets) t, sound .roomy .targets-room);
-            };
-            few-entries = sound .few-entries;
-            few-targets = omega (arith, fine .2);
-            named = sound .named;
-            entries-whole = sound .entries-whole;
-            formed = sound .formed;
-            targets-declared = declared-next (s .targets) (p .types) (p .targets) t room (omega (arith, fine .1)) (sound .targets-declared);
-            within = sound .within;
-          };
-          on = on;
-          right = λ B k. (
-            fault-kept 0 found B k,
-            rw (kind, ← e)
-                (record {
-                  names = k .names;
-                  pairs = k .pairs;
-                  entries = k .entries;
-                  targets = ap (λ (l : List ℕ). l ++ (t ∷ [])) (k .targets) ∙ sym (take-more (s .targets) (p .targets) t room);
-                }),
-          );
-        }
+      pub target-taken : kindAt bytes (p .at) ≡ kindNumber target → (t : ℕ) → t ≡ getD {A = ℕ} body 0 0
+          → Taking bytes s p (store (s .names) (s .entries) (s .direct) (set (s .targets) (p .targets) t)) (record { at = next; types = p .types; entries = p .entries; targets = p .targets + 1 })
+      unfolding add
+      target-taken kind t e =
+          let fine = target-place kind in
+          let more = targets-sound (s .targets) (p .types) (p .targets) t (fine .2) (omega (arith, fine .1)) (sound .targets) in
+          let room : p .targets < length (s .targets) = omega (arith, fine .2, sound .targets .room) in
+          taken _ _ on (sound .names) (sound .entries) (sound .pairs) more
+          (λ B k.
+          rw (kind, ← e)
+          (record { names = k .names; pairs = k .pairs; entries = k .entries; targets = ap (λ (l : List ℕ). l ++ (t ∷ [])) (k .targets) ∙ sym (take-more (s .targets) (p .targets) t room) }))

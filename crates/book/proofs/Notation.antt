@@ -7,7 +7,7 @@ use native.Mathlib.Nat.{add-assoc}
 use mathlib.Core.Path.{_≡_, refl, sym, ap, ap₂, _∙_}
 use mathlib.Core.Logic.{_↔_}
 use mathlib.Core.Bool.{Bool, true, false, cond, not, _||_}
-use mathlib.Core.List.{List, [], _∷_, _++_}
+use mathlib.Core.List.{List, _++_}
 use lib.Dec.{ltb, eqb}
 use lib.ListN.{length, drop, length-append, length-drop}
 use borrow.Author.Tests.{eq-eqb, le-leb, lt-ltb, le-ltb}
@@ -17,13 +17,14 @@ use Rattle.pregroup.specs.Types.{PregroupType}
 use Rattle.format.specs.Records.{Bytes, every, headLength, twoBytes, nextAt, recordOf}
 use Rattle.notation.specs.Brackets.{tooDeep}
 use Rattle.notation.specs.Trees.{hasTree, textType}
-use Rattle.rules.specs.Layouts.{entryBody, isWorded, isEntry, simplesOf, typePart, slashed, of-simples, of-text}
+use Rattle.rules.specs.Layouts.{entry, slashed-entry, kindNumber, slashed, of-simples, of-text, entryBody, isWorded, isEntry, simplesOf, typePart}
 use Rattle.rules.specs.Rules.{bases, exponents, declaredAmong, exponentListed, bodyRules, recordRules, firstBroken}
-use Rattle.book.specs.Format.{Book, Entry, Parsed, accepted, refused, entryOf, add, withNext, ended, recordsFrom, parse, nothingYet}
+use Rattle.book.specs.Format.{Book, Parsed, accepted, refused, entryOf, withEntry, add, withNext, ended, recordsFrom, parse, nothingYet}
 use Rattle.book.specs.Kept.{nextFault}
 use Rattle.book.specs.Notation.{DifferInNotation, same-rest, same-record, in-slashes, AlikeParsed, both-accepted, both-refused}
 use Rattle.format.proofs.Bools.{and-true}
 use Rattle.format.proofs.RecordLaws.{size-first, kind-first, body-first, rest-first, size-at, kind-at, body-at, rest-at}
+use Rattle.rules.proofs.KindLaws.{kind-rules}
 use Rattle.rules.proofs.EntryLaws.{word-part, type-part}
 use Rattle.rules.proofs.WholeRecords.{isCut, record-whole}
 use Rattle.rules.proofs.Faults.{entry-faults, slashed-faults}
@@ -58,12 +59,14 @@ module _ (word part text : Bytes) where
 
     fault-alike :
         (entries targets : ℕ) → length part % 2 ≡ 0 → length part ≤ 2 * maxEntrySimples → tooDeep text ≡ false → hasTree text ≡ true
-        → firstBroken (bodyRules 3 (entryBody word part) names entries targets) ≡ firstBroken (bodyRules slashed (entryBody word text) names entries targets)
+        → firstBroken (bodyRules (kindNumber entry) (entryBody word part) names entries targets) ≡ firstBroken (bodyRules slashed (entryBody word text) names entries targets)
     fault-alike entries targets pairs few shallow tree =
-        entry-faults (entryBody word part) names entries targets (layout-alike pairs few) (ap declared-all pairs-type) (ap listed-all pairs-type ∙ exponents-listed) refl
+        ap firstBroken (kind-rules entry (entryBody word part) names entries targets)
+        ∙ entry-faults (entryBody word part) names entries targets (layout-alike pairs few) (ap declared-all pairs-type) (ap listed-all pairs-type ∙ exponents-listed) refl
         ∙ sym (slashed-faults (entryBody word text) names entries targets refl
         (ap (λ (x : Bytes). tooDeep x) (type-part word text) ∙ shallow) (ap (λ (x : Bytes). hasTree x) (type-part word text) ∙ tree)
         (ap declared-all slashed-type) (ap listed-all slashed-type ∙ exponents-listed) (ap (λ (X : PregroupType). ltb maxEntrySimples (length X)) slashed-type ∙ not-long) refl)
+        ∙ ap firstBroken (sym (kind-rules slashed-entry (entryBody word text) names entries targets))
       where
         exponents-listed : listed-all (textType names text) ≡ true
         exponents-listed = text-exponents-listed names text shallow
@@ -72,14 +75,11 @@ module _ (word part text : Bytes) where
         not-long = le-ltb maxEntrySimples (length (textType names text)) (omega (arith, few, simples-few part, ap (λ (X : PregroupType). length X) same))
 
   -- .. and the same book with it.
-  held-alike : (B : Book) → simplesOf part ≡ textType (B .names) text → add 3 (entryBody word part) B ≡ add slashed (entryBody word text) B
+  held-alike : (B : Book) → simplesOf part ≡ textType (B .names) text → add (kindNumber entry) (entryBody word part) B ≡ add slashed (entryBody word text) B
   held-alike B same =
-      add-entry of-simples (entryBody word part) B ∙ ap with-entry entry-alike ∙ sym (add-entry of-text (entryBody word text) B)
+      add-entry of-simples (entryBody word part) B ∙ ap (withEntry B) entry-alike ∙ sym (add-entry of-text (entryBody word text) B)
     where
-      with-entry : Entry → Book
-      with-entry x = record { names = B .names; pairs = B .pairs; entries = B .entries ++ (x ∷ []); targets = B .targets }
-
-      entry-alike : entryOf 3 (B .names) (entryBody word part) ≡ entryOf slashed (B .names) (entryBody word text)
+      entry-alike : entryOf (kindNumber entry) (B .names) (entryBody word part) ≡ entryOf slashed (B .names) (entryBody word text)
       entry-alike =
           ap₂ (λ (w : Bytes) (X : PregroupType). record { word = w; type = X }) (word-part word part ∙ sym (word-part word text)) (pairs-type (B .names) same ∙ sym (slashed-type (B .names) same))
 
@@ -114,7 +114,7 @@ step-first : {B : Book} {x y : Bytes} → DifferInNotation B x y → Step B x y
 step-first same-rest = record { some-more = (λ h. h, λ h. h); fault = refl; held = refl; rest = same-rest }
 step-first (same-record {B} kind body r) = first-step B kind kind body body refl refl r
 step-first (in-slashes {B} word part text pairs few shallow tree same r) =
-    first-step B 3 slashed (entryBody word part) (entryBody word text)
+    first-step B (kindNumber entry) slashed (entryBody word part) (entryBody word text)
     (fault-alike word part text (B .names) same (length (B .entries)) (length (B .targets)) pairs few shallow tree) (held-alike word part text B same) r
 
 -- What is read off a record at an offset is what is read off the rest from there on.

@@ -17,7 +17,7 @@ use Rattle.book.specs.Format.{Book, Parsed, accepted, refused, parse, no
 use Rattle.book.specs.Kept.{nextFault}
 use Rattle.book.specs.Check.{GoodUpTo, start, next, Cause, too-long, bad-record, no-target}
 use Rattle.rules.proofs.NoFault.{no-fault-whole}
-use Rattle.book.proofs.FirstBroken.{Decided, clean, broken, fault-decided, fault-clean, fault-first, breaks-within}
+use Rattle.book.proofs.FirstBroken.{Decided, clean, broken, fault-decided, fault-clean, fault-first, number-positive, breaks-number}
 
 module _ (bytes : Bytes) where
   pub records-end : (more at : ℕ) (B : Book) → length bytes ≤ at → recordsFrom more bytes at B ≡ ended bytes B
@@ -104,7 +104,7 @@ module _ (bytes : Bytes) where
   pub cause-refuses : {n v : ℕ} → Cause bytes n v → parse bytes ≡ refused n v
   cause-refuses (too-long h) = long-refused h
   cause-refuses (bad-record {at} {n} {B} short good h b first) =
-      bad-refuses short good n h (fault-first bytes at B n b first) (breaks-within bytes at B n b .0)
+      bad-refuses short good n h (fault-first bytes at B n b first) (number-positive (breaks-number bytes at B n b))
   cause-refuses (no-target {B} short good none) = end-parse short good (omega arith) ∙ ended-none B none
 
   -- What a book comes to, with its cause.

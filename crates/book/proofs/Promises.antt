@@ -2,40 +2,25 @@
 -- answer keeps them.
 use Prim.Native.Nat.{ℕ, _<_}
 use native.Mathlib.Omega.{arith}
-use mathlib.Core.Path.{_≡_, refl, sym, ap, subst, _∙_}
-use mathlib.Core.Logic.{_⊎_, inl, inr, ⊎-elim}
-use mathlib.Core.Bool.{Bool, true}
-use mathlib.Core.List.{List, [], _∷_, List·Memᴰ, List·Memᴰ·not-nil, List·Memᴰ·cases-cons}
+use mathlib.Core.Path.{_≡_, refl, sym, ap, _∙_}
+use mathlib.Core.Logic.{inl}
+use mathlib.Core.List.{List, [], _∷_}
 use lib.ListN.{length}
 use Rattle.figures.specs.Refusals.{Reply}
 use Rattle.pregroup.specs.Types.{Basic}
 use Rattle.order.specs.Closed.{Closed, Listed, HasPairs, closedCount}
 use Rattle.order.proofs.PairCount.{closed-has-pairs, pairs-unique}
 use Rattle.format.specs.Records.{Bytes}
-use Rattle.rules.specs.Rules.{bodyRules, recordRules}
-use Rattle.book.specs.Format.{Book, Parsed, accepted, refused, parse, nextRules}
+use Rattle.book.specs.Format.{Book, Parsed, accepted, refused, parse}
 use Rattle.book.specs.Check.{answerFor, bookCheck, checkReply, Cause, too-long, bad-record, no-target, BookPromised, BookNumber}
+use Rattle.book.proofs.FirstBroken.{number-positive, breaks-number}
 use Rattle.book.proofs.Parsing.{end-parse, ended-some, cause-refuses, Comes, whole, stopped, parse-comes}
 use Rattle.book.proofs.Accepted.{good-declares}
 
--- The number of each rule is one of these.
-abbrev Numbered : List (ℕ × Bool) → Type 0
-Numbered [] = Unit {0}
-Numbered (rule ∷ rules) = BookNumber (rule .0) × Numbered rules
-
-broken-numbered : (rules : List (ℕ × Bool)) → Numbered rules → (n : ℕ) → List·Memᴰ (n, true) rules → BookNumber n
-broken-numbered [] all n b = absurd (List·Memᴰ·not-nil b)
-broken-numbered (rule ∷ rules) all n b =
-    ⊎-elim (λ (e : (n, true) ≡ rule). subst BookNumber (sym (ap (λ (r : ℕ × Bool). r .0) e)) (all .0)) (λ l. broken-numbered rules (all .1) n l) (List·Memᴰ·cases-cons b)
-
-rules-numbered : (bytes : Bytes) (at : ℕ) (B : Book) → Numbered (nextRules bytes at B)
-unfolding recordRules bodyRules
-rules-numbered bytes at B =
-    (inl (omega arith), (inl (omega arith), (inl (omega arith), (inr (omega arith), (inr (omega arith), (inl (omega arith), (inl (omega arith), (inr (omega arith), (inl (omega arith), (inl (omega arith), (inl (omega arith), tt)))))))))))
-
+-- The numbers of all causes.
 pub cause-within : {bytes : Bytes} {n v : ℕ} → Cause bytes n v → BookNumber n
 cause-within (too-long h) = inl (omega arith)
-cause-within {bytes} (bad-record {at} {n} {B} short good h b first) = broken-numbered (nextRules bytes at B) (rules-numbered bytes at B) n b
+cause-within {bytes} (bad-record {at} {n} {B} short good h b first) = breaks-number bytes at B n b
 cause-within (no-target short good none) = inl (omega arith)
 
 refused-number : (n m v w : ℕ) → refused n v ≡ refused m w → n ≡ m
@@ -71,7 +56,7 @@ module _ (bytes : Bytes) where
         refuses = λ n v. (λ q. let three : _≡_ {A = ℕ} 3 1 = ap (λ (r : Reply). length (r .values)) q in absurd (omega arith), λ cause. absurd (never n v cause));
       }
   checked (stopped {n} {v} cause) parsed =
-      let some : 0 < n = ⊎-elim (λ h. h .0) (λ h. omega arith) (cause-within cause) in
+      let some = number-positive (cause-within cause) in
       record {
         accepts = (λ z. absurd (omega arith), λ free. absurd (free n v cause));
         counts = λ z. absurd (omega arith);

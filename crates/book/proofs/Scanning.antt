@@ -9,7 +9,7 @@ use Rattle.figures.specs.Refusals.{noTarget}
 use Rattle.format.specs.Records.{Bytes}
 use Rattle.book.specs.Format.{Book, nothingYet, refused, parse, ended, withNext}
 use Rattle.format.specs.Records.{Whole}
-use Rattle.book.specs.Kept.{Store, Roomy, NoPairs, Sound, Keeps, Taking, Refusing, Opened}
+use Rattle.book.specs.Kept.{Store, StoreRoomy, NoPairs, Sound, Keeps, Taking, Refusing, Opened}
 use Rattle.book.specs.Check.{GoodUpTo, start, next}
 use Rattle.book.specs.declared.Progress.{Progress}
 use Rattle.book.proofs.FirstBroken.{fault-none}
@@ -17,7 +17,7 @@ use Rattle.book.proofs.Parsing.{bad-refuses, end-parse, ended-none, end
 use Rattle.book.proofs.Keeping.{targets-count}
 
 -- How the reading stands: s₀ is what was lent, s what it holds now.
-pub record Standing (bytes : Bytes) (s₀ s : Store) (p : Progress) : Type 0 where
+pub record ScanStanding (bytes : Bytes) (s₀ s : Store) (p : Progress) : Type 0 where
   pub names-length : length (s .names) ≡ length (s₀ .names)
   pub entries-length : length (s .entries) ≡ length (s₀ .entries)
   pub direct-length : length (s .direct) ≡ length (s₀ .direct)
@@ -29,7 +29,7 @@ pub record Standing (bytes : Bytes) (s₀ s : Store) (p : Progress) : Type 0 whe
 
 -- Nothing is read yet.
 pub standing-start :
-    (bytes : Bytes) (s : Store) → length bytes ≤ maxBook → Roomy s → NoPairs (s .direct) → Standing bytes s s (record { at = 0; types = 0; entries = 0; targets = 0 })
+    (bytes : Bytes) (s : Store) → length bytes ≤ maxBook → StoreRoomy s → NoPairs (s .direct) → ScanStanding bytes s s (record { at = 0; types = 0; entries = 0; targets = 0 })
 standing-start bytes s short roomy empty =
     let none-yet : (offsets : List ℕ) → Whole bytes offsets 0 = λ offsets. record { room = omega arith; whole = λ i h. absurd (omega arith) } in
     record {
@@ -40,25 +40,21 @@ standing-start bytes s short roomy empty =
       sound = record {
         short = short;
         reached = omega arith;
-        roomy = roomy;
-        few-entries = omega arith;
-        few-targets = omega arith;
-        named = record { whole = none-yet (s .names); few = omega arith; places = roomy .names-room; different = λ i j h k e. absurd (omega arith) };
-        entries-whole = none-yet (s .entries);
-        formed = λ i h. absurd (omega arith);
-        targets-declared = λ i h. absurd (omega arith);
-        within = λ p q h. absurd (empty p q h);
+        names = record { whole = none-yet (s .names); few = omega arith; places = roomy .names-room; different = λ i j h k e. absurd (omega arith) };
+        entries = record { room = roomy .entries-room; few = omega arith; whole = none-yet (s .entries); formed = λ i h. absurd (omega arith) };
+        pairs = record { rows = roomy .rows; within = λ p q h. absurd (empty p q h) };
+        targets = record { room = roomy .targets-room; few = omega arith; declared = λ i h. absurd (omega arith) };
       };
       contents = nothingYet;
       keeps = record { names = refl; pairs = λ p q. (λ h. absurd (empty p q h), λ m. absurd (List·Memᴰ·not-nil m)); entries = refl; targets = refl };
       good = start;
     }
 
-module _ (bytes : Bytes) (s₀ s : Store) (p : Progress) (w : Standing bytes s₀ s p) where
+module _ (bytes : Bytes) (s₀ s : Store) (p : Progress) (w : ScanStanding bytes s₀ s p) where
   -- One record more.
   pub standing-next : (s′ : Store) (p′ : Progress) → p .at < length bytes → Taking bytes s p s′ p′ → length (s′ .names) ≡ length (s .names)
       → length (s′ .entries) ≡ length (s .entries) → length (s′ .direct) ≡ length (s .direct)
-      → length (s′ .targets) ≡ length (s .targets) → Standing bytes s₀ s′ p′
+      → length (s′ .targets) ≡ length (s .targets) → ScanStanding bytes s₀ s′ p′
   standing-next s′ p′ h t a b c d =
       let k = t .right (w .contents) (w .keeps) in
       record {
@@ -89,14 +85,14 @@ module _ (bytes : Bytes) (s₀ s : Store) (p : Progress) (w : Standing bytes s�
         w .contents,
         record {
           parsed = at-end h ∙ ended-some bytes (w .contents) (omega (arith, targets-count bytes s p (w .sound) (w .contents) (w .keeps)));
-          few-entries = w .sound .few-entries;
-          named = w .sound .named;
-          entries-whole = w .sound .entries-whole;
-          formed = w .sound .formed;
+          few-entries = w .sound .entries .few;
+          named = w .sound .names;
+          entries-whole = w .sound .entries .whole;
+          formed = w .sound .entries .formed;
           some-target = some;
-          few-targets = w .sound .few-targets;
-          targets-declared = w .sound .targets-declared;
-          within = w .sound .within;
+          few-targets = w .sound .targets .few;
+          targets-declared = w .sound .targets .declared;
+          within = w .sound .pairs .within;
           names = w .keeps .names;
           pairs = w .keeps .pairs;
           entries = w .keeps .entries;

@@ -10,12 +10,13 @@ use borrow.Author.Tests.{lt-leb}
 use Rattle.figures.specs.Limits.{maxBook, maxTargets}
 use Rattle.pregroup.specs.Types.{Basic}
 use Rattle.format.specs.Records.{Bytes, twoBytes, headLength, recordOf, kindAt, bodyAt, nextAt}
-use Rattle.rules.specs.Rules.{bodyRules, firstBroken}
+use Rattle.rules.specs.Layouts.{target, kindNumber}
+use Rattle.rules.specs.Rules.{kindRules, bodyRules, firstBroken}
 use Rattle.book.specs.Format.{Book, accepted, parse, add, withNext}
 use Rattle.book.specs.Kept.{nextFault}
 use Rattle.book.specs.Check.{GoodUpTo, start, next}
 use Rattle.format.proofs.RecordLaws.{size-first, kind-first, body-first, size-at, kind-at, body-at}
-use Rattle.rules.proofs.WholeRecords.{record-whole}
+use Rattle.rules.proofs.WholeRecords.{record-whole, kind-whole}
 use Rattle.rules.proofs.Faults.{one-yes, target-faults}
 use Rattle.rules.proofs.NoFault.{no-fault-whole}
 use Rattle.book.proofs.FirstBroken.{fault-none, fault-clean}
@@ -64,22 +65,22 @@ withTarget B s = record { names = B .names; pairs = B .pairs; entries = B .entri
 -- The record that is added, read where it stands.
 module _ (book : Bytes) (B : Book) (s : Basic) where
   abbrev longer : Bytes
-  longer = book ++ recordOf 4 (s ∷ [])
+  longer = book ++ recordOf (kindNumber target) (s ∷ [])
 
   longer-length : length longer ≡ length book + 5
-  longer-length = length-append book (recordOf 4 (s ∷ []))
+  longer-length = length-append book (recordOf (kindNumber target) (s ∷ []))
 
-  added : drop (length book) longer ≡ recordOf 4 (s ∷ [])
-  added = drop-append-seam book (recordOf 4 (s ∷ []))
+  added : drop (length book) longer ≡ recordOf (kindNumber target) (s ∷ [])
+  added = drop-append-seam book (recordOf (kindNumber target) (s ∷ []))
 
   added-size : twoBytes longer (length book) ≡ 1
-  added-size = sym (size-at longer (length book)) ∙ ap (λ (l : Bytes). twoBytes l 0) added ∙ size-first 4 (s ∷ []) []
+  added-size = sym (size-at longer (length book)) ∙ ap (λ (l : Bytes). twoBytes l 0) added ∙ size-first (kindNumber target) (s ∷ []) []
 
-  added-kind : kindAt longer (length book) ≡ 4
-  added-kind = sym (kind-at longer (length book)) ∙ ap (λ (l : Bytes). kindAt l 0) added ∙ kind-first 4 (s ∷ []) []
+  added-kind : kindAt longer (length book) ≡ kindNumber target
+  added-kind = sym (kind-at longer (length book)) ∙ ap (λ (l : Bytes). kindAt l 0) added ∙ kind-first (kindNumber target) (s ∷ []) []
 
   added-body : bodyAt longer (length book) ≡ s ∷ []
-  added-body = sym (body-at longer (length book)) ∙ ap (λ (l : Bytes). bodyAt l 0) added ∙ body-first 4 (s ∷ []) []
+  added-body = sym (body-at longer (length book)) ∙ ap (λ (l : Bytes). bodyAt l 0) added ∙ body-first (kindNumber target) (s ∷ []) []
 
   added-held : withNext longer (length book) B ≡ withTarget B s
   unfolding add
@@ -87,15 +88,15 @@ module _ (book : Bytes) (B : Book) (s : Basic) where
 
   added-clean : s < length (B .names) → length (B .targets) < maxTargets → nextFault longer (length book) B ≡ 0
   added-clean declared few =
-      sym (record-whole longer (length book) (B .names) (length (B .entries)) (length (B .targets)) (omega (arith, added-size, longer-length)) added-kind)
-      ∙ ap (λ (body : Bytes). firstBroken (bodyRules 4 body (B .names) (length (B .entries)) (length (B .targets)))) added-body
+      sym (kind-whole longer (length book) (B .names) (length (B .entries)) (length (B .targets)) target (omega (arith, added-size, longer-length)) added-kind)
+      ∙ ap (λ (body : Bytes). firstBroken (kindRules target body (B .names) (length (B .entries)) (length (B .targets)))) added-body
       ∙ target-faults (s ∷ []) (B .names) (length (B .entries)) (length (B .targets)) refl (one-yes (length (B .names)) (s ∷ []) refl declared) (lt-leb maxTargets (length (B .targets)) few)
 
   pub target-added :
       parse book ≡ accepted B → s < length (B .names) → length (B .targets) < maxTargets → length book + 5 ≤ maxBook
-      → parse (book ++ recordOf 4 (s ∷ [])) ≡ accepted (withTarget B s)
+      → parse (book ++ recordOf (kindNumber target) (s ∷ [])) ≡ accepted (withTarget B s)
   target-added e declared few short =
-      let here = good-longer (recordOf 4 (s ∷ [])) (accepted-good book B e .0) in
+      let here = good-longer (recordOf (kindNumber target) (s ∷ [])) (accepted-good book B e .0) in
       let good = next here (omega (arith, longer-length)) (fault-none longer (length book) B (added-clean declared few)) in
       let held : GoodUpTo longer (nextAt longer (length book)) (withTarget B s) = subst (GoodUpTo longer (nextAt longer (length book))) added-held good in
       end-parse longer (omega (arith, longer-length)) held (omega (arith, added-size, longer-length))

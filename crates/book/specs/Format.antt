@@ -3,6 +3,7 @@
 -- bad record decides.
 use Prim.Native.Nat.{ℕ, zero, suc}
 use mathlib.Core.Bool.{Bool, cond}
+use mathlib.Core.Option.{none, some}
 use mathlib.Core.List.{List, [], _∷_, _++_}
 use lib.Dec.{ltb, eqb}
 use lib.ListN.{length, getD}
@@ -12,7 +13,7 @@ use Rattle.pregroup.specs.Types.{Basic, PregroupType}
 use Rattle.order.specs.Closed.{Pair}
 use Rattle.format.specs.Records.{Bytes, kindAt, bodyAt, nextAt}
 use Rattle.notation.specs.Trees.{textType}
-use Rattle.rules.specs.Layouts.{byKind, wordOf, typePart, simplesOf, slashed}
+use Rattle.rules.specs.Layouts.{Kind, basic-type, order-pair, entry, target, slashed-entry, kindNumber, kindOf, wordOf, typePart, simplesOf, slashed}
 use Rattle.rules.specs.Rules.{recordRules, firstBroken}
 
 -- An entry (the lexical entry of a pregroup lexicon): a word with one of its types.
@@ -33,28 +34,33 @@ pub data Parsed : Type 0 where
   accepted : Book → Parsed
   refused : ℕ → ℕ → Parsed
 
--- The type that stands as these bytes in an entry of a kind, where basic types have these names.
-abbrev pub typeBy : ℕ → List Bytes → Bytes → PregroupType
-typeBy kind names part = cond (eqb kind slashed) (textType names part) (simplesOf part)
+-- The type that stands as these bytes in an entry whose kind has this number, where basic types have these names.
+abbrev pub partType : ℕ → List Bytes → Bytes → PregroupType
+partType number names part = cond (eqb number slashed) (textType names part) (simplesOf part)
 
 abbrev pub entryOf : ℕ → List Bytes → Bytes → Entry
-entryOf kind names body = record { word = wordOf body; type = typeBy kind names (typePart body) }
+entryOf number names body = record { word = wordOf body; type = partType number names (typePart body) }
 
 -- A book of which nothing has been read.
 abbrev pub nothingYet : Book
 nothingYet = record { names = []; pairs = []; entries = []; targets = [] }
 
--- A record's contents put behind those of the records before it.
-unfoldable pub add : ℕ → Bytes → Book → Book
-add kind body B =
+abbrev pub withEntry : Book → Entry → Book
+withEntry B x = record { names = B .names; pairs = B .pairs; entries = B .entries ++ (x ∷ []); targets = B .targets }
+
+-- What a record of each kind holds, put behind what the records before it hold.
+abbrev pub addKind : Kind → Bytes → Book → Book
+addKind basic-type body B = record { names = B .names ++ (body ∷ []); pairs = B .pairs; entries = B .entries; targets = B .targets }
+addKind order-pair body B =
     let pair : Pair = record { lower = getD {A = ℕ} body 0 0; upper = getD {A = ℕ} body 1 0 } in
-    let more : Book = record { names = B .names; pairs = B .pairs; entries = B .entries ++ (entryOf kind (B .names) body ∷ []); targets = B .targets } in
-    byKind {A = Book} kind
-    (record { names = B .names ++ (body ∷ []); pairs = B .pairs; entries = B .entries; targets = B .targets })
-    (record { names = B .names; pairs = B .pairs ++ (pair ∷ []); entries = B .entries; targets = B .targets })
-    more
-    (record { names = B .names; pairs = B .pairs; entries = B .entries; targets = B .targets ++ (getD {A = ℕ} body 0 0 ∷ []) })
-    more
+    record { names = B .names; pairs = B .pairs ++ (pair ∷ []); entries = B .entries; targets = B .targets }
+addKind entry body B = withEntry B (entryOf (kindNumber entry) (B .names) body)
+addKind target body B = record { names = B .names; pairs = B .pairs; entries = B .entries; targets = B .targets ++ (getD {A = ℕ} body 0 0 ∷ []) }
+addKind slashed-entry body B = withEntry B (entryOf (kindNumber slashed-entry) (B .names) body)
+
+-- The same by the number in the record's head. A record whose kind is not listed holds nothing.
+unfoldable pub add : ℕ → Bytes → Book → Book
+add number body B = elim (kindOf number) [ none ↦ B | some kind ↦ addKind kind body B ]
 
 -- The record at an offset behind those that hold B: its rules, and what they hold with it.
 abbrev pub nextRules : Bytes → ℕ → Book → List (ℕ × Bool)

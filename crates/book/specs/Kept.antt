@@ -15,7 +15,7 @@ use Rattle.notation.specs.Brackets.{tooDeep}
 use Rattle.notation.specs.Trees.{hasTree}
 use Rattle.notation.specs.Places.{Holds}
 use Rattle.pregroup.specs.Types.{PregroupType}
-use Rattle.rules.specs.Layouts.{typePart, isWorded}
+use Rattle.rules.specs.Layouts.{entry, kindNumber, slashed, typePart, isWorded}
 use Rattle.rules.specs.Rules.{declaredAmong, bases, exponents, exponentListed, firstBroken}
 use Rattle.book.specs.Format.{Book, Entry, accepted, refused, parse, entryOf, nextRules, withNext}
 use Rattle.book.specs.declared.EntryType.{EntryType}
@@ -35,8 +35,8 @@ entriesAt bytes names offsets count = map (entryFrom bytes names) (take count of
 
 -- The bytes of a type are as its entry's kind has them: simple types of two bytes each, or a text with a tree.
 pub data Shaped : ℕ → Bytes → Type 0 where
-  as-simples : {part : Bytes} → length part % 2 ≡ 0 → Shaped 3 part
-  as-text : {part : Bytes} → tooDeep part ≡ false → hasTree part ≡ true → Shaped 5 part
+  as-simples : {part : Bytes} → length part % 2 ≡ 0 → Shaped (kindNumber entry) part
+  as-text : {part : Bytes} → tooDeep part ≡ false → hasTree part ≡ true → Shaped slashed part
 
 -- At an offset stands an entry with a word, with declared types, with exponents from −8 to 8, and with no more than 12 simple types.
 pub record Formed (bytes : Bytes) (names : List Bytes) (at : ℕ) : Type 0 where
@@ -68,7 +68,7 @@ abbrev pub store : List ℕ → List ℕ → List ℕ → List ℕ → Store
 store names entries direct targets = record { names = names; entries = entries; direct = direct; targets = targets }
 
 -- There is room for all that a book may have.
-pub record Roomy (s : Store) : Type 0 where
+pub record StoreRoomy (s : Store) : Type 0 where
   pub names-room : namePlaces ≤ length (s .names)
   pub entries-room : maxEntries ≤ length (s .entries)
   pub rows : length (s .direct) ≡ maxTypes
@@ -82,18 +82,30 @@ NoPairs direct = (p q : ℕ) → InRows direct p q → ⊥
 abbrev pub TargetsDeclared : List ℕ → ℕ → ℕ → Type 0
 TargetsDeclared targets types count = (i : ℕ) → i < count → getD {A = ℕ} targets i 0 < types
 
--- The numbers that are kept lie within their limits, and the offsets are those of whole records.
+-- What is kept of the entries, the order pairs and the targets lies within its limits, with room for more, and names declared basic types only.
+pub record EntriesSound (bytes : Bytes) (names : List Bytes) (offsets : List ℕ) (count : ℕ) : Type 0 where
+  pub room : maxEntries ≤ length offsets
+  pub few : count ≤ maxEntries
+  pub whole : Whole bytes offsets count
+  pub formed : AllFormed bytes names offsets count
+
+pub record PairsSound (direct : List ℕ) (types : ℕ) : Type 0 where
+  pub rows : length direct ≡ maxTypes
+  pub within : Within types (InRows direct)
+
+pub record TargetsSound (targets : List ℕ) (types count : ℕ) : Type 0 where
+  pub room : maxTargets ≤ length targets
+  pub few : count ≤ maxTargets
+  pub declared : TargetsDeclared targets types count
+
+-- All that is kept is sound.
 pub record Sound (bytes : Bytes) (s : Store) (p : Progress) : Type 0 where
   pub short : length bytes ≤ maxBook
   pub reached : p .at ≤ length bytes
-  pub roomy : Roomy s
-  pub few-entries : p .entries ≤ maxEntries
-  pub few-targets : p .targets ≤ maxTargets
-  pub named : Named bytes (s .names) (p .types)
-  pub entries-whole : Whole bytes (s .entries) (p .entries)
-  pub formed : AllFormed bytes (bodiesAt bytes (s .names) (p .types)) (s .entries) (p .entries)
-  pub targets-declared : TargetsDeclared (s .targets) (p .types) (p .targets)
-  pub within : Within (p .types) (InRows (s .direct))
+  pub names : Named bytes (s .names) (p .types)
+  pub entries : EntriesSound bytes (bodiesAt bytes (s .names) (p .types)) (s .entries) (p .entries)
+  pub pairs : PairsSound (s .direct) (p .types)
+  pub targets : TargetsSound (s .targets) (p .types) (p .targets)
 
 -- What is kept stands for B.
 pub record Keeps (bytes : Bytes) (s : Store) (p : Progress) (B : Book) : Type 0 where

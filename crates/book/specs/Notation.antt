@@ -8,7 +8,7 @@ use Rattle.figures.specs.Limits.{maxEntrySimples}
 use Rattle.format.specs.Records.{Bytes, recordOf}
 use Rattle.notation.specs.Brackets.{tooDeep}
 use Rattle.notation.specs.Trees.{hasTree, textType}
-use Rattle.rules.specs.Layouts.{entryBody, simplesOf, slashed}
+use Rattle.rules.specs.Layouts.{entry, kindNumber, slashed, entryBody, simplesOf}
 use Rattle.book.specs.Format.{Book, Parsed, accepted, refused, add}
 
 -- Two books, behind records that hold B, that differ only in notation: record by record they have the same bytes, or the first has an entry of
@@ -19,8 +19,8 @@ pub data DifferInNotation : Book → Bytes → Bytes → Type 0 where
   same-record : {B : Book} (kind : ℕ) (body : Bytes) {a b : Bytes} → DifferInNotation (add kind body B) a b
       → DifferInNotation B (recordOf kind body ++ a) (recordOf kind body ++ b)
   in-slashes : {B : Book} (word part text : Bytes) {a b : Bytes} → length part % 2 ≡ 0 → length part ≤ 2 * maxEntrySimples
-      → tooDeep text ≡ false → hasTree text ≡ true → simplesOf part ≡ textType (B .names) text → DifferInNotation (add 3 (entryBody word part) B) a b
-      → DifferInNotation B (recordOf 3 (entryBody word part) ++ a) (recordOf slashed (entryBody word text) ++ b)
+      → tooDeep text ≡ false → hasTree text ≡ true → simplesOf part ≡ textType (B .names) text → DifferInNotation (add (kindNumber entry) (entryBody word part) B) a b
+      → DifferInNotation B (recordOf (kindNumber entry) (entryBody word part) ++ a) (recordOf slashed (entryBody word text) ++ b)
 
 -- Two books come to the same: both are accepted and hold the same, or both are refused with the same number. The values may differ, since texts
 -- and simple types take different room.

@@ -9,7 +9,7 @@ use notation::brackets::count_simples;
 use pregroup::EXPONENT_BIAS;
 use pregroup::hold;
 use rules::layout::LEAST_EXPONENT;
-use rules::layout::SLASHED;
+use rules::layout::SLASHED_ENTRY;
 use rules::layout::type_part;
 use rules::layout::word_part;
 use slash::read_text;
@@ -91,7 +91,7 @@ pub fn entry_type(book: &[u8], names: &[u16], types: usize, at: usize) -> EntryT
     ensures { λ r. ⌜ HeldType r (entryFrom (now (book .entry)) (bodiesAt (now (book .entry)) (now (names .entry)) types) at .type) ⌝ }
 {
     let part = type_part(body_at(book, at));
-    if two_bytes(book, at + 2) == SLASHED {
+    if two_bytes(book, at + 2) == SLASHED_ENTRY {
         return text_type(part, book, names, types);
     }
     pairs_type(part)
@@ -103,7 +103,7 @@ pub fn entry_length(book: &[u8], at: usize) -> usize
     ensures { λ r. ⌜ ((names : List Bytes) → Formed (now (book .entry)) names at → r ≡ length (entryFrom (now (book .entry)) names at .type)) ⌝ }
 {
     let part = type_part(body_at(book, at));
-    if two_bytes(book, at + 2) == SLASHED {
+    if two_bytes(book, at + 2) == SLASHED_ENTRY {
         return count_simples(part);
     }
     part.len() / 2

@@ -7,13 +7,18 @@ use bytewise::widths::two_bytes;
 use bytewise::widths::wide_byte;
 use figures::limits::MAX_BOOK;
 use figures::refusals::BOOK_TOO_LONG;
+use figures::refusals::KIND_NOT_LISTED;
 use figures::refusals::NO_TARGET;
 use format::layout::HEAD;
 use format::layout::body_at;
 use format::names::keep_name;
-use rules::layout::SLASHED;
+use rules::layout::BASIC_TYPE;
+use rules::layout::ENTRY;
+use rules::layout::ORDER_PAIR;
+use rules::layout::SLASHED_ENTRY;
+use rules::layout::TARGET;
 ghost use Prim.Native.Nat.{_+_, _<_};
-ghost use Rattle.book.specs.Kept.{store, Roomy, NoPairs, Sound, TakenSays, ScanSays};
+ghost use Rattle.book.specs.Kept.{store, StoreRoomy, NoPairs, Sound, TakenSays, ScanSays};
 
 // Takes the next record in: its offset, its pair or its target is kept, or it is refused.
 fn take_record(
@@ -40,7 +45,7 @@ fn take_record(
     let next = at + HEAD + body.len();
     let kind = two_bytes(book, at + 2);
     match kind {
-        1 => {
+        BASIC_TYPE => {
             keep_name(names, types, at, body);
             Taken::Next(Progress {
                 at: next,
@@ -49,7 +54,7 @@ fn take_record(
                 targets: goals,
             })
         }
-        2 => {
+        ORDER_PAIR => {
             let lower = wide_byte(body[0]);
             direct[lower] = bits::with(direct[lower], body[1]);
             Taken::Next(Progress {
@@ -59,7 +64,7 @@ fn take_record(
                 targets: goals,
             })
         }
-        3 | SLASHED => {
+        ENTRY | SLASHED_ENTRY => {
             entries[count] = at as u16;
             Taken::Next(Progress {
                 at: next,
@@ -68,7 +73,7 @@ fn take_record(
                 targets: goals,
             })
         }
-        _ => {
+        TARGET => {
             targets[goals] = body[0];
             Taken::Next(Progress {
                 at: next,
@@ -77,6 +82,8 @@ fn take_record(
                 targets: goals + 1,
             })
         }
+        // Never taken: a record of any other kind has a fault.
+        _ => Taken::Bad(KIND_NOT_LISTED),
     }
 }
 
@@ -88,7 +95,7 @@ pub fn scan_book(
     direct: &mut [u64],
     targets: &mut [u8],
 ) -> Scan
-    requires { ⌜ Roomy (store (now names) (now entries) (now direct) (now targets)) × NoPairs (now direct) ⌝ }
+    requires { ⌜ StoreRoomy (store (now names) (now entries) (now direct) (now targets)) × NoPairs (now direct) ⌝ }
     ensures { λ r. ⌜ ScanSays (now (book .entry)) (store (now (names .exit)) (now (entries .exit)) (now (direct .exit)) (now (targets .exit))) r ⌝ }
 {
     if MAX_BOOK < book.len() {

@@ -5,12 +5,12 @@ use native.Mathlib.Omega.{arith}
 use mathlib.Core.Path.{_≡_, refl, sym, ap, _∙_, subst}
 use mathlib.Core.Logic.{_↔_, _⊎_, inl, inr}
 use mathlib.Core.List.{List, [], _∷_, _++_, append-assoc, append-nil}
-use lib.ListN.{getD}
 use Rattle.pregroup.specs.Types.{Simple, PregroupType}
 use Rattle.pregroup.specs.Order.{Relation}
 use Rattle.pregroup.specs.Vanish.{Vanish}
-use Rattle.graph.specs.Graph.{Graph, Labelled, EntersBy, by, Path, here, take, enter, Boundary, Spells, ended, more}
-use Rattle.choice.specs.Completion.{Finishes, finishes, SlotChoice, done, choose, Completes, completes, CompletableBy, by-slot, NotAfter, same, smaller, later, FirstChoice, Scanned, ends, takes}
+use Rattle.graph.specs.Graph.{Graph, enteredAt, Labelled, EntersBy, by, Path, here, take, enter, Boundary, Spells, ended, more}
+use Rattle.linking.specs.Linking.{AtMost, equal, first as smaller, later}
+use Rattle.choice.specs.Completion.{Finishes, finishes, SlotChoice, done, choose, Completes, completes, CompletableBy, by-slot, FirstChoice, Scanned, ends, takes}
 use Rattle.chart.proofs.Recurrence.{path-append}
 use Rattle.choice.proofs.Completion.{path-of-entry}
 use Rattle.bits.proofs.Cases.{less-or-not, same-or-not}
@@ -92,8 +92,8 @@ leaves-of (choose e t c) = leaves e t c
 
 module _ {g : Graph} {end : ℕ} (closed : (s w : ℕ) → EntersBy g end s w → ⊥) where
   -- Nothing leaves the end.
-  first-at-end : {X : PregroupType} {others : List ℕ} → Leaves g end others X end → NotAfter [] others
-  first-at-end (stays e) = same
+  first-at-end : {X : PregroupType} {others : List ℕ} → Leaves g end others X end → AtMost [] others
+  first-at-end (stays e) = equal
   first-at-end (leaves {s} {w} e t c) = absurd (closed s w e)
 
 module _ {Le : Relation} {g : Graph} {end : ℕ} (last : Boundary g end) (closed : (s w : ℕ) → EntersBy g end s w → ⊥) where
@@ -109,27 +109,27 @@ module _ {Le : Relation} {g : Graph} {end : ℕ} (last : Boundary g end) (closed
   -- The same slot: the rest decides.
   first-behind :
       (P : PregroupType) {T R X : PregroupType} {b c : ℕ} {slots others : List ℕ}
-      → ((rest : List ℕ) → Completes Le g (P ++ T) b rest end → NotAfter slots rest) → SameEntry T b R c → SlotChoice g c others X end
-      → Vanish Le (P ++ (R ++ X)) → NotAfter slots others
+      → ((rest : List ℕ) → Completes Le g (P ++ T) b rest end → AtMost slots rest) → SameEntry T b R c → SlotChoice g c others X end
+      → Vanish Le (P ++ (R ++ X)) → AtMost slots others
   first-behind P {others} first same-entry k v = first others (completes k (rw append-assoc v))
 
   module _ (P : PregroupType) {T : PregroupType} {u s w b : ℕ} {slots : List ℕ} (e : EntersBy g u s w) (t : Spells g w T b)
       (none : (r v : ℕ) → r < s → EntersBy g u r v → Finishes Le g P v end → ⊥)
-      (first : (rest : List ℕ) → Completes Le g (P ++ T) b rest end → NotAfter slots rest) where
+      (first : (rest : List ℕ) → Completes Le g (P ++ T) b rest end → AtMost slots rest) where
     first-by :
         {r v c : ℕ} {R X : PregroupType} {others : List ℕ} → (r < s) ⊎ (s ≤ r) → (r ≡ s) ⊎ (r ≡ s → ⊥) → EntersBy g u r v → Spells g v R c
-        → SlotChoice g c others X end → Vanish Le (P ++ (R ++ X)) → NotAfter (s ∷ slots) (r ∷ others)
+        → SlotChoice g c others X end → Vanish Le (P ++ (R ++ X)) → AtMost (s ∷ slots) (r ∷ others)
     first-by {r} {v} (inl l) q f h k x = absurd (none r v l f (finishes (path-append (path-of-entry h) (path-of-choice k)) x))
     first-by {c} {R} (inr l) (inl q) f h k x =
-        let at = f .entered ∙ ap (λ (n : ℕ). getD (g .enters) n 0) q ∙ sym (e .entered) in
+        let at = f .entered ∙ ap (λ (n : ℕ). enteredAt (g .slots) n) q ∙ sym (e .entered) in
         rw q (later (first-behind P first (entry-same t (subst (λ (n : ℕ). Spells g n R c) at h)) k x))
     first-by {r} (inr l) (inr q) f h k x = let less : s < r = omega arith in smaller less
 
-    first-here : {others : List ℕ} {X : PregroupType} → Leaves g u others X end → Vanish Le (P ++ X) → NotAfter (s ∷ slots) others
+    first-here : {others : List ℕ} {X : PregroupType} → Leaves g u others X end → Vanish Le (P ++ X) → AtMost (s ∷ slots) others
     first-here (stays q) x = absurd (closed s w (subst (λ (n : ℕ). EntersBy g n s w) q e))
     first-here (leaves {s = r} f h k) x = first-by (less-or-not r s) (same-or-not r s) f h k x
 
-  scanned-first : {P : PregroupType} {u : ℕ} {slots : List ℕ} → Scanned Le g end P u slots → (others : List ℕ) → Completes Le g P u others end → NotAfter slots others
+  scanned-first : {P : PregroupType} {u : ℕ} {slots : List ℕ} → Scanned Le g end P u slots → (others : List ℕ) → Completes Le g P u others end → AtMost slots others
   scanned-first (ends v) others (completes c x) = first-at-end closed (leaves-of c)
   scanned-first (takes {P} e t none rest) others (completes c x) = first-here P e t none (λ o k. scanned-first rest o k) (leaves-of c) x
 

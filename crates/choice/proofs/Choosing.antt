@@ -6,14 +6,14 @@ use native.Mathlib.Omega.{arith}
 use mathlib.Core.Path.{_≡_, refl, sym, ap, _∙_, subst}
 use mathlib.Core.Logic.{_⊎_, inl, inr}
 use mathlib.Core.List.{List, [], _∷_, _++_, append-assoc, append-nil}
-use lib.ListN.{getD, length, take, set, length-set, length-append}
+use lib.ListN.{length, take, set, length-set, length-append}
 use lib.Seq.{take-suc-set}
 use Rattle.figures.specs.Limits.{maxPlaces}
 use Rattle.bits.proofs.Cases.{less-or-not}
 use Rattle.pregroup.specs.Types.{Simple, PregroupType}
 use Rattle.pregroup.specs.Order.{Relation}
 use Rattle.pregroup.specs.Vanish.{Vanish}
-use Rattle.graph.specs.Graph.{Graph, labelOf, Labelled, EntersBy, by, Path, here, take as takes-node, enter, VanishTo, along, Boundary, Spells, ended, more}
+use Rattle.graph.specs.Graph.{Graph, simpleAt, nextAt, fromAt, toAt, enteredAt, labelOf, Labelled, EntersBy, by, Path, here, take as takes-node, enter, VanishTo, along, Boundary, Spells, ended, more}
 use Rattle.chart.proofs.Recurrence.{path-append}
 use Rattle.chart.proofs.Filling.{links-there}
 use Rattle.table.specs.Table.{stringOf}
@@ -33,14 +33,14 @@ pub data Rest (Le : Relation) (g : Graph) (end : ℕ) (P : PregroupType) (u : �
 pub data Ahead (g : Graph) (u : ℕ) (slots : List ℕ) : PregroupType → ℕ → Type 0 where
   ahead : {T X : PregroupType} {b end : ℕ} → Spells g u T b → SlotChoice g b slots X end → Ahead g u slots (T ++ X) end
 
-pub record Choosing (Le : Relation) (g : Graph) (string slots table needs : List ℕ) (end u words places : ℕ) : Type 0 where
-  pub below : u < g .count
+pub record Choosing (Le : Relation) (g : Graph) (string chosen table needs : List ℕ) (end u words places : ℕ) : Type 0 where
+  pub below : u < length (g .nodes)
   pub few : places + words ≤ u
   pub grown : Grown Le g (stringOf string places) end u places table needs
   pub walked : Path g 0 (stringOf string places) u
   pub finished : Finishes Le g (stringOf string places) u end
-  pub scan : (more : List ℕ) → Rest Le g end (stringOf string places) u more → Scanned Le g end [] 0 (take words slots ++ more)
-  pub spell : (more : List ℕ) (X : PregroupType) → Ahead g u more X end → SlotChoice g 0 (take words slots ++ more) (stringOf string places ++ X) end
+  pub scan : (more : List ℕ) → Rest Le g end (stringOf string places) u more → Scanned Le g end [] 0 (take words chosen ++ more)
+  pub spell : (more : List ℕ) (X : PregroupType) → Ahead g u more X end → SlotChoice g 0 (take words chosen ++ more) (stringOf string places ++ X) end
 
 -- What is finished from a simple node is finished from the node behind it, with its simple type chosen.
 module _ {Le : Relation} {g : Graph} where
@@ -59,14 +59,14 @@ module _ {g : Graph} where
   ahead-take l (ahead t c) = ahead (more l t) c
 
 -- A path from a simple node to the end takes one simple type at least.
-takes-some : {g : Graph} {u end : ℕ} {X : PregroupType} → Boundary g end → (getD (g .nexts) u 0 ≡ 0 → ⊥) → Path g u X end → 1 ≤ length X
+takes-some : {g : Graph} {u end : ℕ} {X : PregroupType} → Boundary g end → (nextAt (g .nodes) u ≡ 0 → ⊥) → Path g u X end → 1 ≤ length X
 takes-some last simple here = absurd (simple last)
 takes-some last simple (takes-node l p) = omega arith
 takes-some last simple (enter (by s e) p) = absurd (simple (e .boundary))
 
 -- The places so far are no more than a path has.
-module _ {Le : Relation} {g : Graph} {chart string slots table needs : List ℕ} {end u words places : ℕ} (pre : Choosable Le g chart end)
-    (now : Choosing Le g string slots table needs end u words places) where
+module _ {Le : Relation} {g : Graph} {chart string chosen table needs : List ℕ} {end u words places : ℕ} (pre : Choosable Le g chart end)
+    (now : Choosing Le g string chosen table needs end u words places) where
   few-behind : {X : PregroupType} → Path g u X end → places + length X ≤ maxPlaces
   few-behind {X} p =
       omega (arith, pre .brief (path-append (now .walked) p), length-append (stringOf string places) X, length-string string places)
@@ -77,42 +77,42 @@ module _ {Le : Relation} {g : Graph} {chart string slots table needs : List ℕ}
       of : Finishes Le g (stringOf string places) u end → places ≤ maxPlaces
       of (finishes p v) = omega (arith, few-behind p)
 
-  pub place-left : (getD (g .nexts) u 0 ≡ 0 → ⊥) → places + 1 ≤ maxPlaces
+  pub place-left : (nextAt (g .nodes) u ≡ 0 → ⊥) → places + 1 ≤ maxPlaces
   place-left simple = of (now .finished)
     where
       of : Finishes Le g (stringOf string places) u end → places + 1 ≤ maxPlaces
       of (finishes p v) = omega (arith, few-behind p, takes-some (pre .ends .boundary) simple p)
 
 -- At a simple node.
-module _ {Le : Relation} {g : Graph} {chart string slots table needs : List ℕ} {end u words places : ℕ} (pre : Choosable Le g chart end)
-    (now : Choosing Le g string slots table needs end u words places) (simple : getD (g .nexts) u 0 ≡ 0 → ⊥) (string-room : maxPlaces ≤ length string) where
+module _ {Le : Relation} {g : Graph} {chart string chosen table needs : List ℕ} {end u words places : ℕ} (pre : Choosable Le g chart end)
+    (now : Choosing Le g string chosen table needs end u words places) (simple : nextAt (g .nodes) u ≡ 0 → ⊥) (string-room : maxPlaces ≤ length string) where
   room : places + 1 ≤ maxPlaces
   room = place-left pre now simple
 
   abbrev string′ : List ℕ
-  string′ = set string places (getD (g .simples) u 0)
+  string′ = set string places (simpleAt (g .nodes) u)
 
-  pub growable : {count : ℕ} → Roomy count string slots table needs → Growable Le (g .simples) (g .nexts) chart string′ places u table needs
+  pub growable : Roomy g string chosen table needs → Growable Le (g .nodes) chart string′ places u table needs
   growable roomy = record {
     links-there = links-there Le g chart (pre .upward) (pre .chart-rows) u (now .below) (λ w h. pre .filled w (omega arith)) (omega arith);
-    string-there = record { few = room; there = omega (arith, room, string-room, length-set string places (getD (g .simples) u 0)) };
-    right = rw (string-kept string places (getD (g .simples) u 0)) (now .grown .right);
+    string-there = record { few = room; there = omega (arith, room, string-room, length-set string places (simpleAt (g .nodes) u)) };
+    right = rw (string-kept string places (simpleAt (g .nodes) u)) (now .grown .right);
     table-room = roomy .table-rows (places + 1) room;
     needs-room = roomy .needs-rows (places + 1) room;
   }
 
-  node-label : Labelled g u (labelOf g u) (getD (g .nexts) u 0)
+  node-label : Labelled g u (labelOf g u) (nextAt (g .nodes) u)
   node-label = record { simple = omega arith; label = refl; next = refl }
 
-  pub simple-up : (u < getD (g .nexts) u 0) × (getD (g .nexts) u 0 < g .count)
+  pub simple-up : (u < nextAt (g .nodes) u) × (nextAt (g .nodes) u < length (g .nodes))
   simple-up = pre .upward .nexts-up u (now .below) (omega arith)
 
   longer : stringOf string′ (places + 1) ≡ stringOf string places ++ (labelOf g u ∷ [])
-  longer = string-more string places (getD (g .simples) u 0) (omega (arith, room, string-room))
+  longer = string-more string places (simpleAt (g .nodes) u) (omega (arith, room, string-room))
 
-  pub picked-turn :
-      (table′ needs′ : List ℕ) → Grew Le (g .simples) (g .nexts) chart string′ places u needs table′ needs′
-      → Choosing Le g string′ slots table′ needs′ end (getD (g .nexts) u 0) words (places + 1)
+  picked-turn :
+      (table′ needs′ : List ℕ) → Grew Le (g .nodes) chart string′ places u needs table′ needs′
+      → Choosing Le g string′ chosen table′ needs′ end (nextAt (g .nodes) u) words (places + 1)
   picked-turn table′ needs′ grew = record {
     below = simple-up .1;
     few = omega (arith, simple-up .0, now .few);
@@ -125,6 +125,13 @@ module _ {Le : Relation} {g : Graph} {chart string slots table needs : List ℕ}
     scan = λ after r. now .scan after (rest-take node-label (rw longer at r));
     spell = λ after X a. rw (longer, append-assoc) (now .spell after (labelOf g u ∷ X) (ahead-take node-label a));
   }
+
+  -- The same, where the simple type and the node behind it are read before.
+  pub picked-by :
+      (label next : ℕ) → label ≡ simpleAt (g .nodes) u → next ≡ nextAt (g .nodes) u → (table′ needs′ : List ℕ)
+      → Grew Le (g .nodes) chart (set string places label) places u needs table′ needs′
+      → Choosing Le g (set string places label) chosen table′ needs′ end next words (places + 1)
+  picked-by label next e f table′ needs′ grew = rw (e, f) (picked-turn table′ needs′ (rw e at grew))
 
 -- What is finished from a boundary other than the end is finished from the node of some slot.
 data EntersFinished (Le : Relation) (g : Graph) (P : PregroupType) (u end : ℕ) : Type 0 where
@@ -161,50 +168,50 @@ slots-more slots k r after h =
     ∙ append-assoc (take k slots) (r ∷ []) after
 
 -- At a boundary.
-module _ {Le : Relation} {g : Graph} {chart string slots table needs : List ℕ} {end u words places : ℕ} (pre : Choosable Le g chart end)
-    (now : Choosing Le g string slots table needs end u words places) (away : u ≡ end → ⊥) (boundary : getD (g .nexts) u 0 ≡ 0) where
-  slot-enters : (s : ℕ) → getD (g .froms) u 0 ≤ s → s < getD (g .tos) u 0 → EntersBy g u s (getD (g .enters) s 0)
+module _ {Le : Relation} {g : Graph} {chart string chosen table needs : List ℕ} {end u words places : ℕ} (pre : Choosable Le g chart end)
+    (now : Choosing Le g string chosen table needs end u words places) (away : u ≡ end → ⊥) (boundary : nextAt (g .nodes) u ≡ 0) where
+  slot-enters : (s : ℕ) → fromAt (g .nodes) u ≤ s → s < toAt (g .nodes) u → EntersBy g u s (enteredAt (g .slots) s)
   slot-enters s h l = record { boundary = boundary; from-on = h; before = l; entered = refl }
 
-  enters-up : (s : ℕ) → getD (g .froms) u 0 ≤ s → s < getD (g .tos) u 0 → (u < getD (g .enters) s 0) × (getD (g .enters) s 0 < g .count)
-  enters-up s h l = pre .upward .enters-up u s (getD (g .enters) s 0) (now .below) (slot-enters s h l)
+  enters-up : (s : ℕ) → fromAt (g .nodes) u ≤ s → s < toAt (g .nodes) u → (u < enteredAt (g .slots) s) × (enteredAt (g .slots) s < length (g .nodes))
+  enters-up s h l = pre .upward .enters-up u s (enteredAt (g .slots) s) (now .below) (slot-enters s h l)
 
-  pub searchable : {count : ℕ} → Roomy count string slots table needs → Searchable (g .enters) chart needs places (getD (g .froms) u 0) (getD (g .tos) u 0)
+  pub searchable : Roomy g string chosen table needs → Searchable (g .slots) chart needs places (fromAt (g .nodes) u) (toAt (g .nodes) u)
   searchable roomy = record {
-    slots = pre .upward .slots-there u (now .below);
-    chart-room = λ s h l. pre .chart-rows (getD (g .enters) s 0) (enters-up s h l .1);
+    there = pre .upward .slots-there u (now .below) boundary;
+    chart-room = λ s h l. pre .chart-rows (enteredAt (g .slots) s) (enters-up s h l .1);
     needs-room = roomy .needs-rows places (few-places pre now);
   }
 
-  module _ (r : ℕ) (first : FirstSlot (g .enters) chart needs places (getD (g .froms) u 0) (getD (g .tos) u 0) r) where
+  module _ (r : ℕ) (first : FirstSlot (g .slots) chart needs places (fromAt (g .nodes) u) (toAt (g .nodes) u) r) where
     never : (s w : ℕ) → s < r → EntersBy g u s w → Finishes Le g (stringOf string places) w end → ⊥
     never s w h e f =
         let on = pre .upward .enters-up u s w (now .below) e in
         let test = meets-of-finishes (pre .filled) (now .grown) w (on .1) (λ z t. vanish-enter e t) f in
         first .none s (e .from-on) h (subst (λ (y : ℕ). Meets chart y needs places) (e .entered) test)
 
-    found-by : EntersFinished Le g (stringOf string places) u end → (r < getD (g .tos) u 0) ⊎ (getD (g .tos) u 0 ≤ r) → r < getD (g .tos) u 0
+    found-by : EntersFinished Le g (stringOf string places) u end → (r < toAt (g .nodes) u) ⊎ (toAt (g .nodes) u ≤ r) → r < toAt (g .nodes) u
     found-by f (inl h) = h
     found-by (enters-finished {s} {w} e f) (inr h) = absurd (never s w (omega (arith, e .before)) e f)
 
-    pub slot-found : r < getD (g .tos) u 0
-    slot-found = found-by (finishes-enters boundary away (now .finished)) (less-or-not r (getD (g .tos) u 0))
+    pub slot-found : r < toAt (g .nodes) u
+    slot-found = found-by (finishes-enters boundary away (now .finished)) (less-or-not r (toAt (g .nodes) u))
 
-    entered : EntersBy g u r (getD (g .enters) r 0)
+    entered : EntersBy g u r (enteredAt (g .slots) r)
     entered = slot-enters r (first .from-on) slot-found
 
-    pub slot-up : (u < getD (g .enters) r 0) × (getD (g .enters) r 0 < g .count)
+    pub slot-up : (u < enteredAt (g .slots) r) × (enteredAt (g .slots) r < length (g .nodes))
     slot-up = enters-up r (first .from-on) slot-found
 
-    pub entered-turn : words < length slots → Choosing Le g string (set slots words r) table needs end (getD (g .enters) r 0) (words + 1) places
+    pub entered-turn : words < length chosen → Choosing Le g string (set chosen words r) table needs end (enteredAt (g .slots) r) (words + 1) places
     entered-turn word-room = record {
       below = slot-up .1;
       few = omega (arith, slot-up .0, now .few);
-      grown = grown-on (getD (g .enters) r 0) (λ R z f. finishes-enter entered f) (now .grown);
+      grown = grown-on (enteredAt (g .slots) r) (λ R z f. finishes-enter entered f) (now .grown);
       walked = rw append-nil at (path-append (now .walked) (enter (by r entered) here));
-      finished = finishes-of-meets (pre .filled) (now .grown) (getD (g .enters) r 0) (slot-up .1) (first .found slot-found);
-      scan = λ after a. rw (slots-more slots words r after word-room) (now .scan (r ∷ after) (rest-enter entered never a));
-      spell = λ after X a. rw (slots-more slots words r after word-room) (now .spell (r ∷ after) X (ahead-enter entered a));
+      finished = finishes-of-meets (pre .filled) (now .grown) (enteredAt (g .slots) r) (slot-up .1) (first .found slot-found);
+      scan = λ after a. rw (slots-more chosen words r after word-room) (now .scan (r ∷ after) (rest-enter entered never a));
+      spell = λ after X a. rw (slots-more chosen words r after word-room) (now .spell (r ∷ after) X (ahead-enter entered a));
     }
 
 -- At the end the chosen string vanishes, and the slots are the first choice.
@@ -217,14 +224,14 @@ module _ {Le : Relation} {g : Graph} where
   vanish-at-end : {P : PregroupType} {end : ℕ} → Boundary g end → ((s w : ℕ) → EntersBy g end s w → ⊥) → Finishes Le g P end end → Vanish Le P
   vanish-at-end b closed (finishes p v) = ends-here refl b closed p v
 
-module _ {Le : Relation} {g : Graph} {chart string slots table needs : List ℕ} {end words places : ℕ} (pre : Choosable Le g chart end)
-    (now : Choosing Le g string slots table needs end end words places) where
-  scan-whole : Scanned Le g end [] 0 (take words slots)
+module _ {Le : Relation} {g : Graph} {chart string chosen table needs : List ℕ} {end words places : ℕ} (pre : Choosable Le g chart end)
+    (now : Choosing Le g string chosen table needs end end words places) where
+  scan-whole : Scanned Le g end [] 0 (take words chosen)
   scan-whole =
       let v : Vanish Le (stringOf string places) = vanish-at-end (pre .ends .boundary) (pre .ends .closed) (now .finished) in
       rw append-nil at (now .scan [] (rest (ended (pre .ends .boundary)) (ends (rw append-nil v))))
 
-  pub chose : Chose Le g string slots table end words places
+  pub chose : Chose Le g string chosen table end words places
   chose = record {
     scanned = scan-whole;
     first = scanned-is-first (pre .ends .boundary) (pre .ends .closed) scan-whole;
@@ -253,9 +260,9 @@ module _ {Le : Relation} {g : Graph} {chart : List ℕ} {end : ℕ} (pre : Choos
   finishes-to-end : VanishTo Le g 0 end → Finishes Le g [] 0 end
   finishes-to-end (along p v) = finishes p v
 
-  pub start-choosing : (string slots table needs : List ℕ) → Started end table needs → Choosing Le g string slots table needs end 0 0 0
+  pub start-choosing : (string chosen table needs : List ℕ) → Started end table needs → Choosing Le g string chosen table needs end 0 0 0
   unfolding stringOf
-  start-choosing string slots table needs started = record {
+  start-choosing string chosen table needs started = record {
     below = omega (arith, pre .inside);
     few = omega arith;
     grown = grown-starts started;
@@ -266,15 +273,15 @@ module _ {Le : Relation} {g : Graph} {chart : List ℕ} {end : ℕ} (pre : Choos
   }
 
 -- The buffers keep their lengths, and so their room.
-pub record SameLengths (string slots table needs string′ slots′ table′ needs′ : List ℕ) : Type 0 where
+pub record SameLengths (string chosen table needs string′ chosen′ table′ needs′ : List ℕ) : Type 0 where
   pub places : length string′ ≡ length string
-  pub words : length slots′ ≡ length slots
+  pub words : length chosen′ ≡ length chosen
   pub table-rows : length table′ ≡ length table
   pub needs-rows : length needs′ ≡ length needs
 
 pub roomy-same :
-    {count : ℕ} {string slots table needs string′ slots′ table′ needs′ : List ℕ} → Roomy count string slots table needs
-    → SameLengths string slots table needs string′ slots′ table′ needs′ → Roomy count string′ slots′ table′ needs′
+    {g : Graph} {string chosen table needs string′ chosen′ table′ needs′ : List ℕ} → Roomy g string chosen table needs
+    → SameLengths string chosen table needs string′ chosen′ table′ needs′ → Roomy g string′ chosen′ table′ needs′
 roomy-same roomy same = record {
   places = omega (arith, roomy .places, same .places);
   words = omega (arith, roomy .words, same .words);

@@ -5,7 +5,7 @@ use native.Mathlib.Omega.{arith}
 use mathlib.Core.Path.{_≡_, refl, sym, ap, subst, _∙_}
 use mathlib.Core.Logic.{_⊎_, inl, inr}
 use mathlib.Core.List.{List, [], _∷_, _++_, append-assoc}
-use lib.ListN.{getD, length, take, drop, length-append}
+use lib.ListN.{length, take, drop, length-append}
 use lib.Seq.{take-all, drop-length, take-append-le, drop-append-le, getD-at}
 use Rattle.bits.specs.Rows.{InRow, RowSays}
 use Rattle.bits.specs.Gathered.{Gathered, itself, within}
@@ -14,7 +14,7 @@ use Rattle.pregroup.specs.Types.{Simple, PregroupType, plain}
 use Rattle.pregroup.specs.Order.{Relation}
 use Rattle.pregroup.specs.Vanish.{Contracts, Vanish, empty, link}
 use Rattle.pregroup.proofs.Machine.{vanish-append}
-use Rattle.graph.specs.Graph.{Graph, labelOf, Labelled, Upward, take as takes-node, VanishTo, along}
+use Rattle.graph.specs.Graph.{Graph, nextAt, labelOf, Labelled, Upward, take as takes-node, VanishTo, along}
 use Rattle.chart.specs.Chart.{FilledFrom}
 use Rattle.chart.proofs.Recurrence.{path-append, van-iff-vanish}
 use Rattle.chart.proofs.Filling.{van-within, contracts-at}
@@ -37,7 +37,7 @@ module _ {Le : Relation} {g : Graph} where
 
 -- The last row of the needs, asked from y: all that y leads to by what vanishes, the node at hand does too.
 module _ {Le : Relation} {g : Graph} {P : PregroupType} {end u n : ℕ} {chart table needs : List ℕ} (filled : FilledFrom Le g chart 0)
-    (grown : Grown Le g P end u n table needs) (y : ℕ) (small : y < g .count) where
+    (grown : Grown Le g P end u n table needs) (y : ℕ) (small : y < length (g .nodes)) where
   whole : take n P ≡ P
   whole = take-all n P (omega (arith, grown .long))
 
@@ -57,11 +57,11 @@ module _ {Le : Relation} {g : Graph} {P : PregroupType} {end u n : ℕ} {chart t
 
 -- One simple type more: P, then x of the simple node u, which leads to k.
 module _ (Le : Relation) (g : Graph) (chart string : List ℕ) (P : PregroupType) (end u n : ℕ) (table needs table′ needs′ : List ℕ)
-    (up : Upward g) (small : u < g .count) (simple : 0 < getD (g .nexts) u 0) (filled : FilledFrom Le g chart 0) (grown : Grown Le g P end u n table needs)
+    (up : Upward g) (small : u < length (g .nodes)) (simple : 0 < nextAt (g .nodes) u) (filled : FilledFrom Le g chart 0) (grown : Grown Le g P end u n table needs)
     (spells : stringOf string (n + 1) ≡ P ++ (labelOf g u ∷ []))
-    (more : Grew Le (g .simples) (g .nexts) chart string n u needs table′ needs′) where
+    (more : Grew Le (g .nodes) chart string n u needs table′ needs′) where
   abbrev k : ℕ
-  k = getD (g .nexts) u 0
+  k = nextAt (g .nodes) u
 
   abbrev X : PregroupType
   X = P ++ (labelOf g u ∷ [])
@@ -72,7 +72,7 @@ module _ (Le : Relation) (g : Graph) (chart string : List ℕ) (P : PregroupType
   label : Labelled g u (labelOf g u) k
   label = record { simple = simple; label = refl; next = refl }
 
-  next-small : k < g .count
+  next-small : k < length (g .nodes)
   next-small = up .nexts-up u small simple .1
 
   front : (j : ℕ) → j ≤ n → take j X ≡ take j P
@@ -87,7 +87,7 @@ module _ (Le : Relation) (g : Graph) (chart string : List ℕ) (P : PregroupType
   last : atPlace X n ≡ labelOf g u
   last = getD-at P (labelOf g u) [] (plain 0) n (grown .long)
 
-  new-row : RowSays needs′ (n + 1) (Gathered (Partner Le (g .simples) (g .nexts) chart needs n u) (ClosedPart Le X needs n))
+  new-row : RowSays needs′ (n + 1) (Gathered (Partner Le (g .nodes) chart needs n u) (ClosedPart Le X needs n))
   new-row = rw spells at (more .needs-new)
 
   -- A path from behind u, with u taken.
@@ -107,17 +107,17 @@ module _ (Le : Relation) (g : Graph) (chart string : List ℕ) (P : PregroupType
   on-past : (y : ℕ) {x : Simple} {m : ℕ} → VanishTo Le g k y → Labelled g y x m → Contracts Le (labelOf g u) x → (z : ℕ) → VanishTo Le g m z → VanishTo Le g u z
   on-past y (along p i) l c z (along q o) = along (takes-node label (path-append p (takes-node l q))) (link c i o)
 
-  reached-small : {y : ℕ} → VanishTo Le g k y → y < g .count
+  reached-small : {y : ℕ} → VanishTo Le g k y → y < length (g .nodes)
   reached-small t = van-within up next-small (van-iff-vanish .1 t)
 
   -- The new row has only what is needed ..
-  only-new : (z : ℕ) → Gathered (Partner Le (g .simples) (g .nexts) chart needs n u) (ClosedPart Le X needs n) z → Needed Le g end X z
+  only-new : (z : ℕ) → Gathered (Partner Le (g .nodes) chart needs n u) (ClosedPart Le X needs n) z → Needed Le g end X z
   only-new z (itself p) =
       let l = p .links in
       let y-small = reached-small (filled k (omega arith) next-small z .0 (p .reached)) in
       let behind = up .nexts-up z y-small (l .simple) in
       closes {L = P} empty (record { simple = l .simple; label = refl; next = refl }) (l .contracts)
-      (finishes-of-meets filled grown (getD (g .nexts) z 0) (behind .1) (l .behind))
+      (finishes-of-meets filled grown (nextAt (g .nodes) z) (behind .1) (l .behind))
   only-new z (within i p) =
       let h : i ≤ n = omega (arith, p .closed .before) in
       let there : NeededAt Le g end X i z = needed-place X (omega (arith, longer)) (rw (front i h) (grown .only i z h (p .needed))) in
@@ -125,22 +125,22 @@ module _ (Le : Relation) (g : Graph) (chart string : List ℕ) (P : PregroupType
       rw (one, all-of) at (needed-of X (omega (arith, longer)) (needed-closed X n (omega (arith, longer)) i (p .closed) there))
 
   -- .. and all of it that can be reached.
-  partner-of : (z : ℕ) → VanishTo Le g k z → OpenAt Le g end X (suc n) z → Partner Le (g .simples) (g .nexts) chart needs n u z
+  partner-of : (z : ℕ) → VanishTo Le g k z → OpenAt Le g end X (suc n) z → Partner Le (g .nodes) chart needs n u z
   partner-of z t (link-open {x} l c f) =
       let c′ : Contracts Le (labelOf g u) x = contracts-at last refl c in
       let behind = up .nexts-up z (reached-small t) (l .simple) in
-      let f′ : Finishes Le g P (getD (g .nexts) z 0) end = subst (λ (y : ℕ). Finishes Le g P y end) (l .next) (rw (front n (omega arith), whole filled grown u small) at f) in
-      let l′ : Labelled g z x (getD (g .nexts) z 0) = record { simple = l .simple; label = l .label; next = refl } in
+      let f′ : Finishes Le g P (nextAt (g .nodes) z) end = subst (λ (y : ℕ). Finishes Le g P y end) (l .next) (rw (front n (omega arith), whole filled grown u small) at f) in
+      let l′ : Labelled g z x (nextAt (g .nodes) z) = record { simple = l .simple; label = l .label; next = refl } in
       record {
         reached = filled k (omega arith) next-small z .1 t;
         links = record {
           simple = l .simple;
           contracts = contracts-at refl (l .label) c′;
-          behind = meets-of-finishes filled grown (getD (g .nexts) z 0) (behind .1) (on-past z t l′ c′) f′;
+          behind = meets-of-finishes filled grown (nextAt (g .nodes) z) (behind .1) (on-past z t l′ c′) f′;
         };
       }
 
-  every-new : (z : ℕ) → VanishTo Le g k z → Step Le g end X n z → Gathered (Partner Le (g .simples) (g .nexts) chart needs n u) (ClosedPart Le X needs n) z
+  every-new : (z : ℕ) → VanishTo Le g k z → Step Le g end X n z → Gathered (Partner Le (g .nodes) chart needs n u) (ClosedPart Le X needs n) z
   every-new z t (linked o) = itself (partner-of z t o)
   every-new z t (closed i c a) =
       let h : i ≤ n = omega (arith, c .before) in

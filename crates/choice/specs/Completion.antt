@@ -6,6 +6,7 @@ use mathlib.Core.List.{List, [], _∷_, _++_}
 use Rattle.pregroup.specs.Types.{Simple, PregroupType}
 use Rattle.pregroup.specs.Order.{Relation}
 use Rattle.pregroup.specs.Vanish.{Contracts, Vanish}
+use Rattle.linking.specs.Linking.{AtMost}
 use Rattle.graph.specs.Graph.{Graph, Labelled, EntersBy, Path, VanishTo, Boundary, Spells}
 
 -- Some path from y to `end` spells an X such that P X vanishes.
@@ -39,16 +40,10 @@ pub data Completes (Le : Relation) (g : Graph) (P : PregroupType) (u : ℕ) (slo
 pub data CompletableBy (Le : Relation) (g : Graph) (P : PregroupType) (u s end : ℕ) : Type 0 where
   by-slot : {slots : List ℕ} → Completes Le g P u (s ∷ slots) end → CompletableBy Le g P u s end
 
--- The first choice is the same as the other or has a smaller slot at the first difference.
-pub data NotAfter : List ℕ → List ℕ → Type 0 where
-  same : {slots : List ℕ} → NotAfter slots slots
-  smaller : {s t : ℕ} {slots others : List ℕ} → s < t → NotAfter (s ∷ slots) (t ∷ others)
-  later : {s : ℕ} {slots others : List ℕ} → NotAfter slots others → NotAfter (s ∷ slots) (s ∷ others)
-
 -- Of all choices that complete P from u on, the first.
 pub record FirstChoice (Le : Relation) (g : Graph) (P : PregroupType) (u : ℕ) (slots : List ℕ) (end : ℕ) : Type 0 where
   pub reads : Completes Le g P u slots end
-  pub first : (others : List ℕ) → Completes Le g P u others end → NotAfter slots others
+  pub first : (others : List ℕ) → Completes Le g P u others end → AtMost slots others
 
 -- Slot by slot: at each boundary the first slot from whose first node P is finished, until the end.
 pub data Scanned (Le : Relation) (g : Graph) (end : ℕ) : PregroupType → ℕ → List ℕ → Type 0 where

@@ -4,7 +4,11 @@ mod needs;
 
 use bits::rows;
 use figures::limits::ROW_WORDS;
-ghost use Prim.Native.Nat.{ℕ};
+use graph::entered_at;
+use graph::from_at;
+use graph::next_at;
+use graph::simple_at;
+use graph::to_at;
 ghost use Rattle.pregroup.specs.Held.{InRows};
 ghost use Rattle.graph.specs.Graph.{graph};
 ghost use Rattle.choice.specs.First.{Roomy, Choosable, Chose};
@@ -23,8 +27,7 @@ fn start(end: usize, table: &mut [u64], needs: &mut [u64])
 // place, what was needed there.
 fn grow(
     order: &[u64],
-    simples: &[u16],
-    nexts: &[u16],
+    nodes: &[u64],
     chart: &[u64],
     u: usize,
     string: &[u16],
@@ -32,11 +35,11 @@ fn grow(
     table: &mut [u64],
     needs: &mut [u64],
 )
-    requires { ⌜ Growable (InRows (now order)) (now simples) (now nexts) (now chart) (now string) n u (now table) (now needs) ⌝ }
-    ensures { λ _. ⌜ Grew (InRows (now (order .entry))) (now (simples .entry)) (now (nexts .entry)) (now (chart .entry)) (now (string .entry)) n u
+    requires { ⌜ Growable (InRows (now order)) (now nodes) (now chart) (now string) n u (now table) (now needs) ⌝ }
+    ensures { λ _. ⌜ Grew (InRows (now (order .entry))) (now (nodes .entry)) (now (chart .entry)) (now (string .entry)) n u
         (now (needs .entry)) (now (table .exit)) (now (needs .exit)) ⌝ }
 {
-    let partners = needs::partners(order, simples, nexts, chart, needs, n, u);
+    let partners = needs::partners(order, nodes, chart, needs, n, u);
     let closed = table::extend(order, string, n, table);
     let row = rows::unite_all(partners, needs, closed);
     rows::store(needs, n + 1, row);
@@ -45,19 +48,19 @@ fn grow(
 // The first slot from whose node the string of n places is finished: a search over slots and over the nodes that are needed, which part the rest into
 // what vanishes and what the open link closes on; 64 nodes at a time, and left from inside once one is found.
 fn first_slot(
-    enters: &[u16],
+    slots: &[u64],
     chart: &[u64],
     needs: &[u64],
     n: usize,
     from: usize,
     to: usize,
 ) -> usize
-    requires { ⌜ Searchable (now enters) (now chart) (now needs) n from to ⌝ }
-    ensures { λ r. ⌜ FirstSlot (now (enters .entry)) (now (chart .entry)) (now (needs .entry)) n from to r ⌝ }
+    requires { ⌜ Searchable (now slots) (now chart) (now needs) n from to ⌝ }
+    ensures { λ r. ⌜ FirstSlot (now (slots .entry)) (now (chart .entry)) (now (needs .entry)) n from to r ⌝ }
 {
     let mut s = from;
     'search: while s < to {
-        let node = enters[s] as usize;
+        let node = entered_at(slots, s);
         let mut k = 0;
         while k < ROW_WORDS {
             if needs::meets_in(chart, node, needs, n, k) {
@@ -76,63 +79,47 @@ pub struct Chosen {
     pub places: usize,
 }
 
-// The first choice of a line that reads: the slot of each word into `slots`, its simple types into `string`, and the table of that string into
+// The first choice of a line that reads: the slot of each word into `chosen`, its simple types into `string`, and the table of that string into
 // `table`. `needs` is for rows on the way.
 pub fn choose(
     order: &[u64],
-    simples: &[u16],
-    nexts: &[u16],
-    froms: &[u16],
-    tos: &[u16],
-    enters: &[u16],
+    nodes: &[u64],
+    slots: &[u64],
     chart: &[u64],
     end: usize,
     string: &mut [u16],
-    slots: &mut [u16],
+    chosen: &mut [u16],
     table: &mut [u64],
     needs: &mut [u64],
 ) -> Chosen
-    requires { ⌜ ((count : ℕ) × Choosable (InRows (now order)) (graph count (now simples) (now nexts) (now froms) (now tos) (now enters)) (now chart) end
-        × Roomy count (now string) (now slots) (now table) (now needs)) ⌝ }
-    ensures { λ r. ⌜ ((count : ℕ)
-        → Choosable (InRows (now (order .entry)))
-        (graph count (now (simples .entry)) (now (nexts .entry)) (now (froms .entry)) (now (tos .entry)) (now (enters .entry))) (now (chart .entry)) end
-        → Chose (InRows (now (order .entry)))
-        (graph count (now (simples .entry)) (now (nexts .entry)) (now (froms .entry)) (now (tos .entry)) (now (enters .entry)))
-        (now (string .exit)) (now (slots .exit)) (now (table .exit)) end (r .words) (r .places)) ⌝ }
+    requires { ⌜ Choosable (InRows (now order)) (graph (now nodes) (now slots)) (now chart) end ⌝ }
+    requires { ⌜ Roomy (graph (now nodes) (now slots)) (now string) (now chosen) (now table) (now needs) ⌝ }
+    ensures { λ r. ⌜ Chose (InRows (now (order .entry))) (graph (now (nodes .entry)) (now (slots .entry)))
+        (now (string .exit)) (now (chosen .exit)) (now (table .exit)) end (r .words) (r .places) ⌝ }
 {
     start(end, table, needs);
     let mut u = 0;
     let mut words = 0;
     let mut places = 0;
     while u != end {
-        if nexts[u] == 0 {
+        let next = next_at(nodes, u);
+        if next == 0 {
             let slot = first_slot(
-                enters,
+                slots,
                 chart,
                 needs,
                 places,
-                froms[u] as usize,
-                tos[u] as usize,
+                from_at(nodes, u),
+                to_at(nodes, u),
             );
-            slots[words] = slot as u16;
+            chosen[words] = slot as u16;
             words += 1;
-            u = enters[slot] as usize;
+            u = entered_at(slots, slot);
         } else {
-            string[places] = simples[u];
-            grow(
-                order,
-                simples,
-                nexts,
-                chart,
-                u,
-                string,
-                places,
-                table,
-                needs,
-            );
+            string[places] = simple_at(nodes, u);
+            grow(order, nodes, chart, u, string, places, table, needs);
             places += 1;
-            u = nexts[u] as usize;
+            u = next;
         }
     }
     Chosen { words, places }

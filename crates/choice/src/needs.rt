@@ -3,16 +3,19 @@ use bits::rows;
 use bits::rows::Row;
 use figures::limits::ROW_BITS;
 use figures::limits::ROW_WORDS;
+use graph::next_at;
+use graph::simple_at;
 use pregroup::LinkKind;
 ghost use mathlib.Core.Path.{_≡_};
 ghost use mathlib.Core.Logic.{_↔_};
 ghost use mathlib.Core.Bool.{true};
 ghost use Prim.Native.Nat.{_<_};
-ghost use lib.ListN.{getD};
+ghost use lib.ListN.{length};
 ghost use Rattle.figures.specs.Limits.{rowWords};
 ghost use Rattle.bits.specs.Rows.{HasRow, RowSays};
 ghost use Rattle.pregroup.specs.Held.{InRows};
-ghost use Rattle.chart.specs.Chart.{NodeThere, LinksThere};
+ghost use Rattle.graph.specs.Graph.{nextAt};
+ghost use Rattle.chart.specs.Chart.{LinksThere};
 ghost use Rattle.choice.specs.Sets.{Meets, MeetsIn, LinksTo, Partner};
 
 // Whether row u of the chart and row n of the needs have a member in common in word k.
@@ -42,27 +45,26 @@ fn meets(chart: &[u64], u: usize, needs: &[u64], n: usize) -> bool
 // Whether y is simple, x may contract with it, and what is needed after n places can be reached from behind it.
 fn links_to(
     order: &[u64],
-    simples: &[u16],
-    nexts: &[u16],
+    nodes: &[u64],
     chart: &[u64],
     needs: &[u64],
     n: usize,
     x: u16,
     y: usize,
 ) -> bool
-    requires { ⌜ NodeThere (now simples) (now nexts) y ⌝ }
-    requires { ⌜ HasRow (now chart) (getD (now nexts) y 0) × HasRow (now needs) n ⌝ }
+    requires { ⌜ y < length (now nodes) ⌝ }
+    requires { ⌜ HasRow (now chart) (nextAt (now nodes) y) × HasRow (now needs) n ⌝ }
     ensures { λ r. ⌜ (r ≡ true)
-        ↔ LinksTo (InRows (now (order .entry))) (now (simples .entry)) (now (nexts .entry)) (now (chart .entry)) (now (needs .entry)) n x y ⌝ }
+        ↔ LinksTo (InRows (now (order .entry))) (now (nodes .entry)) (now (chart .entry)) (now (needs .entry)) n x y ⌝ }
 {
-    match pregroup::may_contract(order, x, simples[y]) {
+    match pregroup::may_contract(order, x, simple_at(nodes, y)) {
         LinkKind::Not => false,
         _ => {
-            let next = nexts[y];
+            let next = next_at(nodes, y);
             if next == 0 {
                 return false;
             }
-            meets(chart, next as usize, needs, n)
+            meets(chart, next, needs, n)
         }
     }
 }
@@ -70,27 +72,22 @@ fn links_to(
 // The nodes that the simple node u, chosen behind n places, may be linked to. The first member of the row behind u is the node behind u.
 pub(crate) fn partners(
     order: &[u64],
-    simples: &[u16],
-    nexts: &[u16],
+    nodes: &[u64],
     chart: &[u64],
     needs: &[u64],
     n: usize,
     u: usize,
 ) -> Row
-    requires { ⌜ LinksThere (now simples) (now nexts) (now chart) u × HasRow (now needs) n ⌝ }
+    requires { ⌜ LinksThere (now nodes) (now chart) u × HasRow (now needs) n ⌝ }
     ensures { λ r. ⌜ RowSays (r .words) 0
-        (Partner (InRows (now (order .entry))) (now (simples .entry)) (now (nexts .entry)) (now (chart .entry)) (now (needs .entry)) n u) ⌝ }
+        (Partner (InRows (now (order .entry))) (now (nodes .entry)) (now (chart .entry)) (now (needs .entry)) n u) ⌝ }
 {
-    let behind = nexts[u] as usize;
-    let x = simples[u];
+    let behind = next_at(nodes, u);
+    let x = simple_at(nodes, u);
     let mut words = [0u64; ROW_WORDS];
     let mut y = behind;
     while y < ROW_BITS {
-        rows::put_where(
-            &mut words,
-            y,
-            links_to(order, simples, nexts, chart, needs, n, x, y),
-        );
+        rows::put_where(&mut words, y, links_to(order, nodes, chart, needs, n, x, y));
         y = rows::next_member(chart, behind, y + 1);
     }
     Row { words }

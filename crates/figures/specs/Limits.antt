@@ -46,9 +46,13 @@ maxString = maxWords * maxEntrySimples
 abbrev pub maxPlaces : ℕ
 maxPlaces = maxString + 1
 
--- Values of an answer: the target's number, the number of words and that of simple types, an entry for each word, a partner for each simple type.
+-- Values of an answer beside entries and partners: the target's number, the number of words and that of simple types.
+abbrev pub answerHead : ℕ
+answerHead = 3
+
+-- Values of an answer: its head, an entry for each word, a partner for each simple type.
 abbrev pub maxValues : ℕ
-maxValues = 3 + maxWords + maxString
+maxValues = answerHead + maxWords + maxString
 
 -- A value of an answer has 16 bits: it is below this.
 abbrev pub valueBound : ℕ

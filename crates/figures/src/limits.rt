@@ -35,9 +35,11 @@ pub const MAX_STRING: usize = MAX_WORDS * MAX_ENTRY_SIMPLES;
 
 pub const MAX_PLACES: usize = MAX_STRING + 1;
 
-// How many values an answer has at most: the target's number, the number of words and that of simple types, an entry for each word, a partner
-// for each simple type.
-pub const MAX_VALUES: usize = 3 + MAX_WORDS + MAX_STRING;
+// How many values an answer has beside entries and partners: the target's number, the number of words and that of simple types.
+pub const ANSWER_HEAD: usize = 3;
+
+// How many values an answer has at most: its head, an entry for each word, a partner for each simple type.
+pub const MAX_VALUES: usize = ANSWER_HEAD + MAX_WORDS + MAX_STRING;
 
 // How many bytes and how many lines a batch has at most.
 pub const MAX_BATCH: usize = 65535;

@@ -6,14 +6,15 @@ use mathlib.Core.Path.{_≡_, refl, sym, ap, subst, _∙_}
 use mathlib.Core.Bool.{Bool, true, false}
 use mathlib.Core.List.{List, [], _∷_, _++_, List·Memᴰ·head, List·Memᴰ·tail}
 use lib.IntN.{pos}
-use lib.ListN.{getD, length, length-append}
+use lib.ListN.{length, length-append}
 use Rattle.figures.specs.Limits.{maxEntrySimples}
 use Rattle.pregroup.specs.Types.{Basic, PregroupType, _⁽_⁾}
 use Rattle.linking.specs.Reading.{NumberedEntry, Words}
 use Rattle.line.specs.Passing.{Brief, AllBrief, brief}
 use Rattle.line.proofs.Passed.{brief-cons}
-use Rattle.graph.specs.Graph.{Graph, EntersBy, Path, Spells}
+use Rattle.graph.specs.Graph.{Graph, fromAt, toAt, enteredAt, EntersBy, Path, Spells}
 use Rattle.graph.specs.Layout.{hasNone, slotted, Slots, none as no-slot, slot, Laid, goal, word}
+use Rattle.graph.proofs.TargetLaws.{target-adjoint}
 use Rattle.choice.specs.Completion.{SlotChoice, done, choose}
 use Rattle.chart.proofs.Recurrence.{path-append}
 use Rattle.choice.proofs.Completion.{path-of-entry}
@@ -40,13 +41,13 @@ same-brief h same-entry = (h, refl)
 
 module _ {g : Graph} where
   slot-brief :
-      {numbers : List ℕ} {b s to : ℕ} {es : List NumberedEntry} → Slots g numbers b s to es → Brief es → (r : ℕ) → s ≤ r → r < to → {T : PregroupType} {c : ℕ}
-      → Spells g (getD (g .enters) r 0) T c → (length T ≤ maxEntrySimples) × (c ≡ b)
+      {b s to : ℕ} {es : List NumberedEntry} → Slots g b s to es → Brief es → (r : ℕ) → s ≤ r → r < to → {T : PregroupType} {c : ℕ}
+      → Spells g (enteredAt (g .slots) r) T c → (length T ≤ maxEntrySimples) × (c ≡ b)
   slot-brief (no-slot e) b r h l q = absurd (omega arith)
   slot-brief {b = d} {s = s} (slot {e} {es} m w slots) b r h l {T} {c} q = at (ℕ-discrete r s) (λ i. slot-brief slots (λ f k. b f (List·Memᴰ·tail k)) r i l q)
     where
       at : Dec (r ≡ s) → (s + 1 ≤ r → (length T ≤ maxEntrySimples) × (c ≡ d)) → (length T ≤ maxEntrySimples) × (c ≡ d)
-      at (yes i) later = same-brief (b e (List·Memᴰ·head refl)) (entry-same w (subst (λ (j : ℕ). Spells g (getD (g .enters) j 0) T c) i q))
+      at (yes i) later = same-brief (b e (List·Memᴰ·head refl)) (entry-same w (subst (λ (j : ℕ). Spells g (enteredAt (g .slots) j) T c) i q))
       at (no d) later = later (omega (arith, d))
 
 -- Only slot s of the boundary u leads to the end.
@@ -58,7 +59,7 @@ pub goal-there :
     {g : Graph} {u s v r w b end : ℕ} {T X : PregroupType} {slots : List ℕ} → EntersBy g u s v → Only g u s end → EntersBy g u r w → Spells g w T b
     → SlotChoice g b slots X end → w ≡ v
 goal-there {g} {r = r} {w} {T = T} {X} entered only e t c =
-    e .entered ∙ ap (λ (n : ℕ). getD (g .enters) n 0) (only r w (T ++ X) e (path-append (path-of-entry t) (path-of-choice c))) ∙ sym (entered .entered)
+    e .entered ∙ ap (λ (n : ℕ). enteredAt (g .slots) n) (only r w (T ++ X) e (path-append (path-of-entry t) (path-of-choice c))) ∙ sym (entered .entered)
 
 module _ {g : Graph} {end : ℕ} (closed : (s w : ℕ) → EntersBy g end s w → ⊥) where
   -- From the end nothing more is chosen.
@@ -77,7 +78,7 @@ module _ {g : Graph} {end : ℕ} (closed : (s w : ℕ) → EntersBy g end s w �
       goal-brief (entry-same entry (subst (λ (n : ℕ). Spells g n T c) (goal-there entered only e r k) r)) k
 
   word-choice :
-      {numbers : List ℕ} {b u : ℕ} {es : List NumberedEntry} → Slots g numbers b (getD (g .froms) u 0) (getD (g .tos) u 0) es → Brief es → (k : ℕ)
+      {b u : ℕ} {es : List NumberedEntry} → Slots g b (fromAt (g .nodes) u) (toAt (g .nodes) u) es → Brief es → (k : ℕ)
       → ((slots : List ℕ) (X : PregroupType) → SlotChoice g b slots X end → length X ≤ k) → {slots : List ℕ} {X : PregroupType}
       → SlotChoice g u slots X end → length X ≤ maxEntrySimples + k
   word-choice slots few k rest (done h) = omega arith
@@ -87,9 +88,9 @@ module _ {g : Graph} {end : ℕ} (closed : (s w : ℕ) → EntersBy g end s w �
       omega (arith, length-append T Y, taken .0)
 
   pub laid-brief :
-      {numbers : List ℕ} {t : Basic} {u : ℕ} {words : Words} → Laid g numbers t u words end → AllBrief words → {slots : List ℕ} {X : PregroupType}
+      {t : Basic} {u : ℕ} {words : Words} → Laid g t u words end → AllBrief words → {slots : List ℕ} {X : PregroupType}
       → SlotChoice g u slots X end → length X ≤ maxEntrySimples * length words + 1
-  laid-brief (goal entered entry only) b c = let k = goal-choice entered entry only c in omega arith
+  laid-brief {t} (goal entered entry only) b c = let k = goal-choice entered (rw (target-adjoint t) at entry) only c in omega arith
   laid-brief (word {es = es} {words = words} h slots rest) (brief b bs) c =
       let k = word-choice slots (slotted-brief false es b) (maxEntrySimples * length words + 1) (λ others X o. laid-brief rest bs o) c in
       omega arith

@@ -8,7 +8,7 @@ use mathlib.Core.Logic.{_↔_}
 use mathlib.Core.List.{List, [], _∷_, _++_, map}
 use mathlib.Core.Option.{Option, none, some}
 use lib.IntN.{pos}
-use lib.ListN.{getD, length, take, length-append}
+use lib.ListN.{length, take, length-append}
 use lib.Seq.{take-take, take-at, length-take-le}
 use Rattle.pregroup.specs.Types.{Basic, PregroupType, _⁽_⁾}
 use Rattle.pregroup.specs.Order.{Relation}
@@ -18,7 +18,7 @@ use Rattle.pregroup.proofs.Switching.{reduces-iff-vanish}
 use Rattle.linking.specs.Linking.{firstLinking}
 use Rattle.linking.specs.Reading.{Words, firstFor}
 use Rattle.line.specs.Passing.{AllKnown}
-use Rattle.graph.specs.Graph.{Graph, EntersBy, VanishTo, along, Boundary}
+use Rattle.graph.specs.Graph.{Graph, numberAt, EntersBy, VanishTo, along, Boundary}
 use Rattle.choice.specs.Completion.{Finishes, finishes, Completes, completes}
 use Rattle.table.specs.Table.{stringOf}
 use Rattle.table.proofs.Stretches.{length-string, take-string}
@@ -38,25 +38,25 @@ module _ {Le : Relation} {g : Graph} {u end : ℕ} where
   vanish-of (finishes p v) = along p v
 
 -- What is known of a line once its first choice is found.
-pub record FirstFound (le : Test) (Le : Relation) (g : Graph) (numbers : List ℕ) (t : Basic) (words : Words) (string slots : List ℕ) (count places : ℕ) : Type 0 where
+pub record FirstFound (le : Test) (Le : Relation) (g : Graph) (t : Basic) (words : Words) (string chosen : List ℕ) (count places : ℕ) : Type 0 where
   pub m : ℕ
   pub places-are : places ≡ m + 1
   pub long : length (stringOf string m) ≡ m
   pub reduces : Reduces Le t (stringOf string m)
-  pub taken : length words < count
-  pub first : (Q : List ℕ) → firstLinking le t (stringOf string m) ≡ some Q → firstFor le t words ≡ some (map (λ (s : ℕ). getD numbers s 0) (take (length words) slots), Q)
+  pub taken : count ≡ length words + 1
+  pub first : (Q : List ℕ) → firstLinking le t (stringOf string m) ≡ some Q → firstFor le t words ≡ some (map (λ (s : ℕ). numberAt (g .slots) s) (take (length words) chosen), Q)
 
-module _ {le : Test} {Le : Relation} (decides : Decides le Le) (g : Graph) (numbers : List ℕ) (t : Basic) (end : ℕ) (last : Boundary g end)
-    (closed : (s w : ℕ) → EntersBy g end s w → ⊥) {words : Words} (laid : Laid g numbers t 0 words end) (known-words : AllKnown words) where
+module _ {le : Test} {Le : Relation} (decides : Decides le Le) (g : Graph) (t : Basic) (end : ℕ) (last : Boundary g end)
+    (closed : (s w : ℕ) → EntersBy g end s w → ⊥) {words : Words} (laid : Laid g t 0 words end) (known-words : AllKnown words) where
   -- No reading for the target exactly when the chart has no way from the first node to its end.
   pub unread-iff : (firstFor le t words ≡ none) ↔ (VanishTo Le g 0 end → ⊥)
-  unread-iff = let h = laid-none decides g numbers t end last closed laid known-words [] in (λ e v. h .0 e (finishes-of v), λ n. h .1 (λ f. n (vanish-of f)))
+  unread-iff = let h = laid-none decides g t end last closed laid known-words [] in (λ e v. h .0 e (finishes-of v), λ n. h .1 (λ f. n (vanish-of f)))
 
-  module _ {string slots table : List ℕ} {count places : ℕ} (c : Chose Le g string slots table end count places) (slots-room : count ≤ length slots) where
-    answered : Answered decides g numbers t end last closed [] 0 words (take count slots)
-    answered = scanned-answers decides g numbers t end last closed laid known-words [] (take count slots) (c .scanned)
+  module _ {string chosen table : List ℕ} {count places : ℕ} (c : Chose Le g string chosen table end count places) (room : count ≤ length chosen) where
+    answered : Answered decides g t end last closed [] 0 words (take count chosen)
+    answered = scanned-answers decides g t end last closed laid known-words [] (take count chosen) (c .scanned)
 
-    whole : (stringOf string places ≡ answered .string ++ (t ⁽ pos 1 ⁾ ∷ [])) × (length (take count slots) ≡ length words + 1)
+    whole : (stringOf string places ≡ answered .string ++ (t ⁽ pos 1 ⁾ ∷ [])) × (length (take count chosen) ≡ length words + 1)
     whole = answered .spelt (stringOf string places) (c .spelled)
 
     -- How many simple types the choice has, without the target's.
@@ -71,21 +71,21 @@ module _ {le : Test} {Le : Relation} (decides : Decides le Le) (g : Graph) (numb
     string-is =
         sym (take-string string m places (omega (arith, places-are))) ∙ ap (take m) (whole .0) ∙ take-at (answered .string) (t ⁽ pos 1 ⁾ ∷ []) m refl
 
-    vanishes : Completes Le g [] 0 (take count slots) end → Vanish Le (answered .string ++ (t ⁽ pos 1 ⁾ ∷ []))
+    vanishes : Completes Le g [] 0 (take count chosen) end → Vanish Le (answered .string ++ (t ⁽ pos 1 ⁾ ∷ []))
     vanishes (completes {X} k v) = subst (λ (Y : PregroupType). Vanish Le Y) (answered .spelt X k .0) v
 
-    numbers-are : answered .ns ≡ map (λ (s : ℕ). getD numbers s 0) (take (length words) slots)
+    numbers-are : answered .ns ≡ map (λ (s : ℕ). numberAt (g .slots) s) (take (length words) chosen)
     numbers-are =
         answered .numbers-are
-        ∙ ap (map (λ (s : ℕ). getD numbers s 0)) (take-take (length words) count slots (omega (arith, whole .1, length-take-le count slots slots-room)))
+        ∙ ap (map (λ (s : ℕ). numberAt (g .slots) s)) (take-take (length words) count chosen (omega (arith, whole .1, length-take-le count chosen room)))
 
-    pub first-found : FirstFound le Le g numbers t words string slots count places
+    pub first-found : FirstFound le Le g t words string chosen count places
     first-found = record {
       m = m;
       places-are = places-are;
       long = ap length string-is;
       reduces = reduces-iff-vanish (stringOf string m) .1 (rw string-is (vanishes (c .first .reads)));
-      taken = omega (arith, whole .1, length-take-le count slots slots-room);
+      taken = sym (length-take-le count chosen room) ∙ whole .1;
       first = λ Q e.
           answered .answer ∙ ap (λ (o : Option (List ℕ)). withNumbers (answered .ns) (lastAnswer o)) (ap (firstLinking le t) (sym string-is) ∙ e)
           ∙ with-numbers (answered .ns) Q ∙ ap (λ (ns : List ℕ). some (ns, Q)) numbers-are;

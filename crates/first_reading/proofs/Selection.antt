@@ -9,7 +9,7 @@ use mathlib.Core.Bool.{Bool, true, false, false≢true}
 use mathlib.Core.List.{List, [], _∷_, _++_, map, append-nil, append-assoc}
 use mathlib.Core.Option.{Option, none, some}
 use lib.IntN.{pos}
-use lib.ListN.{getD, length, take}
+use lib.ListN.{length, take}
 use Rattle.pregroup.specs.Types.{Basic, PregroupType, _⁽_⁾}
 use Rattle.pregroup.specs.Order.{Relation}
 use Rattle.pregroup.specs.Vanish.{Vanish}
@@ -20,7 +20,8 @@ use Rattle.linking.specs.Reading.{NumberedEntry, Words, Selection, firstEntry, 
 use Rattle.linking.proofs.Reduction.{linking-iff-reduces}
 use Rattle.linking.proofs.FirstLinking.{first-linking-none}
 use Rattle.line.specs.Passing.{AllKnown, known}
-use Rattle.graph.specs.Graph.{Graph, EntersBy, by, here, take as take-node, enter, Boundary, Spells}
+use Rattle.graph.specs.Graph.{Graph, fromAt, toAt, enteredAt, numberAt, EntersBy, by, here, take as take-node, enter, Boundary, Spells}
+use Rattle.graph.proofs.TargetLaws.{target-adjoint}
 use Rattle.choice.specs.Completion.{Finishes, finishes, SlotChoice, done, choose, Completes, completes, Scanned, ends, takes}
 use Rattle.choice.proofs.Completion.{finishes-iff-behind}
 use Rattle.choice.proofs.Choices.{SameEntry, same-entry, entry-same, path-of-choice, scanned-is-first}
@@ -97,23 +98,23 @@ no-answer : (o : Option (List ℕ)) → lastAnswer o ≡ none → o ≡ none
 no-answer none h = refl
 no-answer (some Q) h = let z : _≡_ {A = ℕ} 0 1 = cc in absurd (omega arith)
 
-slots-le : {g : Graph} {numbers : List ℕ} {b s to : ℕ} {es : List NumberedEntry} → Slots g numbers b s to es → s ≤ to
+slots-le : {g : Graph} {b s to : ℕ} {es : List NumberedEntry} → Slots g b s to es → s ≤ to
 slots-le (no-slot e) = omega arith
 slots-le (slot n t rest) = let h = slots-le rest in omega arith
 
 -- The first entry of a word has a slot.
-slots-some : {g : Graph} {numbers : List ℕ} {b s to : ℕ} (e : NumberedEntry) (es : List NumberedEntry) → Slots g numbers b s to (slotted false (e ∷ es)) → s < to
+slots-some : {g : Graph} {b s to : ℕ} (e : NumberedEntry) (es : List NumberedEntry) → Slots g b s to (slotted false (e ∷ es)) → s < to
 unfolding slotted
-slots-some {g} {numbers} {b} {s} {to} e es slots = go (hasNone (e .type)) slots
+slots-some {g} {b} {s} {to} e es slots = go (hasNone (e .type)) slots
   where
-    some-slot : {fs : List NumberedEntry} → Slots g numbers b s to (e ∷ fs) → s < to
+    some-slot : {fs : List NumberedEntry} → Slots g b s to (e ∷ fs) → s < to
     some-slot (slot m k rest) = let h = slots-le rest in omega arith
 
-    go : (n : Bool) → Slots g numbers b s to (elim n [ true ↦ elim false [ true ↦ slotted true es | false ↦ e ∷ slotted true es ] | false ↦ e ∷ slotted false es ]) → s < to
+    go : (n : Bool) → Slots g b s to (elim n [ true ↦ elim false [ true ↦ slotted true es | false ↦ e ∷ slotted true es ] | false ↦ e ∷ slotted false es ]) → s < to
     go true k = some-slot k
     go false k = some-slot k
 
-module _ {le : Test} {Le : Relation} (decides : Decides le Le) (g : Graph) (numbers : List ℕ) (t : Basic) (end : ℕ) (last : Boundary g end) (closed : (s w : ℕ) → EntersBy g end s w → ⊥) where
+module _ {le : Test} {Le : Relation} (decides : Decides le Le) (g : Graph) (t : Basic) (end : ℕ) (last : Boundary g end) (closed : (s w : ℕ) → EntersBy g end s w → ⊥) where
   -- From the end nothing more is spelt.
   vanish-of-end : {P : PregroupType} → Finishes Le g P end end → Vanish Le P
   vanish-of-end (finishes here v) = rw append-nil at v
@@ -146,7 +147,7 @@ module _ {le : Test} {Le : Relation} (decides : Decides le Le) (g : Graph) (numb
     where
       by-slot-of : {r w : ℕ} → EntersBy g u r w → Finishes Le g P w end → Vanish Le (P ++ (t ⁽ pos 1 ⁾ ∷ []))
       by-slot-of {r} {w} k (finishes {X} p x) =
-          let there : w ≡ v = k .entered ∙ ap (λ (n : ℕ). getD (g .enters) n 0) (only r w X k p) ∙ sym (e .entered) in
+          let there : w ≡ v = k .entered ∙ ap (λ (n : ℕ). enteredAt (g .slots) n) (only r w X k p) ∙ sym (e .entered) in
           vanish-of-end (finishes-iff-behind last entry .0 (subst (λ (n : ℕ). Finishes Le g P n end) there (finishes p x)))
 
   -- The definition's answer for no more words.
@@ -164,8 +165,8 @@ module _ {le : Test} {Le : Relation} (decides : Decides le Le) (g : Graph) (numb
     useless : {w : ℕ} (e : NumberedEntry) → Spells g w (e .type) b → (Finishes Le g P w end → ⊥) → firstBehind le t words (P ++ e .type) ≡ none
     useless e k n = rest (P ++ e .type) .1 (λ f. n (finishes-iff-behind last k .1 f))
 
-    scan-none : {s to : ℕ} {es : List NumberedEntry} → Slots g numbers b s to es
-        → ((r : ℕ) → s ≤ r → r < to → Finishes Le g P (getD (g .enters) r 0) end → ⊥) → firstEntry go-on P es ≡ none
+    scan-none : {s to : ℕ} {es : List NumberedEntry} → Slots g b s to es
+        → ((r : ℕ) → s ≤ r → r < to → Finishes Le g P (enteredAt (g .slots) r) end → ⊥) → firstEntry go-on P es ≡ none
     unfolding firstEntry
     scan-none (no-slot e) n = refl
     scan-none {s} (slot {e} {es} m k slots) n =
@@ -175,26 +176,26 @@ module _ {le : Test} {Le : Relation} (decides : Decides le Le) (g : Graph) (numb
     -- The first slot whose node finishes P is taken: what that gives for the entries es.
     pub record Picked (k : ℕ) (T : PregroupType) (c : ℕ) (es : List NumberedEntry) : Type 0 where
       pub behind : c ≡ b
-      pub answer : firstEntry go-on P es ≡ withNumber (getD numbers k 0) (go-on (P ++ T))
+      pub answer : firstEntry go-on P es ≡ withNumber (numberAt (g .slots) k) (go-on (P ++ T))
 
     some-number : (e : NumberedEntry) (es : List NumberedEntry) (n : ℕ) (o : Option Selection) → n ≡ e .number → (o ≡ none → ⊥) → go-on (P ++ e .type) ≡ o → firstEntry go-on P (e ∷ es) ≡ withNumber n o
     some-number e es n none m not-none h = absurd (not-none refl)
     some-number e es n (some a) m not-none h = entry-step go-on P e es (some a) h ∙ ap (λ (k : ℕ). some (k ∷ a .0, a .1)) (sym m)
 
-    picked-here : {s : ℕ} (e : NumberedEntry) (es : List NumberedEntry) {T : PregroupType} {c : ℕ} → getD numbers s 0 ≡ e .number → Finishes Le g (P ++ e .type) b end → SameEntry (e .type) b T c → Picked s T c (e ∷ es)
+    picked-here : {s : ℕ} (e : NumberedEntry) (es : List NumberedEntry) {T : PregroupType} {c : ℕ} → numberAt (g .slots) s ≡ e .number → Finishes Le g (P ++ e .type) b end → SameEntry (e .type) b T c → Picked s T c (e ∷ es)
     picked-here e es m f same-entry =
         record { behind = refl; answer = some-number e es _ (go-on (P ++ e .type)) m (λ z. rest (P ++ e .type) .0 z f) refl }
 
-    scan-first : {s to : ℕ} {es : List NumberedEntry} → Slots g numbers b s to es → (k : ℕ) (T : PregroupType) (c : ℕ) → s ≤ k → k < to
-        → ((r : ℕ) → s ≤ r → r < k → Finishes Le g P (getD (g .enters) r 0) end → ⊥) → Finishes Le g P (getD (g .enters) k 0) end
-        → Spells g (getD (g .enters) k 0) T c → Picked k T c es
+    scan-first : {s to : ℕ} {es : List NumberedEntry} → Slots g b s to es → (k : ℕ) (T : PregroupType) (c : ℕ) → s ≤ k → k < to
+        → ((r : ℕ) → s ≤ r → r < k → Finishes Le g P (enteredAt (g .slots) r) end → ⊥) → Finishes Le g P (enteredAt (g .slots) k) end
+        → Spells g (enteredAt (g .slots) k) T c → Picked k T c es
     scan-first (no-slot e) k T c h l n f q = absurd (omega arith)
     scan-first {s} (slot {e} {es} m w slots) k T c h l n f q = at (λ i. scan-first slots k T c i l (λ r x y. n r (omega arith) y) f q) (ℕ-discrete k s)
       where
         at : (s + 1 ≤ k → Picked k T c es) → Dec (k ≡ s) → Picked k T c (e ∷ es)
         at later (yes i) =
-            let f′ : Finishes Le g P (getD (g .enters) s 0) end = subst (λ (j : ℕ). Finishes Le g P (getD (g .enters) j 0) end) i f in
-            let q′ : Spells g (getD (g .enters) s 0) T c = subst (λ (j : ℕ). Spells g (getD (g .enters) j 0) T c) i q in
+            let f′ : Finishes Le g P (enteredAt (g .slots) s) end = subst (λ (j : ℕ). Finishes Le g P (enteredAt (g .slots) j) end) i f in
+            let q′ : Spells g (enteredAt (g .slots) s) T c = subst (λ (j : ℕ). Spells g (enteredAt (g .slots) j) T c) i q in
             subst (λ (j : ℕ). Picked j T c (e ∷ es)) (sym i) (picked-here e es m (finishes-iff-behind last w .0 f′) (entry-same w q′))
         at later (no d) =
             let p = later (omega (arith, d)) in
@@ -204,14 +205,14 @@ module _ {le : Test} {Le : Relation} (decides : Decides le Le) (g : Graph) (numb
             }
 
     -- Where there is no answer, no slot finishes P.
-    none-each : {s to : ℕ} {es : List NumberedEntry} → Slots g numbers b s to es → firstEntry go-on P es ≡ none → (r : ℕ) → s ≤ r → r < to
-        → Finishes Le g P (getD (g .enters) r 0) end → ⊥
+    none-each : {s to : ℕ} {es : List NumberedEntry} → Slots g b s to es → firstEntry go-on P es ≡ none → (r : ℕ) → s ≤ r → r < to
+        → Finishes Le g P (enteredAt (g .slots) r) end → ⊥
     none-each (no-slot e) h r i j f = omega arith
     none-each {s} {to} (slot {e} {es} m w slots) h r i j f = at (go-on (P ++ e .type)) refl (λ z a. none-each slots z r a j f) (ℕ-discrete r s)
       where
         at : (o : Option Selection) → go-on (P ++ e .type) ≡ o → (firstEntry go-on P es ≡ none → s + 1 ≤ r → ⊥) → Dec (r ≡ s) → ⊥
         at (some a) k later d = let z : _≡_ {A = ℕ} 0 1 = cc (sym (entry-step go-on P e es (some a) k) ∙ h) in omega arith
-        at none k later (yes q) = rest (P ++ e .type) .0 k (finishes-iff-behind last w .0 (subst (λ (n : ℕ). Finishes Le g P (getD (g .enters) n 0) end) q f))
+        at none k later (yes q) = rest (P ++ e .type) .0 k (finishes-iff-behind last w .0 (subst (λ (n : ℕ). Finishes Le g P (enteredAt (g .slots) n) end) q f))
         at none k later (no d) = later (sym (entry-step go-on P e es none k) ∙ h) (omega (arith, d))
 
   -- The answer for one word more, by its slotted entries.
@@ -220,14 +221,15 @@ module _ {le : Test} {Le : Relation} (decides : Decides le Le) (g : Graph) (numb
   behind-word es words P = sym (slotted-same (λ Y. firstBehind le t words Y) P false es (λ h. absurd (false≢true h)))
 
   -- A line has no answer exactly when its graph can't be finished.
-  pub laid-none : {u : ℕ} {words : Words} → Laid g numbers t u words end → AllKnown words → (P : PregroupType) → (firstBehind le t words P ≡ none) ↔ (Finishes Le g P u end → ⊥)
+  pub laid-none : {u : ℕ} {words : Words} → Laid g t u words end → AllKnown words → (P : PregroupType) → (firstBehind le t words P ≡ none) ↔ (Finishes Le g P u end → ⊥)
   laid-none (goal e entry only) known-words P =
-      (λ h f. none-iff-unlinked P .0 h (goal-iff P e entry only .0 f), λ n. none-iff-unlinked P .1 (λ v. n (goal-iff P e entry only .1 v)))
+      let spelt = rw (target-adjoint t) at entry in
+      (λ h f. none-iff-unlinked P .0 h (goal-iff P e spelt only .0 f), λ n. none-iff-unlinked P .1 (λ v. n (goal-iff P e spelt only .1 v)))
   laid-none {u} (word {b = c} {words = words} b slots rest) (known {e} {es} ks) P =
       let k : (Q : PregroupType) → (firstBehind le t words Q ≡ none) ↔ (Finishes Le g Q c end → ⊥) = λ Q. laid-none rest ks Q in
-      let s = getD (g .froms) u 0 in
-      let here-slot : EntersBy g u s (getD (g .enters) s 0) = record { boundary = b; from-on = omega arith; before = slots-some e es slots; entered = refl } in
-      let apart : u ≡ end → ⊥ = λ q. closed s _ (subst (λ (n : ℕ). EntersBy g n s (getD (g .enters) s 0)) q here-slot) in (
+      let s = fromAt (g .nodes) u in
+      let here-slot : EntersBy g u s (enteredAt (g .slots) s) = record { boundary = b; from-on = omega arith; before = slots-some e es slots; entered = refl } in
+      let apart : u ≡ end → ⊥ = λ q. closed s _ (subst (λ (n : ℕ). EntersBy g n s (enteredAt (g .slots) s)) q here-slot) in (
         λ h f.
             let x = taken b apart f in
             none-each c words k P slots (sym (behind-word (e ∷ es) words P) ∙ h) (x .slot-taken) (x .enters .from-on) (x .enters .before)
@@ -240,7 +242,7 @@ module _ {le : Test} {Le : Relation} (decides : Decides le Le) (g : Graph) (numb
   pub record Answered (P : PregroupType) (u : ℕ) (words : Words) (slots : List ℕ) : Type 0 where
     pub ns : List ℕ
     pub string : PregroupType
-    pub numbers-are : ns ≡ map (λ (s : ℕ). getD numbers s 0) (take (length words) slots)
+    pub numbers-are : ns ≡ map (λ (s : ℕ). numberAt (g .slots) s) (take (length words) slots)
     pub spelt : (X : PregroupType) → SlotChoice g u slots X end → (P ++ X ≡ string ++ (t ⁽ pos 1 ⁾ ∷ [])) × (length slots ≡ length words + 1)
     pub answer : firstBehind le t words P ≡ withNumbers ns (lastAnswer (firstLinking le t string))
 
@@ -280,32 +282,32 @@ module _ {le : Test} {Le : Relation} (decides : Decides le Le) (g : Graph) (numb
       {c : ℕ} (e : NumberedEntry) (es : List NumberedEntry) (words : Words) (k : (Q : PregroupType) → (firstBehind le t words Q ≡ none) ↔ (Finishes Le g Q c end → ⊥))
       (rest : (Q : PregroupType) (others : List ℕ) → Scanned Le g end Q c others → Answered Q c words others) where
     taken-word :
-        {P T : PregroupType} {u s w b : ℕ} {slots : List ℕ} → Slots g numbers c (getD (g .froms) u 0) (getD (g .tos) u 0) (slotted false (e ∷ es)) → Boundary g u
+        {P T : PregroupType} {u s w b : ℕ} {slots : List ℕ} → Slots g c (fromAt (g .nodes) u) (toAt (g .nodes) u) (slotted false (e ∷ es)) → Boundary g u
         → EntersBy g u s w → Spells g w T b → ((r v : ℕ) → r < s → EntersBy g u r v → Finishes Le g P v end → ⊥) → Scanned Le g end (P ++ T) b slots
         → Answered P u ((e ∷ es) ∷ words) (s ∷ slots)
     taken-word {P} {T} {u} {s} {w} {b} {slots} slots-of bound enters entry earlier more =
         let at-slot = enters .entered in
         let f : Finishes Le g P w end = finishes-iff-behind last entry .1 (finishes-scanned more) in
         let p = scan-first c words k P slots-of s T b (enters .from-on) (enters .before)
-        (λ r i j h. earlier r (getD (g .enters) r 0) j (record { boundary = bound; from-on = i; before = omega (arith, enters .before); entered = refl }) h)
+        (λ r i j h. earlier r (enteredAt (g .slots) r) j (record { boundary = bound; from-on = i; before = omega (arith, enters .before); entered = refl }) h)
         (subst (λ (n : ℕ). Finishes Le g P n end) at-slot f) (subst (λ (n : ℕ). Spells g n T b) at-slot entry) in
         let a = rest (P ++ T) slots (subst (λ (n : ℕ). Scanned Le g end (P ++ T) n slots) (p .behind) more) in
         record {
-          ns = getD numbers s 0 ∷ a .ns;
+          ns = numberAt (g .slots) s ∷ a .ns;
           string = a .string;
-          numbers-are = ap (λ (l : List ℕ). getD numbers s 0 ∷ l) (a .numbers-are);
+          numbers-are = ap (λ (l : List ℕ). numberAt (g .slots) s ∷ l) (a .numbers-are);
           spelt = λ X h. let x = word-spelt P enters (subst (λ (n : ℕ). Spells g w T n) (p .behind) entry) (a .spelt) h in (x .0, omega (arith, x .1));
-          answer = behind-word (e ∷ es) words P ∙ p .answer ∙ ap (withNumber (getD numbers s 0)) (a .answer);
+          answer = behind-word (e ∷ es) words P ∙ p .answer ∙ ap (withNumber (numberAt (g .slots) s)) (a .answer);
         }
 
     scanned-word :
-        {P : PregroupType} {u : ℕ} {slots : List ℕ} → Slots g numbers c (getD (g .froms) u 0) (getD (g .tos) u 0) (slotted false (e ∷ es)) → Boundary g u
+        {P : PregroupType} {u : ℕ} {slots : List ℕ} → Slots g c (fromAt (g .nodes) u) (toAt (g .nodes) u) (slotted false (e ∷ es)) → Boundary g u
         → Scanned Le g end P u slots → Answered P u ((e ∷ es) ∷ words) slots
     scanned-word slots-of bound (ends v) =
-        absurd (closed (getD (g .froms) end 0) _ (record { boundary = bound; from-on = omega arith; before = slots-some e es slots-of; entered = refl }))
+        absurd (closed (fromAt (g .nodes) end) _ (record { boundary = bound; from-on = omega arith; before = slots-some e es slots-of; entered = refl }))
     scanned-word slots-of bound (takes enters entry earlier more) = taken-word slots-of bound enters entry earlier more
 
-  pub scanned-answers : {u : ℕ} {words : Words} → Laid g numbers t u words end → AllKnown words → (P : PregroupType) (slots : List ℕ) → Scanned Le g end P u slots → Answered P u words slots
-  scanned-answers (goal e entry only) ks P slots r = record { ns = []; string = P; numbers-are = refl; spelt = λ X c. goal-spelt P X e entry only c; answer = behind-none le t P }
+  pub scanned-answers : {u : ℕ} {words : Words} → Laid g t u words end → AllKnown words → (P : PregroupType) (slots : List ℕ) → Scanned Le g end P u slots → Answered P u words slots
+  scanned-answers (goal e entry only) ks P slots r = record { ns = []; string = P; numbers-are = refl; spelt = λ X c. goal-spelt P X e (rw (target-adjoint t) at entry) only c; answer = behind-none le t P }
   scanned-answers (word {words = words} b slots-of rest) (known {e} {es} ks) P slots r =
       scanned-word e es words (λ Q. laid-none rest ks Q) (λ Q others s. scanned-answers rest ks Q others s) slots-of b r

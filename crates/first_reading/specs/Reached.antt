@@ -14,11 +14,14 @@ use Rattle.answer.specs.Answers.{given, Gives}
 use Rattle.reach.specs.Charted.{Charted}
 
 -- Some words are charted, and target t is reached.
-abbrev pub IsReached : Relation → Graph → List ℕ → List Basic → ℕ → ℕ → List ℕ → ℕ → Type 0
-IsReached Le g numbers targets last n chart t =
-    ((le : Test) × (words : Words) × Charted le Le g numbers targets last n words chart t) × (t < length targets) × (length chart ≡ maxNodes * rowWords)
+pub record IsReached (Le : Relation) (g : Graph) (targets : List Basic) (last : ℕ) (chart : List ℕ) (t : ℕ) : Type 0 where
+  pub le : Test
+  pub words : Words
+  pub charted : Charted le Le g targets last words chart t
+  pub target-there : t < length targets
+  pub chart-room : length chart ≡ maxNodes * rowWords
 
 -- What writing the reading for t gives: what the first reading of the words comes to.
-abbrev pub ReachGives : Relation → Graph → List ℕ → List Basic → ℕ → ℕ → List ℕ → ℕ → List ℕ → LineAnswer → List ℕ → Type 0
-ReachGives Le g numbers targets last n chart t before answer after =
-    (le : Test) (words : Words) → Charted le Le g numbers targets last n words chart t → Gives (given (firstReading le targets words) before) answer after
+abbrev pub ReachGives : Relation → Graph → List Basic → ℕ → List ℕ → ℕ → List ℕ → LineAnswer → List ℕ → Type 0
+ReachGives Le g targets last chart t before answer after =
+    (le : Test) (words : Words) → Charted le Le g targets last words chart t → Gives (given (firstReading le targets words) before) answer after

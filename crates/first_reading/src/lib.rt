@@ -1,60 +1,51 @@
 // The first reading of words that are charted: the first choice up to the target that is reached, with its first linking, written as an answer.
 use answer::LineAnswer;
+use answer::answer_length;
 use answer::write_answer;
 use choice::choose;
 use figures::limits::MAX_NODES;
 use figures::limits::MAX_PLACES;
 use figures::limits::TABLE_WORDS;
 use figures::refusals::BUFFER_TOO_SHORT;
-ghost use lib.ListN.{length};
+use layout::end_at;
 ghost use Rattle.pregroup.specs.Held.{InRows};
 ghost use Rattle.graph.specs.Graph.{graph};
-ghost use Rattle.layout.specs.Lists.{nodesWith};
 ghost use Rattle.first_reading.specs.Reached.{IsReached, ReachGives};
 
 // Finds the first choice up to the end of target t, which the chart reaches as the first, and writes its first linking.
 pub fn write_reading(
     order: &[u64],
-    simples: &[u16],
-    nexts: &[u16],
-    froms: &[u16],
-    tos: &[u16],
-    enters: &[u16],
-    numbers: &[u16],
+    nodes: &[u64],
+    slots: &[u64],
     chart: &[u64],
     targets: &[u8],
     last: usize,
     t: usize,
-    words: usize,
     answer: &mut [u16],
 ) -> LineAnswer
-    requires { ⌜ IsReached (InRows (now order)) (graph (nodesWith last (length (now targets))) (now simples) (now nexts) (now froms) (now tos) (now enters))
-        (now numbers) (now targets) last words (now chart) t ⌝ }
-    ensures { λ r. ⌜ ReachGives (InRows (now (order .entry)))
-        (graph (nodesWith last (length (now (targets .entry)))) (now (simples .entry)) (now (nexts .entry)) (now (froms .entry)) (now (tos .entry)) (now (enters .entry)))
-        (now (numbers .entry)) (now (targets .entry)) last words (now (chart .entry)) t (now (answer .entry)) r (now (answer .exit)) ⌝ }
+    requires { ⌜ IsReached (InRows (now order)) (graph (now nodes) (now slots)) (now targets) last (now chart) t ⌝ }
+    ensures { λ r. ⌜ ReachGives (InRows (now (order .entry))) (graph (now (nodes .entry)) (now (slots .entry))) (now (targets .entry)) last (now (chart .entry)) t
+        (now (answer .entry)) r (now (answer .exit)) ⌝ }
 {
-    let end = last + 2 + 2 * t;
+    let end = end_at(last, t);
     let mut string = [0u16; MAX_PLACES];
-    let mut slots = [0u16; MAX_NODES];
+    let mut chosen = [0u16; MAX_NODES];
     let mut table = [0u64; TABLE_WORDS];
     let mut needs = [0u64; TABLE_WORDS];
-    let chosen = choose(
+    let choice = choose(
         order,
-        simples,
-        nexts,
-        froms,
-        tos,
-        enters,
+        nodes,
+        slots,
         chart,
         end,
         &mut string,
-        &mut slots,
+        &mut chosen,
         &mut table,
         &mut needs,
     );
-    let m = chosen.places - 1;
-    let needed = 3 + words + m;
+    let words = choice.words - 1;
+    let m = choice.places - 1;
+    let needed = answer_length(words, m);
     if answer.len() < needed {
         return LineAnswer::Refused {
             number: BUFFER_TOO_SHORT,
@@ -63,14 +54,12 @@ pub fn write_reading(
     }
     write_answer(
         order,
-        &string,
+        &string[..m],
         &table,
-        m,
         targets[t],
         t,
-        numbers,
-        &slots,
-        words,
+        slots,
+        &chosen[..words],
         answer,
     );
     LineAnswer::Read { values: needed }

@@ -8,7 +8,7 @@ use lib.ListN.{length, getD, set, take, drop}
 use Rattle.figures.specs.Limits.{maxName, maxTypes}
 use Rattle.format.specs.Records.{Bytes, every, between, sameBytes, bodyAt, Whole}
 
--- Kind 1, a basic type: its name, 1 to 15 bytes, a–z and 0–9, a letter first.
+-- The name of a basic type: 1 to 15 bytes, a–z and 0–9, a letter first.
 
 unfoldable pub nameByte : ℕ → Bool
 nameByte byte = between 97 122 byte || between 48 57 byte
@@ -25,14 +25,14 @@ unfoldable pub nameBehind : Bytes → Bytes
 nameBehind [] = []
 nameBehind (b ∷ text) = cond (nameByte b) (nameBehind text) (b ∷ text)
 
--- The bytes of a name that stand from an offset on, and where they end.
+-- The name that starts at an offset, and its end.
 pub record NameEnds (text : Bytes) (at behind : ℕ) : Type 0 where
   pub forth : at ≤ behind
   pub inside : behind ≤ length text
   pub name : take (behind - at) (drop at text) ≡ nameFront (drop at text)
   pub left : drop behind text ≡ nameBehind (drop at text)
 
--- The number of a name, counted from 0; for one that is not among them, how many there are.
+-- The number of a name among others, counted from 0. For a name that is not among them it is how many there are.
 unfoldable pub numberOf : List Bytes → Bytes → ℕ
 numberOf [] name = 0
 numberOf (n ∷ names) name = cond (sameBytes name n) 0 (suc (numberOf names name))
@@ -40,7 +40,7 @@ numberOf (n ∷ names) name = cond (sameBytes name n) 0 (suc (numberOf names nam
 abbrev pub isAmong : List Bytes → Bytes → Bool
 isAmong names name = ltb (numberOf names name) (length names)
 
--- How many keys names have, and the places of a list that holds the offsets of names: behind them one for each key.
+-- How many keys names have. A list of names has a place for each basic type's offset, and behind them one for each key.
 abbrev pub nameKeys : ℕ
 nameKeys = 256
 
@@ -54,7 +54,7 @@ pub record Named (bytes : Bytes) (offsets : List ℕ) (count : ℕ) : Type 0 whe
   pub places : namePlaces ≤ length offsets
   pub different : (i j : ℕ) → i < count → j < count → bodyAt bytes (getD {A = ℕ} offsets i 0) ≡ bodyAt bytes (getD {A = ℕ} offsets j 0) → i ≡ j
 
--- A name's offset is kept as the next, and its number at some place behind all offsets.
+-- A name's offset is kept as the next one, and its number at some place behind all offsets.
 pub record Keeping (offsets : List ℕ) (count at : ℕ) (offsets′ : List ℕ) : Type 0 where
   pub place : ℕ
   pub behind : maxTypes ≤ place

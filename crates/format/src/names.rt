@@ -13,11 +13,11 @@ ghost use Rattle.figures.specs.Limits.{maxName, maxTypes};
 ghost use Rattle.format.specs.Names.{isName, NameEnds, numberOf, nameKeys, namePlaces, Named, Keeping};
 
 // How many keys names have.
-const KEYS: usize = 256;
+const NAME_KEYS: usize = 256;
 
-// The places of the kept names: one for each basic type, with the offset of its record, and behind them one for each key, with the number of
-// the last name of that key.
-pub const NAME_PLACES: usize = MAX_TYPES + KEYS;
+// The places of the kept names. The first are one for each basic type, with the offset of its record. Behind them stands one for each key, with the
+// number of the last name of that key.
+pub const NAME_PLACES: usize = MAX_TYPES + NAME_KEYS;
 
 pub fn is_letter(byte: u8) -> bool
     ensures { λ r. ⌜ r ≡ between 97 122 byte ⌝ }
@@ -37,7 +37,7 @@ fn is_digit(byte: u8) -> bool
     }
 }
 
-// Where the bytes of a name end that stand from a place on. Most are letters, so these take the shortest way.
+// The end of the name that starts at `at`. Most bytes of a name are letters, so these take the shortest way.
 pub fn name_end(text: &[u8], at: usize) -> usize
     requires { ⌜ at ≤ length (now text) ⌝ }
     ensures { λ r. ⌜ NameEnds (now (text .entry)) at r ⌝ }
@@ -75,8 +75,9 @@ pub fn is_name(body: &[u8]) -> bool
     name_end(body, 0) == body.len()
 }
 
-// The key of a name: its byte, or its length, its first byte and its last two, mixed so that names that end in two digits have different keys.
-fn key_of(name: &[u8]) -> usize
+// The key of a name. That of one byte is the byte. Any other key mixes the name's length, its first byte and its last two, so that names that end in
+// two digits have different keys.
+fn name_key(name: &[u8]) -> usize
     requires { ⌜ (1 ≤ length (now name)) × (length (now name) ≤ maxName) ⌝ }
     ensures { λ r. ⌜ r < nameKeys ⌝ }
 {
@@ -86,10 +87,10 @@ fn key_of(name: &[u8]) -> usize
     }
     let last = wide_byte(name[name.len() - 1]);
     let before = wide_byte(name[name.len() - 2]);
-    (name.len() + 4 * first + 9 * before + 16 * last) % KEYS
+    (name.len() + 4 * first + 9 * before + 16 * last) % NAME_KEYS
 }
 
-// The number of a name among the basic types whose records start at the kept offsets, tried one by one; or how many there are.
+// The number of a name among the basic types, or how many there are. Their records start at the kept offsets and are tried one by one.
 pub fn search_name(book: &[u8], names: &[u16], types: usize, name: &[u8]) -> usize
     requires { ⌜ Whole (now book) (now names) types ⌝ }
     ensures { λ r. ⌜ r ≡ numberOf (bodiesAt (now (book .entry)) (now (names .entry)) types) (now (name .entry)) ⌝ }
@@ -105,12 +106,12 @@ pub fn search_name(book: &[u8], names: &[u16], types: usize, name: &[u8]) -> usi
 }
 
 // The same, where the last name of the key is tried first. The search is lent `[..]` of two lists: a list that is handed on as it came is put in
-// memory for every name, also where no search follows.
+// memory for every name, even where no search follows.
 pub fn find_name(book: &[u8], names: &[u16], types: usize, name: &[u8]) -> usize
     requires { ⌜ Named (now book) (now names) types × (1 ≤ length (now name)) × (length (now name) ≤ maxName) ⌝ }
     ensures { λ r. ⌜ r ≡ numberOf (bodiesAt (now (book .entry)) (now (names .entry)) types) (now (name .entry)) ⌝ }
 {
-    let guess = wide_number(names[MAX_TYPES + key_of(name)]);
+    let guess = wide_number(names[MAX_TYPES + name_key(name)]);
     if guess < types {
         if same(name, body_at(book, wide_number(names[guess]))) {
             return guess;
@@ -124,7 +125,7 @@ pub fn keep_name(names: &mut [u16], types: usize, at: usize, name: &[u8])
     requires { ⌜ (types < maxTypes) × (at < 65536) × (namePlaces ≤ length (now names)) × (1 ≤ length (now name)) × (length (now name) ≤ maxName) ⌝ }
     ensures { λ _. ⌜ Keeping (now (names .entry)) types at (now (names .exit)) ⌝ }
 {
-    let place = MAX_TYPES + key_of(name);
+    let place = MAX_TYPES + name_key(name);
     names[types] = at as u16;
     names[place] = types as u16;
 }

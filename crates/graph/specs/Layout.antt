@@ -5,11 +5,9 @@ use Prim.Native.Nat.{ℕ, _+_}
 use mathlib.Core.Path.{_≡_}
 use mathlib.Core.Bool.{Bool, true, false}
 use mathlib.Core.List.{List, [], _∷_}
-use lib.IntN.{pos}
-use lib.ListN.{getD}
-use Rattle.pregroup.specs.Types.{Basic, PregroupType, _⁽_⁾}
-use Rattle.linking.specs.Reading.{NumberedEntry, Words}
-use Rattle.graph.specs.Graph.{Graph, EntersBy, Path, Boundary, Spells}
+use Rattle.pregroup.specs.Types.{Basic, PregroupType, rightAdjoint}
+use Rattle.linking.specs.Reading.{NumberedEntry, Words, targetType}
+use Rattle.graph.specs.Graph.{Graph, fromAt, toAt, enteredAt, numberAt, EntersBy, Path, Boundary, Spells}
 
 abbrev pub hasNone : PregroupType → Bool
 hasNone [] = true
@@ -23,13 +21,13 @@ slotted seen (e ∷ entries) = elim (hasNone (e .type)) [
   | false ↦ e ∷ slotted seen entries
 ]
 
--- The slots from s up to `to` are those of the entries, in their order: each leads to a node from which the entry's type is spelt, up to the
--- boundary b, and `numbers` has the entry's number.
-pub data Slots (g : Graph) (numbers : List ℕ) (b : ℕ) : ℕ → ℕ → List NumberedEntry → Type 0 where
-  none : {s to : ℕ} → s ≡ to → Slots g numbers b s to []
+-- The slots from s up to `to` are those of the entries, in their order: each has the entry's number, and leads to a node from which the entry's
+-- type is spelt, up to the boundary b.
+pub data Slots (g : Graph) (b : ℕ) : ℕ → ℕ → List NumberedEntry → Type 0 where
+  none : {s to : ℕ} → s ≡ to → Slots g b s to []
   slot : {s to : ℕ} {e : NumberedEntry} {es : List NumberedEntry}
-      → getD (numbers) s 0 ≡ e .number → Spells g (getD (g .enters) s 0) (e .type) b → Slots g numbers b (s + 1) to es
-      → Slots g numbers b s to (e ∷ es)
+      → numberAt (g .slots) s ≡ e .number → Spells g (enteredAt (g .slots) s) (e .type) b → Slots g b (s + 1) to es
+      → Slots g b s to (e ∷ es)
 
 -- A boundary without slots: no path leads on from it.
 pub record End (g : Graph) (end : ℕ) : Type 0 where
@@ -38,9 +36,9 @@ pub record End (g : Graph) (end : ℕ) : Type 0 where
 
 -- From the boundary u on the graph is that of these words, and then of the target t, up to `end`, which of the last boundary's slots only
 -- that of t leads to.
-pub data Laid (g : Graph) (numbers : List ℕ) (t : Basic) : ℕ → Words → ℕ → Type 0 where
-  goal : {u s v end : ℕ} → EntersBy g u s v → Spells g v (t ⁽ pos 1 ⁾ ∷ []) end
-      → ((r w : ℕ) (X : PregroupType) → EntersBy g u r w → Path g w X end → r ≡ s) → Laid g numbers t u [] end
+pub data Laid (g : Graph) (t : Basic) : ℕ → Words → ℕ → Type 0 where
+  goal : {u s v end : ℕ} → EntersBy g u s v → Spells g v (rightAdjoint (targetType t)) end
+      → ((r w : ℕ) (X : PregroupType) → EntersBy g u r w → Path g w X end → r ≡ s) → Laid g t u [] end
   word : {u b end : ℕ} {es : List NumberedEntry} {words : Words}
-      → Boundary g u → Slots g numbers b (getD (g .froms) u 0) (getD (g .tos) u 0) (slotted false es) → Laid g numbers t b words end
-      → Laid g numbers t u (es ∷ words) end
+      → Boundary g u → Slots g b (fromAt (g .nodes) u) (toAt (g .nodes) u) (slotted false es) → Laid g t b words end
+      → Laid g t u (es ∷ words) end

@@ -1,7 +1,7 @@
 -- From what reading a line gives to what is returned of the words in the way.
 use Prim.Native.Nat.{ℕ}
 use native.Mathlib.Omega.{arith}
-use mathlib.Core.Path.{_≡_, sym, ap, subst, _∙_}
+use mathlib.Core.Path.{_≡_, refl, sym, ap, subst, _∙_}
 use mathlib.Core.Logic.{⊎-elim}
 use mathlib.Core.List.{List}
 use lib.ListN.{length}
@@ -16,7 +16,7 @@ use Rattle.answer.specs.Answers.{Gives}
 use Rattle.reader.specs.Outcome.{outcome}
 use Rattle.answer.specs.declared.LineAnswer.{LineAnswer}
 use Rattle.answer.specs.declared.LineAnswer.the-variants.{Read, Refused}
-use Rattle.reader.proofs.OpeningLaws.{gives-book-refused, gives-line-refused}
+use Rattle.reader.proofs.Given.{gives-book-refused, gives-line-refused}
 use Rattle.reader.proofs.Refusals.{NamedParse, parse-named, NamedLine, line-named}
 use Rattle.in_the_way.specs.declared.WayAnswer.{WayAnswer}
 use Rattle.in_the_way.specs.declared.WayAnswer.the-variants.{Ordinary, NoReading}
@@ -38,26 +38,26 @@ module _ (book line : Bytes) (before : List ℕ) where
   gives-read {n = n} g e = gives-told g (ap (told way) e ∙ told-read way n ∙ ap Ordinary (sym e))
 
   -- A refusal with another number than 15.
-  pub gives-other : {number value : ℕ} {after : List ℕ} → Gives (outcome book line before) (Refused number value) after → (number ≡ noReading → ⊥)
-      → Gives (wayOutcome book line before) (Ordinary (Refused number value)) after
-  gives-other {number} {value} g d = gives-told g (told-other way number value d)
+  pub gives-other : {answer : LineAnswer} {number value : ℕ} {after : List ℕ} → Gives (outcome book line before) answer after → answer ≡ Refused number value
+      → (number ≡ noReading → ⊥) → Gives (wayOutcome book line before) (Ordinary (Refused number value)) after
+  gives-other {number = number} {value} g e d = gives-told g (ap (told way) e ∙ told-other way number value d)
 
   -- 15.
-  pub gives-fifteen : {number value words : ℕ} {after : List ℕ} → Gives (outcome book line before) (Refused number value) after → number ≡ noReading → way ≡ words
-      → Gives (wayOutcome book line before) (NoReading words) after
-  gives-fifteen {value = value} g e w = gives-told g (ap (λ (n : ℕ). told way (Refused n value)) e ∙ told-fifteen way value ∙ ap NoReading w)
+  pub gives-fifteen : {answer : LineAnswer} {number value words : ℕ} {after : List ℕ} → Gives (outcome book line before) answer after → answer ≡ Refused number value
+      → number ≡ noReading → way ≡ words → Gives (wayOutcome book line before) (NoReading words) after
+  gives-fifteen {value = value} g e f w = gives-told g (ap (told way) e ∙ ap (λ (n : ℕ). told way (Refused n value)) f ∙ told-fifteen way value ∙ ap NoReading w)
 
   -- A book that is refused, and a line that is.
   pub gives-bad-book : {number value : ℕ} → parse book ≡ refused number value → Gives (wayOutcome book line before) (Ordinary (Refused number value)) before
   gives-bad-book e =
       let named = subst NamedParse e (parse-named book) in
-      gives-other (gives-book-refused book line before e) (λ k. ⊎-elim (λ low. omega (arith, low .1)) (λ high. omega (arith, high .0)) named)
+      gives-other (gives-book-refused book line before e) refl (λ k. ⊎-elim (λ low. omega (arith, low .1)) (λ high. omega (arith, high .0)) named)
 
   pub gives-bad-line : {B : Book} {number value : ℕ} → parse book ≡ accepted B → lineCheck B line ≡ stopped number value
       → Gives (wayOutcome book line before) (Ordinary (Refused number value)) before
   gives-bad-line {B} is-accepted l =
       let named = subst NamedLine l (line-named B line) in
-      gives-other (gives-line-refused book line before is-accepted l) (λ k. omega (arith, named .1))
+      gives-other (gives-line-refused book line before is-accepted l) refl (λ k. omega (arith, named .1))
 
 -- The number of a line that is read.
 pub way-is : (book line : Bytes) {B : Book} {words : Words} {targets : List Basic} {number : ℕ} → parse book ≡ accepted B → lineCheck B line ≡ passed words → B .targets ≡ targets

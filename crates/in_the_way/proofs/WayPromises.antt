@@ -19,7 +19,7 @@ use Rattle.order.proofs.ClosureLaws.{closed-is-order}
 use Rattle.format.specs.Records.{Bytes}
 use Rattle.book.specs.Format.{Book, accepted, parse}
 use Rattle.book.proofs.Accepted.{accepted-declares}
-use Rattle.linking.specs.Reading.{Words, Answer, firstReading, isSome, reads}
+use Rattle.linking.specs.Reading.{Words, Answer, HasReading, reads-by, HasChain, firstReading, isSome, reads}
 use Rattle.linking.specs.Ascending.{AllAscending}
 use Rattle.linking.proofs.FirstReading.{first-reading-some, first-reading-none}
 use Rattle.linking.proofs.Derivation.{reading-iff-chain}
@@ -31,13 +31,13 @@ use Rattle.reader.specs.Outcome.{outcome}
 use Rattle.reader.specs.Demands.{OrderOf, Readable}
 use Rattle.answer.specs.declared.LineAnswer.{LineAnswer}
 use Rattle.answer.specs.declared.LineAnswer.the-variants.{Read, Refused}
-use Rattle.reader.proofs.OpeningLaws.{gives-promised}
+use Rattle.reader.proofs.Given.{gives-promised}
 use Rattle.reader.proofs.Unread.{firstOfBook, unread-exactly, unread-line}
 use Rattle.in_the_way.specs.declared.WayAnswer.{WayAnswer}
 use Rattle.in_the_way.specs.declared.WayAnswer.the-variants.{Ordinary, NoReading}
 use Rattle.left_out.specs.LeftOut.{wayOf}
 use Rattle.in_the_way.specs.Way.{wayAgainst, wayParsed, told, wayOutcome}
-use Rattle.in_the_way.specs.WayDemands.{ordinary, HasReading, HasChain, InTheWay, WayPromised}
+use Rattle.in_the_way.specs.WayDemands.{ordinary, InTheWay, WayPromised}
 use Rattle.left_out.proofs.WayLaws.{way-says, way-ends}
 
 -- Words without a first reading, and words with one.
@@ -56,14 +56,17 @@ module _ (book : Bytes) (B : Book) (is-accepted : parse book ≡ accepted B) whe
   decides : Decides le (OrderOf B)
   decides = below-decides (length (B .names)) (B .pairs) declared
 
-  reads-some : (words : Words) → AllAscending words → (o : Option Answer) → firstReading le (B .targets) words ≡ o → (isSome o ≡ true) ↔ HasReading B words
-  reads-some words a none e = (λ h. absurd (false≢true h), λ r. absurd (first-reading-none decides a .0 e (r .0) (r .1) (r .2) (r .3)))
-  reads-some words a (some x) e = (λ h. (x .target, x .entries, x .partners, first-reading-some decides a e .reading), λ r. refl)
+  reads-some : (words : Words) → AllAscending words → (o : Option Answer) → firstReading le (B .targets) words ≡ o → (isSome o ≡ true) ↔ HasReading (OrderOf B) (B .targets) words
+  reads-some words a none e = (λ h. absurd (false≢true h), λ r. absurd (unread r))
+    where
+      unread : HasReading (OrderOf B) (B .targets) words → ⊥
+      unread (reads-by {t} {ns} {P} r) = first-reading-none decides a .0 e t ns P r
+  reads-some words a (some x) e = (λ h. reads-by (first-reading-some decides a e .reading), λ r. refl)
 
-  reads-reading : (words : Words) → AllAscending words → (reads le (B .targets) words ≡ true) ↔ HasReading B words
+  reads-reading : (words : Words) → AllAscending words → (reads le (B .targets) words ≡ true) ↔ HasReading (OrderOf B) (B .targets) words
   reads-reading words a = reads-some words a (firstReading le (B .targets) words) refl
 
-  reading-chain : (words : Words) → HasReading B words ↔ HasChain B words
+  reading-chain : (words : Words) → HasReading (OrderOf B) (B .targets) words ↔ HasChain (OrderOf B) (B .targets) words
   reading-chain words = reading-iff-chain (closed-is-order declared) (B .targets) (accepted-declares book B is-accepted .targets) words
 
 -- A line that is read.
@@ -77,7 +80,7 @@ module _ (book line : Bytes) (B : Book) (words : Words) (r : Readable book line 
   says : (k : ℕ) → k < length words → Has number k ↔ (reads (below (length (B .names)) (B .pairs)) (B .targets) (without k words) ≡ true)
   says k h = way-says _ _ words k h
 
-  bit-reading : (k : ℕ) → k < length words → Has number k ↔ HasReading B (without k words)
+  bit-reading : (k : ℕ) → k < length words → Has number k ↔ HasReading (OrderOf B) (B .targets) (without k words)
   bit-reading k h = Iff·trans (says k h) (reads-reading book B (r .book-accepted) (without k words) (ascending k))
 
   pub other-line : (k : ℕ) → k < length words → (other : Bytes) → IsWithout k line other → (lent : List ℕ)

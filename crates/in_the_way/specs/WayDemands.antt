@@ -3,15 +3,13 @@
 use Prim.Native.Nat.{ℕ, _≤_, _<_}
 use mathlib.Core.Path.{_≡_}
 use mathlib.Core.Logic.{_↔_}
-use mathlib.Core.List.{List, [], _∷_}
+use mathlib.Core.List.{List}
 use lib.ListN.{length}
 use Rattle.figures.specs.Refusals.{noReading}
 use Rattle.bits.specs.Bits.{Has}
-use Rattle.pregroup.specs.Types.{PregroupType, plain}
-use Rattle.pregroup.specs.Steps.{Chain}
 use Rattle.format.specs.Records.{Bytes}
 use Rattle.book.specs.Format.{Book}
-use Rattle.linking.specs.Reading.{Words, Choice, targetAt, IsReading}
+use Rattle.linking.specs.Reading.{Words, HasReading, HasChain}
 use Rattle.line.specs.Remaining.{without, IsWithout}
 use Rattle.answer.specs.Answers.{Gives}
 use Rattle.reader.specs.Outcome.{outcome}
@@ -26,22 +24,12 @@ abbrev pub ordinary : WayAnswer → LineAnswer
 ordinary (Ordinary answer) = answer
 ordinary (NoReading words) = Refused noReading 0
 
--- Words have a reading, for some target.
-abbrev pub HasReading : Book → Words → Type 0
-HasReading B words = (t : ℕ) × (entries : List ℕ) × (partners : List ℕ) × IsReading (OrderOf B) (B .targets) words t entries partners
-
--- Some choice of entries can be turned into some target.
-abbrev pub HasChain : Book → Words → Type 0
-HasChain B words =
-    (t : ℕ) × (t < length (B .targets)) × (entries : List ℕ) × (X : PregroupType) × Choice words entries X
-    × Chain (OrderOf B) X (plain (targetAt (B .targets) t) ∷ [])
-
 -- What a number tells of a line with these words.
 pub record InTheWay (book line : Bytes) (B : Book) (words : Words) (number : ℕ) : Type 0 where
   -- Bit k is set exactly when the line without word k + 1 has a reading ..
-  pub reading : (k : ℕ) → k < length words → Has number k ↔ HasReading B (without k words)
+  pub reading : (k : ℕ) → k < length words → Has number k ↔ HasReading (OrderOf B) (B .targets) (without k words)
   -- .. which is when some choice of its other words can be turned into some target by a chain.
-  pub chain : (k : ℕ) → k < length words → Has number k ↔ HasChain B (without k words)
+  pub chain : (k : ℕ) → k < length words → Has number k ↔ HasChain (OrderOf B) (B .targets) (without k words)
   -- No bit from the number of words on is set.
   pub no-more : (k : ℕ) → length words ≤ k → Has number k → ⊥
   -- Every line that has the other words, in their order and however they are spaced, is refused with 15 exactly when bit k is not set.

@@ -5,16 +5,14 @@ use book::Scan;
 use figures::limits::MAX_ENTRIES;
 use figures::limits::MAX_WORDS;
 use figures::refusals::NO_READING;
-use format::names::NAME_PLACES;
 use left_out::try_each;
 use line::CheckedLine;
 use line::words::check_line;
-use lookup::keys::NO_ENTRY;
-use lookup::keys::PLACES;
-use reader::open_book;
+use opening::Opening;
+use opening::open_book;
 use words::read_words;
 ghost use Rattle.answer.specs.Answers.{Gives};
-ghost use Rattle.reader.specs.Runs.{IsOpen};
+ghost use Rattle.opening.specs.Open.{IsOpen};
 ghost use Rattle.in_the_way.specs.Way.{wayOutcome};
 ghost use Rattle.in_the_way.specs.WayDemands.{WayPromised};
 
@@ -30,20 +28,19 @@ fn read_or_try(
     book: &[u8],
     names: &[u16],
     types: usize,
-    offsets: &[u16],
-    count: usize,
+    entries: &[u16],
     alike: &[u16],
     order: &[u64],
     targets: &[u8],
     line: &[u8],
     answer: &mut [u16],
 ) -> WayAnswer
-    requires { ⌜ IsOpen (now book) (now names) types (now offsets) count (now alike) (now order) (now targets) ⌝ }
+    requires { ⌜ IsOpen (now book) (now names) types (now entries) (now alike) (now order) (now targets) ⌝ }
     ensures { λ r. ⌜ Gives (wayOutcome (now (book .entry)) (now (line .entry)) (now (answer .entry))) r (now (answer .exit)) ⌝ }
 {
     let mut firsts = [0u16; MAX_WORDS];
     let mut same = [0u16; MAX_ENTRIES];
-    let checked = check_line(book, offsets, count, alike, line, &mut firsts, &mut same);
+    let checked = check_line(book, entries, alike, line, &mut firsts, &mut same);
     let words = match checked {
         CheckedLine::Refused { number, value } => {
             return WayAnswer::Ordinary(LineAnswer::Refused { number, value });
@@ -54,11 +51,9 @@ fn read_or_try(
         book,
         names,
         types,
-        offsets,
-        count,
+        entries,
         &same,
-        &firsts,
-        words,
+        &firsts[..words],
         order,
         targets,
         answer,
@@ -73,11 +68,9 @@ fn read_or_try(
         book,
         names,
         types,
-        offsets,
-        count,
+        entries,
         &same,
-        &mut firsts,
-        words,
+        &mut firsts[..words],
         order,
         targets,
     );
@@ -90,13 +83,14 @@ pub fn words_in_the_way(book: &[u8], line: &[u8], answer: &mut [u16]) -> WayAnsw
     ensures { λ r. ⌜ Gives (wayOutcome (now (book .entry)) (now (line .entry)) (now (answer .entry))) r (now (answer .exit)) ⌝ }
     ensures { λ r. ⌜ WayPromised (now (book .entry)) (now (line .entry)) (now (answer .entry)) r (now (answer .exit)) ⌝ }
 {
-    let mut names = [0u16; NAME_PLACES];
-    let mut entries = [0u16; MAX_ENTRIES];
-    let mut alike = [NO_ENTRY; PLACES];
-    let opening = open_book(book, &mut names, &mut entries, &mut alike);
-    let rows = opening.rows;
-    let targets = opening.targets;
-    let scan = opening.scan;
+    let Opening {
+        scan,
+        names,
+        entries,
+        alike,
+        order,
+        targets,
+    } = open_book(book);
     match scan {
         Scan::Refused { number, value } => {
             WayAnswer::Ordinary(LineAnswer::Refused { number, value })
@@ -109,10 +103,9 @@ pub fn words_in_the_way(book: &[u8], line: &[u8], answer: &mut [u16]) -> WayAnsw
             book,
             &names,
             types,
-            &entries,
-            count,
+            &entries[..count],
             &alike,
-            &rows,
+            &order,
             &targets[..goals],
             line,
             answer,

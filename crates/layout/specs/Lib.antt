@@ -1,2 +1,2 @@
 -- What the code writes for the words of a line and the targets.
-pub mod Lists
+pub mod LineLayout

@@ -6,35 +6,34 @@ use native.Mathlib.Decide.{ℕ-discrete}
 use mathlib.Core.Path.{_≡_, refl, sym, ap, subst, _∙_}
 use mathlib.Core.Bool.{Bool, true, false}
 use mathlib.Core.List.{List}
-use lib.ListN.{length, getD, set, length-set}
-use lib.Seq.{getD-set-same, getD-set-other}
+use lib.ListN.{length, getD, take, set, length-set}
+use lib.Seq.{getD-set-same, getD-set-other, getD-take, length-take-le}
 use lib.Pow.{pow-mono}
 use Rattle.pregroup.specs.Tests.{Test}
 use Rattle.format.specs.Records.{Bytes}
 use Rattle.linking.specs.Reading.{Words, reads}
 use Rattle.line.specs.Remaining.{without}
 use Rattle.line.proofs.Remaining.{without-length, without-known, without-brief, without-simples, without-threads}
-use Rattle.reach.specs.FoundWords.{FoundWords}
+use Rattle.line.specs.FoundWords.{FoundWords}
 use Rattle.words.specs.Readings.{SaysWhether}
 use Rattle.left_out.specs.LeftOut.{bitOf, wayFrom, IsWay}
 use Rattle.left_out.proofs.WayLaws.{way-small, way-step, way-none}
 
--- Of n first entries the one at k is left out and held in hand, and those behind it stand one place earlier.
-pub record LeftOut (all : List ℕ) (n : ℕ) (firsts : List ℕ) (held k : ℕ) : Type 0 where
-  pub inside : k ≤ n
+-- Of all first entries the one at k is left out and held in hand, and those behind it stand one place earlier.
+pub record LeftOut (all firsts : List ℕ) (held k : ℕ) : Type 0 where
+  pub inside : k ≤ length all
   pub long : length firsts ≡ length all
   pub before : (j : ℕ) → j < k → getD {A = ℕ} firsts j 0 ≡ getD {A = ℕ} all j 0
-  pub behind : (j : ℕ) → k ≤ j → j + 1 < n → getD {A = ℕ} firsts j 0 ≡ getD {A = ℕ} all (j + 1) 0
-  pub in-hand : k < n → held ≡ getD {A = ℕ} all k 0
+  pub behind : (j : ℕ) → k ≤ j → j + 1 < length all → getD {A = ℕ} firsts j 0 ≡ getD {A = ℕ} all (j + 1) 0
+  pub in-hand : k < length all → held ≡ getD {A = ℕ} all k 0
 
 -- None is left out yet.
-pub leaving-starts : (all : List ℕ) (n : ℕ) → LeftOut all n all 0 n
-leaving-starts all n = record { inside = omega arith; long = refl; before = λ j h. refl; behind = λ j h l. absurd (omega arith); in-hand = λ h. absurd (omega arith) }
+pub leaving-starts : (all : List ℕ) → LeftOut all all 0 (length all)
+leaving-starts all = record { inside = omega arith; long = refl; before = λ j h. refl; behind = λ j h l. absurd (omega arith); in-hand = λ h. absurd (omega arith) }
 
 -- The one before it is left out in its place.
-pub leaving-next : {all : List ℕ} {n : ℕ} {firsts : List ℕ} {held k : ℕ} → LeftOut all n firsts held k → 0 < k → n ≤ length all
-    → LeftOut all n (set firsts (k - 1) held) (getD {A = ℕ} firsts (k - 1) 0) (k - 1)
-leaving-next {all} {n} {firsts} {held} {k} l some room = record {
+pub leaving-next : {all firsts : List ℕ} {held k : ℕ} → LeftOut all firsts held k → 0 < k → LeftOut all (set firsts (k - 1) held) (getD {A = ℕ} firsts (k - 1) 0) (k - 1)
+leaving-next {all} {firsts} {held} {k} l some = record {
   inside = omega (arith, l .inside);
   long = length-set firsts (k - 1) held ∙ l .long;
   before = λ j h. getD-set-other firsts (k - 1) j held 0 (λ e. omega arith) ∙ l .before j (omega arith);
@@ -42,7 +41,7 @@ leaving-next {all} {n} {firsts} {held} {k} l some room = record {
   in-hand = λ h. l .before (k - 1) (omega arith);
 }
   where
-    go : (j : ℕ) → k - 1 ≤ j → j + 1 < n → Dec (j ≡ k - 1) → getD {A = ℕ} (set firsts (k - 1) held) j 0 ≡ getD {A = ℕ} all (j + 1) 0
+    go : (j : ℕ) → k - 1 ≤ j → j + 1 < length all → Dec (j ≡ k - 1) → getD {A = ℕ} (set firsts (k - 1) held) j 0 ≡ getD {A = ℕ} all (j + 1) 0
     go j h m (yes e) =
         let there : k - 1 < length firsts = omega (arith, l .inside, l .long) in
         let next : k ≡ j + 1 = omega arith in
@@ -51,68 +50,74 @@ leaving-next {all} {n} {firsts} {held} {k} l some room = record {
     go j h m (no d) = getD-set-other firsts (k - 1) j held 0 d ∙ l .behind j (omega (arith, d)) m
 
 -- The number for the words from word k + 1 on.
-abbrev pub IsWayFrom : Bytes → List ℕ → ℕ → List ℕ → ℕ → List ℕ → List ℕ → ℕ → List ℕ → List ℕ → ℕ → ℕ → Type 0
-IsWayFrom bytes names types offsets count same firsts n rows targets k number =
-    (le : Test) (words : Words) → FoundWords bytes names types offsets count same firsts n rows targets le words → number ≡ wayFrom le targets words k (n - k)
+abbrev pub IsWayFrom : Bytes → List ℕ → ℕ → List ℕ → List ℕ → List ℕ → List ℕ → List ℕ → ℕ → ℕ → Type 0
+IsWayFrom bytes names types entries same firsts order targets k number =
+    (le : Test) (words : Words) → FoundWords bytes names types entries same firsts order targets le words → number ≡ wayFrom le targets words k (length firsts - k)
 
-module _ {bytes : Bytes} {names : List ℕ} {types : ℕ} {offsets : List ℕ} {count : ℕ} {same all : List ℕ} {n : ℕ} {rows targets : List ℕ} where
-  -- The words without one of them are looked up as well.
-  pub found-without : {le : Test} {words : Words} {firsts : List ℕ} {held k : ℕ} → FoundWords bytes names types offsets count same all n rows targets le words
-      → LeftOut all n firsts held k → k < n → FoundWords bytes names types offsets count same firsts (n - 1) rows targets le (without k words)
-  found-without {words = words} {firsts} {k = k} f l h = record {
-    vocabulary = f .vocabulary;
-    same-room = f .same-room;
-    firsts-room = omega (arith, f .firsts-room, l .long);
-    threads = without-threads k (f .threads) (l .before) (λ j a b. l .behind j a (omega (arith, f .as-many)));
-    as-many = omega (arith, without-length k words (omega (arith, f .as-many)), f .as-many);
-    few = omega (arith, f .few);
-    small = omega (arith, f .small, without-simples k words);
-    known-words = without-known k (f .known-words);
-    brief-words = without-brief k (f .brief-words);
-    few-targets = f .few-targets;
-    decides = f .decides;
-  }
+module _ {bytes : Bytes} {names : List ℕ} {types : ℕ} {entries same all order targets : List ℕ} where
+  -- The words without one of them are found as well.
+  pub found-without : {le : Test} {words : Words} {firsts : List ℕ} {held k : ℕ} → FoundWords bytes names types entries same all order targets le words
+      → LeftOut all firsts held k → k < length all → FoundWords bytes names types entries same (take (length all - 1) firsts) order targets le (without k words)
+  found-without {words = words} {firsts} {k = k} f l h =
+      let fewer : length (take (length all - 1) firsts) ≡ length all - 1 = length-take-le (length all - 1) firsts (omega (arith, l .long)) in
+      let old = f .threaded in
+      record {
+        threaded = record {
+          vocabulary = old .vocabulary;
+          same-room = old .same-room;
+          threads =
+              without-threads k (old .threads) (λ j a. getD-take (length all - 1) firsts j 0 (omega arith) ∙ l .before j a)
+              (λ j a b. getD-take (length all - 1) firsts j 0 (omega (arith, old .as-many)) ∙ l .behind j a (omega (arith, old .as-many)));
+          as-many = omega (arith, without-length k words (omega (arith, old .as-many)), old .as-many, fewer);
+          few = omega (arith, old .few, fewer);
+          small = omega (arith, old .small, without-simples k words);
+          known-words = without-known k (old .known-words);
+          brief-words = without-brief k (old .brief-words);
+        };
+        few-targets = f .few-targets;
+        decides = f .decides;
+      }
 
-  pub way-starts : IsWayFrom bytes names types offsets count same all n rows targets n 0
-  way-starts le words f = let none : n - n ≡ 0 = omega arith in rw none (sym (way-none le targets words n))
+  pub way-starts : IsWayFrom bytes names types entries same all order targets (length all) 0
+  way-starts le words f = let none : length all - length all ≡ 0 = omega arith in rw none (sym (way-none le targets words (length all)))
 
   -- The number has as many bits as words have been left out.
-  pub way-fits : {le : Test} {words : Words} {k number : ℕ} → FoundWords bytes names types offsets count same all n rows targets le words
-      → IsWayFrom bytes names types offsets count same all n rows targets k number → 0 < k → number < 2 ^ 23
+  pub way-fits : {le : Test} {words : Words} {k number : ℕ} → FoundWords bytes names types entries same all order targets le words
+      → IsWayFrom bytes names types entries same all order targets k number → 0 < k → number < 2 ^ 23
   way-fits {le} {words} {k} {number} f w some =
-      let few : n - k ≤ 23 = omega (arith, f .few) in
-      subst (λ (m : ℕ). m < 2 ^ 23) (sym (w le words f)) (lt-of-lt-of-le (way-small le targets words (n - k) k) (pow-mono few))
+      let few : length all - k ≤ 23 = omega (arith, f .threaded .few) in
+      subst (λ (m : ℕ). m < 2 ^ 23) (sym (w le words f)) (lt-of-lt-of-le (way-small le targets words (length all - k) k) (pow-mono few))
 
   -- One word more is told of.
-  way-next : {firsts : List ℕ} {held k number : ℕ} {b : Bool} → LeftOut all n firsts held (k - 1) → 0 < k → k ≤ n
-      → IsWayFrom bytes names types offsets count same all n rows targets k number → SaysWhether bytes names types offsets count same firsts (n - 1) rows targets b
-      → IsWayFrom bytes names types offsets count same all n rows targets (k - 1) (bitOf b + 2 * number)
+  way-next : {firsts : List ℕ} {held k number : ℕ} {b : Bool} → LeftOut all firsts held (k - 1) → 0 < k → k ≤ length all
+      → IsWayFrom bytes names types entries same all order targets k number → SaysWhether bytes names types entries same (take (length all - 1) firsts) order targets b
+      → IsWayFrom bytes names types entries same all order targets (k - 1) (bitOf b + 2 * number)
   way-next {k = k} {number} {b} l some inside w says le words f =
-      let one-more : n - (k - 1) ≡ suc (n - k) = omega arith in
+      let one-more : length all - (k - 1) ≡ suc (length all - k) = omega arith in
       let back : k - 1 + 1 ≡ k = omega arith in
       let said = says le (without (k - 1) words) (found-without f l (omega arith)) in
       rw one-more
       (ap (λ (x : Bool). bitOf x + 2 * number) said ∙ ap (λ (m : ℕ). bitOf (reads le targets (without (k - 1) words)) + 2 * m) (w le words f)
-      ∙ ap (λ (i : ℕ). bitOf (reads le targets (without (k - 1) words)) + 2 * wayFrom le targets words i (n - k)) (sym back)
-      ∙ sym (way-step le targets words (n - k) (k - 1)))
+      ∙ ap (λ (i : ℕ). bitOf (reads le targets (without (k - 1) words)) + 2 * wayFrom le targets words i (length all - k)) (sym back)
+      ∙ sym (way-step le targets words (length all - k) (k - 1)))
 
-  pub way-yes : {firsts : List ℕ} {held k number : ℕ} {b : Bool} → LeftOut all n firsts held (k - 1) → 0 < k → k ≤ n
-      → IsWayFrom bytes names types offsets count same all n rows targets k number → SaysWhether bytes names types offsets count same firsts (n - 1) rows targets b
-      → b ≡ true → IsWayFrom bytes names types offsets count same all n rows targets (k - 1) (2 * number + 1)
+  pub way-yes : {firsts : List ℕ} {held k number : ℕ} {b : Bool} → LeftOut all firsts held (k - 1) → 0 < k → k ≤ length all
+      → IsWayFrom bytes names types entries same all order targets k number → SaysWhether bytes names types entries same (take (length all - 1) firsts) order targets b
+      → b ≡ true → IsWayFrom bytes names types entries same all order targets (k - 1) (2 * number + 1)
   way-yes {number = number} {b} l some inside w says e le words f =
       let sum : 2 * number + 1 ≡ bitOf true + 2 * number = omega arith in
       sum ∙ ap (λ (x : Bool). bitOf x + 2 * number) (sym e) ∙ way-next l some inside w says le words f
 
-  pub way-no : {firsts : List ℕ} {held k number : ℕ} {b : Bool} → LeftOut all n firsts held (k - 1) → 0 < k → k ≤ n
-      → IsWayFrom bytes names types offsets count same all n rows targets k number → SaysWhether bytes names types offsets count same firsts (n - 1) rows targets b
-      → b ≡ false → IsWayFrom bytes names types offsets count same all n rows targets (k - 1) (2 * number)
+  pub way-no : {firsts : List ℕ} {held k number : ℕ} {b : Bool} → LeftOut all firsts held (k - 1) → 0 < k → k ≤ length all
+      → IsWayFrom bytes names types entries same all order targets k number → SaysWhether bytes names types entries same (take (length all - 1) firsts) order targets b
+      → b ≡ false → IsWayFrom bytes names types entries same all order targets (k - 1) (2 * number)
   way-no {number = number} {b} l some inside w says e le words f =
       let sum : 2 * number ≡ bitOf false + 2 * number = omega arith in
       sum ∙ ap (λ (x : Bool). bitOf x + 2 * number) (sym e) ∙ way-next l some inside w says le words f
 
   -- All have been left out.
-  pub way-whole : {k number : ℕ} → IsWayFrom bytes names types offsets count same all n rows targets k number → k ≤ 0 → IsWay bytes names types offsets count same all n rows targets number
+  pub way-whole : {k number : ℕ} → IsWayFrom bytes names types entries same all order targets k number → k ≤ 0 → IsWay bytes names types entries same all order targets number
   way-whole {k} w none le words f =
       let first : k ≡ 0 = omega arith in
-      let every : n - k ≡ length words = omega (arith, f .as-many) in
-      w le words f ∙ ap (λ (i : ℕ). wayFrom le targets words i (n - k)) first ∙ ap (wayFrom le targets words 0) every
+      let every : length all - k ≡ length words = omega (arith, f .threaded .as-many) in
+      w le words f ∙ ap (λ (i : ℕ). wayFrom le targets words i (length all - k)) first ∙ ap (wayFrom le targets words 0) every

@@ -9,7 +9,7 @@ use Rattle.pregroup.specs.Tests.{Test}
 use Rattle.format.specs.Records.{Bytes}
 use Rattle.linking.specs.Reading.{Words, reads}
 use Rattle.line.specs.Remaining.{without}
-use Rattle.reach.specs.FoundWords.{FoundWords}
+use Rattle.line.specs.FoundWords.{FoundWords}
 
 -- A bit that says yes or no.
 abbrev pub bitOf : Bool → ℕ
@@ -26,6 +26,6 @@ abbrev pub wayOf : Test → List Basic → Words → ℕ
 wayOf le targets words = wayFrom le targets words 0 (length words)
 
 -- It is the number for the words that are looked up so.
-abbrev pub IsWay : Bytes → List ℕ → ℕ → List ℕ → ℕ → List ℕ → List ℕ → ℕ → List ℕ → List ℕ → ℕ → Type 0
-IsWay bytes names types offsets count same firsts n rows targets number =
-    (le : Test) (words : Words) → FoundWords bytes names types offsets count same firsts n rows targets le words → number ≡ wayOf le targets words
+abbrev pub IsWay : Bytes → List ℕ → ℕ → List ℕ → List ℕ → List ℕ → List ℕ → List ℕ → ℕ → Type 0
+IsWay bytes names types entries same firsts order targets number =
+    (le : Test) (words : Words) → FoundWords bytes names types entries same firsts order targets le words → number ≡ wayOf le targets words

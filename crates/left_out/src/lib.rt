@@ -1,6 +1,6 @@
 // Words that are looked up, without one of them: each is left out in turn, and the others are asked for a reading.
 use words::has_reading;
-ghost use Rattle.reach.specs.FoundWords.{AreFound};
+ghost use Rattle.line.specs.FoundWords.{AreFound};
 ghost use Rattle.left_out.specs.LeftOut.{IsWay};
 
 // Leaves out each word in turn, from the last to the first, and tells by bit k whether the words without word k + 1 have a reading. The word left out before
@@ -9,20 +9,19 @@ pub fn try_each(
     book: &[u8],
     names: &[u16],
     types: usize,
-    offsets: &[u16],
-    count: usize,
+    entries: &[u16],
     same: &[u16],
     firsts: &mut [u16],
-    words: usize,
     order: &[u64],
     targets: &[u8],
 ) -> u32
-    requires { ⌜ AreFound (now book) (now names) types (now offsets) count (now same) (now firsts) words (now order) (now targets) ⌝ }
-    ensures { λ r. ⌜ IsWay (now (book .entry)) (now (names .entry)) types (now (offsets .entry)) count (now (same .entry)) (now (firsts .entry)) words
+    requires { ⌜ AreFound (now book) (now names) types (now entries) (now same) (now firsts) (now order) (now targets) ⌝ }
+    ensures { λ r. ⌜ IsWay (now (book .entry)) (now (names .entry)) types (now (entries .entry)) (now (same .entry)) (now (firsts .entry))
         (now (order .entry)) (now (targets .entry)) r ⌝ }
 {
     let mut number: u32 = 0;
     let mut left_out: u16 = 0;
+    let words = firsts.len();
     let mut k = words;
     while 0 < k {
         k -= 1;
@@ -34,11 +33,9 @@ pub fn try_each(
             book,
             names,
             types,
-            offsets,
-            count,
+            entries,
             same,
-            firsts,
-            words - 1,
+            &firsts[..words - 1],
             order,
             targets,
         ) {

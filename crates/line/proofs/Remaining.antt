@@ -71,32 +71,32 @@ without-simples zero (es ∷ words) = omega (arith, simples-cons es words)
 without-simples (suc k) (es ∷ words) = omega (arith, simples-cons es words, simples-cons es (without k words), without-simples k words)
 
 -- Where `rest` has the first entries of words without one of them, the others are threaded by it.
-module _ {bytes : Bytes} {names : List Bytes} {offsets : List ℕ} {count : ℕ} {same firsts rest : List ℕ} where
+module _ {bytes : Bytes} {names : List Bytes} {entries same firsts rest : List ℕ} where
   -- Behind the one left out each first entry stands one place earlier.
-  moved-threads : {i : ℕ} {words : Words} (m : ℕ) → Threads bytes names offsets count same firsts i words → m + 1 ≡ i
-      → ((j : ℕ) → m ≤ j → j < m + length words → getD {A = ℕ} rest j 0 ≡ getD {A = ℕ} firsts (j + 1) 0) → Threads bytes names offsets count same rest m words
+  moved-threads : {i : ℕ} {words : Words} (m : ℕ) → Threads bytes names entries same firsts i words → m + 1 ≡ i
+      → ((j : ℕ) → m ≤ j → j < m + length words → getD {A = ℕ} rest j 0 ≡ getD {A = ℕ} firsts (j + 1) 0) → Threads bytes names entries same rest m words
   moved-threads m none-threaded e h = none-threaded
   moved-threads m (next-thread {es} t ts) e h =
       let here = h m (omega arith) (omega arith) ∙ ap (λ (n : ℕ). getD {A = ℕ} firsts n 0) e in
-      next-thread (subst (λ (n : ℕ). Thread bytes names offsets count same n es) (sym here) t)
+      next-thread (subst (λ (n : ℕ). Thread bytes names entries same n es) (sym here) t)
       (moved-threads (m + 1) ts (omega arith) (λ j a b. h j (omega arith) (omega arith)))
 
   -- The same for the words from the i-th on.
-  threads-from : {i : ℕ} {words : Words} (k : ℕ) → Threads bytes names offsets count same firsts i words
+  threads-from : {i : ℕ} {words : Words} (k : ℕ) → Threads bytes names entries same firsts i words
       → ((j : ℕ) → i ≤ j → j < i + k → getD {A = ℕ} rest j 0 ≡ getD {A = ℕ} firsts j 0)
       → ((j : ℕ) → i + k ≤ j → j + 1 < i + length words → getD {A = ℕ} rest j 0 ≡ getD {A = ℕ} firsts (j + 1) 0)
-      → Threads bytes names offsets count same rest i (without k words)
+      → Threads bytes names entries same rest i (without k words)
   unfolding without
   threads-from k none-threaded before behind = none-threaded
   threads-from zero (next-thread {k = i} t ts) before behind = moved-threads i ts refl (λ j a b. behind j (omega arith) (omega arith))
   threads-from (suc k) (next-thread {k = i} {es} t ts) before behind =
-      next-thread (subst (λ (n : ℕ). Thread bytes names offsets count same n es) (sym (before i (omega arith) (omega arith))) t)
+      next-thread (subst (λ (n : ℕ). Thread bytes names entries same n es) (sym (before i (omega arith) (omega arith))) t)
       (threads-from k ts (λ j a b. before j (omega arith) (omega arith)) (λ j a b. behind j (omega arith) (omega arith)))
 
-  pub without-threads : {words : Words} (k : ℕ) → Threads bytes names offsets count same firsts 0 words
+  pub without-threads : {words : Words} (k : ℕ) → Threads bytes names entries same firsts 0 words
       → ((j : ℕ) → j < k → getD {A = ℕ} rest j 0 ≡ getD {A = ℕ} firsts j 0)
       → ((j : ℕ) → k ≤ j → j + 1 < length words → getD {A = ℕ} rest j 0 ≡ getD {A = ℕ} firsts (j + 1) 0)
-      → Threads bytes names offsets count same rest 0 (without k words)
+      → Threads bytes names entries same rest 0 (without k words)
   without-threads k t before behind = threads-from k t (λ j a b. before j (omega arith)) (λ j a b. behind j (omega arith) (omega arith))
 
 -- Words that are as 11 to 14 ask stay so.

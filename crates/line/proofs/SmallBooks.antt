@@ -3,15 +3,17 @@ use Prim.Native.Nat.{ℕ, zero, suc, _+_}
 use native.Mathlib.Omega.{arith}
 use mathlib.Core.Path.{_≡_, refl, sym, ap, ap₂, subst, _∙_}
 use mathlib.Core.Bool.{Bool, true, false, cond, _||_}
+use mathlib.Core.Option.{Option, none, some}
 use mathlib.Core.List.{List, [], _∷_, _++_, map-append}
 use lib.Dec.{eqb, ltb}
 use lib.ListN.{length, getD, drop, length-append, length-map}
 use Rattle.figures.specs.Limits.{maxBook}
 use Rattle.figures.specs.Refusals.{bookTooLong, cutShort, noTarget}
 use Rattle.format.specs.Records.{Bytes, every, between, headLength, twoBytes, kindAt, bodyAt, nextAt, recordOf}
-use Rattle.rules.specs.Layouts.{byKind, entryBody, isWorded, isEntry, EntryKind, of-simples, of-text}
+use Rattle.rules.specs.Layouts.{Kind, basic-type, order-pair, entry, target, slashed-entry, kindNumber, kindOf, entryBody, isWorded, isEntry, EntryKind, of-simples, of-text}
 use Rattle.rules.specs.Rules.{bodyRules, recordRules, firstBroken}
-use Rattle.book.specs.Format.{Book, Entry, Parsed, accepted, refused, entryOf, add, nextRules, withNext, ended, recordsFrom, parse}
+use Rattle.order.specs.Closed.{Pair}
+use Rattle.book.specs.Format.{Book, Entry, Parsed, accepted, refused, entryOf, withEntry, addKind, add, nextRules, withNext, ended, recordsFrom, parse}
 use Rattle.format.proofs.RecordLaws.{size-first, kind-first, body-first, rest-first, size-at, kind-at, body-at, rest-at}
 use Rattle.rules.proofs.EntryLaws.{word-part, type-part}
 use Rattle.book.proofs.GoodEntries.{add-entry}
@@ -92,9 +94,6 @@ rules-same (recased of-simples v w type e) names entries targets = rw (layout-sa
 rules-same (recased of-text v w type e) names entries targets = rw (worded-same v w type e, type-part v type, type-part w type)
 
 -- .. and the books stay the same but for case with a record more.
-abbrev withEntry : Book → Entry → Book
-withEntry B x = record { names = B .names; pairs = B .pairs; entries = B .entries ++ (x ∷ []); targets = B .targets }
-
 with-entry-small : (B : Book) (x : Entry) → smallBook (withEntry B x) ≡ withEntry (smallBook B) (smallEntry x)
 with-entry-small B x =
     ap (λ (es : List Entry). record { names = B .names; pairs = B .pairs; entries = es; targets = B .targets }) (map-append smallEntry (B .entries) (x ∷ []))
@@ -106,32 +105,29 @@ record SameBook (B C : Book) : Type 0 where
 with-entry-same : {B C : Book} → SameBook B C → (x y : Entry) → smallEntry x ≡ smallEntry y → SameBook (withEntry B x) (withEntry C y)
 with-entry-same {B} {C} s x y e = record { small = with-entry-small B x ∙ ap₂ withEntry (s .small) e ∙ sym (with-entry-small C y) }
 
-by-kind : (kind : ℕ) {p q r s t p′ q′ r′ s′ t′ : Book} → SameBook p p′ → SameBook q q′ → SameBook r r′ → SameBook s s′ → SameBook t t′
-    → SameBook (byKind {A = Book} kind p q r s t) (byKind {A = Book} kind p′ q′ r′ s′ t′)
-by-kind kind {p} {q} {r} {s} {t} {p′} {q′} {r′} {s′} {t′} a b c d e = go (eqb kind 1) (eqb kind 2) (eqb kind 3) (eqb kind 4)
-  where
-    go : (u v w x : Bool)
-        → SameBook (cond {A = Book} u p (cond {A = Book} v q (cond {A = Book} w r (cond {A = Book} x s t)))) (cond {A = Book} u p′ (cond {A = Book} v q′ (cond {A = Book} w r′ (cond {A = Book} x s′ t′))))
-    go true v w x = a
-    go false true w x = b
-    go false false true x = c
-    go false false false true = d
-    go false false false false = e
-
 -- An entry's bytes mean the same in both books, since their names are the same.
 entry-alike : {B C : Book} → SameBook B C → (kind : ℕ) (body : Bytes) → smallEntry (entryOf kind (B .names) body) ≡ smallEntry (entryOf kind (C .names) body)
 entry-alike t kind body = ap (λ (S : Book). smallEntry (entryOf kind (S .names) body)) (t .small)
 
+add-equal : (kind : Kind) (body : Bytes) {B C : Book} → SameBook B C → SameBook (addKind kind body B) (addKind kind body C)
+add-equal basic-type body t = record { small = ap (λ (S : Book). record { names = S .names ++ (body ∷ []); pairs = S .pairs; entries = S .entries; targets = S .targets }) (t .small) }
+add-equal order-pair body t =
+    let pair : Pair = record { lower = getD {A = ℕ} body 0 0; upper = getD {A = ℕ} body 1 0 } in
+    record { small = ap (λ (S : Book). record { names = S .names; pairs = S .pairs ++ (pair ∷ []); entries = S .entries; targets = S .targets }) (t .small) }
+add-equal entry body {B} {C} t =
+    with-entry-same t (entryOf (kindNumber entry) (B .names) body) (entryOf (kindNumber entry) (C .names) body) (entry-alike t (kindNumber entry) body)
+add-equal target body t =
+    record { small = ap (λ (S : Book). record { names = S .names; pairs = S .pairs; entries = S .entries; targets = S .targets ++ (getD {A = ℕ} body 0 0 ∷ []) }) (t .small) }
+add-equal slashed-entry body {B} {C} t =
+    with-entry-same t (entryOf (kindNumber slashed-entry) (B .names) body) (entryOf (kindNumber slashed-entry) (C .names) body) (entry-alike t (kindNumber slashed-entry) body)
+
 add-same : {kind : ℕ} {p q : Bytes} → SameBody kind p q → {B C : Book} → SameBook B C → SameBook (add kind p B) (add kind q C)
 unfolding add
-add-same {kind} {p} equal {B} {C} t =
-    let more = with-entry-same t (entryOf kind (B .names) p) (entryOf kind (C .names) p) (entry-alike t kind p) in
-    by-kind kind
-    (record { small = ap (λ (S : Book). record { names = S .names ++ (p ∷ []); pairs = S .pairs; entries = S .entries; targets = S .targets }) (t .small) })
-    (record { small = ap (λ (S : Book). record { names = S .names; pairs = S .pairs ++ (record { lower = getD {A = ℕ} p 0 0; upper = getD {A = ℕ} p 1 0 } ∷ []); entries = S .entries; targets = S .targets }) (t .small) })
-    more
-    (record { small = ap (λ (S : Book). record { names = S .names; pairs = S .pairs; entries = S .entries; targets = S .targets ++ (getD {A = ℕ} p 0 0 ∷ []) }) (t .small) })
-    more
+add-same {kind} {p} equal {B} {C} t = go (kindOf kind)
+  where
+    go : (o : Option Kind) → SameBook (elim o [ none ↦ B | some k ↦ addKind k p B ]) (elim o [ none ↦ C | some k ↦ addKind k p C ])
+    go none = t
+    go (some k) = add-equal k p t
 add-same {kind} (recased k v w type e) {B} {C} t =
     rw (add-entry k (entryBody v type) B, add-entry k (entryBody w type) C)
     (with-entry-same t (entryOf kind (B .names) (entryBody v type)) (entryOf kind (C .names) (entryBody w type))

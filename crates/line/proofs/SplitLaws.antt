@@ -1,39 +1,38 @@
 -- The splitting of a line: the words kept so far and those that the rest holds are the line's words, and none kept is a fault.
-use Prim.Native.Nat.{ℕ, zero, suc, _+_, _-_, _≤_, _<_}
+use Prim.Native.Nat.{ℕ, _+_, _-_, _≤_, _<_}
 use native.Mathlib.Numerals.{add-one}
 use native.Mathlib.Omega.{arith}
 use native.Mathlib.Decide.{ℕ-discrete}
-use mathlib.Core.Path.{_≡_, refl, sym, ap, ap₂, _∙_}
+use mathlib.Core.Path.{_≡_, refl, sym, ap, _∙_}
 use mathlib.Core.List.{List, [], _∷_, _++_, append-nil, append-assoc}
 use mathlib.Core.Option.{none}
-use lib.ListN.{length, getD, drop, set, length-set, length-drop}
-use lib.Seq.{getD-set-same, getD-set-other, length-take-le}
+use lib.ListN.{length, getD, take, drop, set, length-set, length-drop}
+use lib.Seq.{getD-set-same, getD-set-other, length-take-le, getD-take, take-suc-set}
 use borrow.Author.Tests.{lt-ltb, le-ltb, le-leb, lt-leb}
 use Rattle.figures.specs.Limits.{maxWord, maxWords}
 use Rattle.figures.specs.Refusals.{badWord}
 use Rattle.format.specs.Records.{Bytes}
 use Rattle.line.specs.LineWords.{Word, wordsOf}
 use Rattle.line.specs.LineFaults.{byteFault, wordFault}
-use Rattle.line.specs.Split.{wordAt, wordsKept, Skipped, Lying, SplitInto, Stopped, at-word}
+use Rattle.line.specs.Split.{wordAt, wordsKept, Skipped, Lies, SplitInto, Stopped, at-word}
 use Rattle.line.proofs.WordLaws.{wordsHere, words-end, Spelt}
 
--- What stands from a place on does not matter to the words before it.
-kept-set :
-    (line : Bytes) (starts ends : List ℕ) (m at end n : ℕ) → n ≤ m → wordsKept line (set starts m at) (set ends m end) n ≡ wordsKept line starts ends n
+-- One more word is kept.
+kept-append :
+    (line : Bytes) (starts ends : List ℕ) (at end : ℕ) → length ends ≡ length starts
+    → wordsKept line (starts ++ (at ∷ [])) (ends ++ (end ∷ [])) ≡ wordsKept line starts ends ++ (wordAt line at end ∷ [])
 unfolding wordsKept
-kept-set line starts ends m at end zero h = refl
-kept-set line starts ends m at end (suc n) h =
-    ap₂ (λ (words : List Word) (w : Word). words ++ (w ∷ [])) (kept-set line starts ends m at end n (omega arith))
-    (ap₂ (wordAt line) (getD-set-other starts m n at 0 (omega arith)) (getD-set-other ends m n end 0 (omega arith)))
+kept-append line [] [] at end h = refl
+kept-append line [] (e ∷ ends) at end h = absurd (omega arith)
+kept-append line (s ∷ starts) [] at end h = absurd (omega arith)
+kept-append line (s ∷ starts) (e ∷ ends) at end h = ap (λ (words : List Word). wordAt line s e ∷ words) (kept-append line starts ends at end (omega arith))
 
 kept-more :
     (line : Bytes) (starts ends : List ℕ) (n at end : ℕ) → n < length starts → n < length ends
-    → wordsKept line (set starts n at) (set ends n end) (n + 1) ≡ wordsKept line starts ends n ++ (wordAt line at end ∷ [])
-unfolding wordsKept
+    → wordsKept line (take (n + 1) (set starts n at)) (take (n + 1) (set ends n end)) ≡ wordsKept line (take n starts) (take n ends) ++ (wordAt line at end ∷ [])
 kept-more line starts ends n at end h k =
-    rw (add-one n)
-    (ap₂ (λ (words : List Word) (w : Word). words ++ (w ∷ [])) (kept-set line starts ends n at end n (omega arith))
-    (ap₂ (wordAt line) (getD-set-same starts n at 0 h) (getD-set-same ends n end 0 k)))
+    rw (add-one n, take-suc-set starts n at h, take-suc-set ends n end k)
+    (kept-append line (take n starts) (take n ends) at end (length-take-le n ends (omega arith) ∙ sym (length-take-le n starts (omega arith))))
 
 -- How the splitting stands: the words before `at` are kept.
 pub record Splitting (line : Bytes) (starts₀ ends₀ starts ends : List ℕ) (count at : ℕ) : Type 0 where
@@ -43,9 +42,9 @@ pub record Splitting (line : Bytes) (starts₀ ends₀ starts ends : List ℕ) (
   pub few : count ≤ maxWords
   pub inside : at ≤ length line
   pub stops : at < length line → getD {A = ℕ} line at 0 ≡ 32 → ⊥
-  pub words : wordsOf line ≡ wordsKept line starts ends count ++ wordsHere line at
+  pub words : wordsOf line ≡ wordsKept line (take count starts) (take count ends) ++ wordsHere line at
   pub faults : wordFault 0 (wordsOf line) ≡ wordFault count (wordsHere line at)
-  pub lying : Lying line starts ends count
+  pub lying : (i : ℕ) → i < count → Lies line (getD {A = ℕ} starts i 0) (getD {A = ℕ} ends i 0)
 
 pub splitting-start :
     (line : Bytes) (starts ends : List ℕ) (at : ℕ) → byteFault 0 line ≡ none → Skipped line 0 at → Splitting line starts ends starts ends 0 at
@@ -95,33 +94,33 @@ module _ (line : Bytes) (starts₀ ends₀ starts ends : List ℕ) (count at : �
           inside = skip .inside;
           stops = skip .stops;
           words =
-              w .words ∙ ap (λ (rest : List Word). wordsKept line starts ends count ++ rest) (s .same ∙ ap (λ (rest : List Word). wordAt line at end ∷ rest) (skip .same))
-              ∙ sym (append-assoc (wordsKept line starts ends count) (wordAt line at end ∷ []) (wordsHere line next))
+              w .words ∙ ap (λ (rest : List Word). wordsKept line (take count starts) (take count ends) ++ rest) (s .same ∙ ap (λ (rest : List Word). wordAt line at end ∷ rest) (skip .same))
+              ∙ sym (append-assoc (wordsKept line (take count starts) (take count ends)) (wordAt line at end ∷ []) (wordsHere line next))
               ∙ ap (λ (kept : List Word). kept ++ wordsHere line next) (sym (kept-more line starts ends count at end (omega arith) (omega arith)));
           faults = here ∙ fine ∙ ap (wordFault (count + 1)) (skip .same);
           lying = each;
         }
       where
-        each : Lying line (set starts count at) (set ends count end) (count + 1)
+        each : (i : ℕ) → i < count + 1 → Lies line (getD {A = ℕ} (set starts count at) i 0) (getD {A = ℕ} (set ends count end) i 0)
         each i g = go (ℕ-discrete i count)
           where
-            go : Dec (i ≡ count)
-                → (getD {A = ℕ} (set starts count at) i 0 < getD {A = ℕ} (set ends count end) i 0)
-                × (getD {A = ℕ} (set ends count end) i 0 ≤ length line)
-                × (getD {A = ℕ} (set ends count end) i 0 - getD {A = ℕ} (set starts count at) i 0 ≤ maxWord)
+            go : Dec (i ≡ count) → Lies line (getD {A = ℕ} (set starts count at) i 0) (getD {A = ℕ} (set ends count end) i 0)
             go (yes e) =
                 rw (e, getD-set-same starts count at 0 (omega arith), getD-set-same ends count end 0 (omega arith)) (s .some-bytes, s .inside, short)
             go (no d) = rw (getD-set-other starts count i at 0 d, getD-set-other ends count i end 0 d) (w .lying i (omega (arith, d)))
 
 pub splitting-end :
-    (line : Bytes) (starts₀ ends₀ starts ends : List ℕ) (count at : ℕ) → Splitting line starts₀ ends₀ starts ends count at → length line ≤ at → SplitInto line starts ends count
+    (line : Bytes) (starts₀ ends₀ starts ends : List ℕ) (count at : ℕ) → Splitting line starts₀ ends₀ starts ends count at → maxWords ≤ length starts → maxWords ≤ length ends
+    → length line ≤ at → SplitInto line (take count starts) (take count ends)
 unfolding wordFault
-splitting-end line starts₀ ends₀ starts ends count at w h =
+splitting-end line starts₀ ends₀ starts ends count at w room room′ h =
     let none-left = words-end line at h in
+    let so-many : length (take count starts) ≡ count = length-take-le count starts (omega (arith, w .few)) in
     record {
       bytes-fine = w .bytes-fine;
       words-fine = w .faults ∙ ap (wordFault count) none-left;
-      words = w .words ∙ ap (λ (rest : List Word). wordsKept line starts ends count ++ rest) none-left ∙ append-nil _;
-      few = w .few;
-      lying = w .lying;
+      words = w .words ∙ ap (λ (rest : List Word). wordsKept line (take count starts) (take count ends) ++ rest) none-left ∙ append-nil _;
+      as-many = length-take-le count ends (omega (arith, w .few)) ∙ sym so-many;
+      few = omega (arith, so-many, w .few);
+      lying = λ i l. rw (getD-take count starts i 0 (omega (arith, so-many)), getD-take count ends i 0 (omega (arith, so-many))) (w .lying i (omega (arith, so-many)));
     }

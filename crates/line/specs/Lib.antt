@@ -4,5 +4,6 @@ pub mod LineFaults
 pub mod Split
 pub mod LookUp
 pub mod Passing
+pub mod FoundWords
 pub mod Promise
 pub mod Remaining

@@ -3,7 +3,7 @@ use Prim.Native.Nat.{ℕ, _<_, _≤_}
 use mathlib.Core.Path.{_≡_}
 use mathlib.Core.List.{List}
 use mathlib.Core.Option.{none, some}
-use lib.ListN.{length}
+use lib.ListN.{length, take}
 use Rattle.figures.specs.Limits.{maxWords, maxLineSimples}
 use Rattle.figures.specs.Refusals.{unknownWord, tooManySimples}
 use Rattle.format.specs.Records.{Bytes}
@@ -21,19 +21,20 @@ pub data Missing (B : Book) (line : Bytes) : ℕ → ℕ → Type 0 where
   too-many : entryFault B (wordsOf line) ≡ none → maxLineSimples < simplesOfWords (entriesOfLine B line) → Missing B line tooManySimples 0
 
 -- The words of a line that breaks neither: each has entries, and they are threaded.
-pub record Known (bytes : Bytes) (offsets : List ℕ) (entries : ℕ) (B : Book) (line : Bytes) (firsts same : List ℕ) (count : ℕ) : Type 0 where
+pub record Known (bytes : Bytes) (entries : List ℕ) (B : Book) (line : Bytes) (firsts same : List ℕ) : Type 0 where
   pub found : entryFault B (wordsOf line) ≡ none
   pub small : simplesOfWords (entriesOfLine B line) ≤ maxLineSimples
-  pub words : length (entriesOfLine B line) ≡ count
-  pub threads : Threads bytes (B .names) offsets entries same firsts 0 (entriesOfLine B line)
+  pub as-many : length (entriesOfLine B line) ≡ length firsts
+  pub few : length firsts ≤ maxWords
+  pub threads : Threads bytes (B .names) entries same firsts 0 (entriesOfLine B line)
 
--- The look-up of words that are split off.
-abbrev pub LookedUp : Bytes → List ℕ → ℕ → Book → Bytes → List ℕ → List ℕ → CheckedLine → Type 0
-LookedUp bytes offsets entries B line firsts same (Found count) = Known bytes offsets entries B line firsts same count
-LookedUp bytes offsets entries B line firsts same (Refused number value) = Missing B line number value
+-- The look-up of words that are split off: the first entries of so many words stand in front.
+abbrev pub LookedUp : Bytes → List ℕ → Book → Bytes → List ℕ → List ℕ → CheckedLine → Type 0
+LookedUp bytes entries B line firsts same (Found words) = (words ≤ length firsts) × Known bytes entries B line (take words firsts) same
+LookedUp bytes entries B line firsts same (Refused number value) = Missing B line number value
 
 -- What the check of a line says, against a book whose entries are kept: the line passes with the entries that are threaded, or is stopped.
-abbrev pub LineSays : Bytes → List ℕ → ℕ → Book → Bytes → List ℕ → List ℕ → CheckedLine → Type 0
-LineSays bytes offsets entries B line firsts same (Found count) =
-    (lineCheck B line ≡ passed (entriesOfLine B line)) × (count ≤ maxWords) × Known bytes offsets entries B line firsts same count
-LineSays bytes offsets entries B line firsts same (Refused number value) = lineCheck B line ≡ stopped number value
+abbrev pub LineSays : Bytes → List ℕ → Book → Bytes → List ℕ → List ℕ → CheckedLine → Type 0
+LineSays bytes entries B line firsts same (Found words) =
+    (lineCheck B line ≡ passed (entriesOfLine B line)) × (words ≤ length firsts) × Known bytes entries B line (take words firsts) same
+LineSays bytes entries B line firsts same (Refused number value) = lineCheck B line ≡ stopped number value

@@ -12,7 +12,7 @@ ghost use lib.ListN.{length};
 ghost use Rattle.figures.specs.Limits.{maxWords};
 ghost use Rattle.book.specs.Format.{Book};
 ghost use Rattle.lookup.specs.Entries.{KeptOf};
-ghost use Rattle.lookup.specs.Threads.{Alike, Same};
+ghost use Rattle.lookup.specs.Threads.{Alike, Threaded};
 ghost use Rattle.line.specs.Split.{SplitInto};
 ghost use Rattle.line.specs.LookUp.{LookedUp, LineSays};
 
@@ -20,36 +20,35 @@ ghost use Rattle.line.specs.LookUp.{LookedUp, LineSays};
 // each word goes into `firsts`, and `same` threads the others.
 fn look_up(
     book: &[u8],
-    offsets: &[u16],
-    count: usize,
+    entries: &[u16],
     alike: &[u16],
     line: &[u8],
     starts: &[usize],
     ends: &[usize],
-    words: usize,
     firsts: &mut [u16],
     same: &mut [u16],
 ) -> CheckedLine
-    requires { ⌜ ((B : Book) × KeptOf (now book) (now offsets) count B) × Alike (now book) (now offsets) count (now alike) ×
-        Same (now book) (now offsets) count (now same) × SplitInto (now line) (now starts) (now ends) words ⌝ }
-    requires { ⌜ (maxWords ≤ length (now starts)) × (maxWords ≤ length (now ends)) × (maxWords ≤ length (now firsts)) ⌝ }
-    ensures { λ r. ⌜ ((B : Book) → KeptOf (now (book .entry)) (now (offsets .entry)) count B
-        → LookedUp (now (book .entry)) (now (offsets .entry)) count B (now (line .entry)) (now (firsts .exit)) (now (same .exit)) r) ⌝ }
+    requires { ⌜ ((B : Book) × KeptOf (now book) (now entries) B) × Alike (now book) (now entries) (now alike) ×
+        Threaded (now book) (now entries) (now same) × SplitInto (now line) (now starts) (now ends) ×
+        (maxWords ≤ length (now firsts)) ⌝ }
+    ensures { λ _. ⌜ Threaded (now (book .entry)) (now (entries .entry)) (now (same .exit)) ⌝ }
+    ensures { λ r. ⌜ ((B : Book) → KeptOf (now (book .entry)) (now (entries .entry)) B
+        → LookedUp (now (book .entry)) (now (entries .entry)) B (now (line .entry)) (now (firsts .exit)) (now (same .exit)) r) ⌝ }
 {
     let mut sum = 0;
     let mut k = 0;
-    while k < words {
+    while k < starts.len() {
         let start = starts[k];
         let end = ends[k];
-        let first = find_word(book, offsets, count, alike, &line[start..end], same);
-        if count <= first {
+        let first = find_word(book, entries, alike, &line[start..end], same);
+        if entries.len() <= first {
             return CheckedLine::Refused {
                 number: UNKNOWN_WORD,
                 value: start,
             };
         }
         firsts[k] = first as u16;
-        sum += tally(book, offsets, count, same, first);
+        sum += tally(book, entries, same, first);
         k += 1;
     }
     if MAX_LINE_SIMPLES < sum {
@@ -58,23 +57,24 @@ fn look_up(
             value: 0,
         };
     }
-    CheckedLine::Found(words)
+    CheckedLine::Found(starts.len())
 }
 
 // Checks a line against a book whose entries are kept and threaded by their keys: its words by their threads, or the refusal 11 to 14 that it gets.
+// What `same` has is true of the book, so that the next line can go on with it.
 pub fn check_line(
     book: &[u8],
-    offsets: &[u16],
-    count: usize,
+    entries: &[u16],
     alike: &[u16],
     line: &[u8],
     firsts: &mut [u16],
     same: &mut [u16],
 ) -> CheckedLine
-    requires { ⌜ ((B : Book) × KeptOf (now book) (now offsets) count B) × Alike (now book) (now offsets) count (now alike) ×
-        Same (now book) (now offsets) count (now same) × (maxWords ≤ length (now firsts)) ⌝ }
-    ensures { λ r. ⌜ ((B : Book) → KeptOf (now (book .entry)) (now (offsets .entry)) count B
-        → LineSays (now (book .entry)) (now (offsets .entry)) count B (now (line .entry)) (now (firsts .exit)) (now (same .exit)) r) ⌝ }
+    requires { ⌜ ((B : Book) × KeptOf (now book) (now entries) B) × Alike (now book) (now entries) (now alike) ×
+        Threaded (now book) (now entries) (now same) × (maxWords ≤ length (now firsts)) ⌝ }
+    ensures { λ _. ⌜ Threaded (now (book .entry)) (now (entries .entry)) (now (same .exit)) ⌝ }
+    ensures { λ r. ⌜ ((B : Book) → KeptOf (now (book .entry)) (now (entries .entry)) B
+        → LineSays (now (book .entry)) (now (entries .entry)) B (now (line .entry)) (now (firsts .exit)) (now (same .exit)) r) ⌝ }
 {
     let mut starts = [0usize; MAX_WORDS];
     let mut ends = [0usize; MAX_WORDS];
@@ -83,13 +83,11 @@ pub fn check_line(
         CheckedLine::Refused { number, value } => CheckedLine::Refused { number, value },
         CheckedLine::Found(words) => look_up(
             book,
-            offsets,
-            count,
+            entries,
             alike,
             line,
-            &starts,
-            &ends,
-            words,
+            &starts[..words],
+            &ends[..words],
             firsts,
             same,
         ),

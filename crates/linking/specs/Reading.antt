@@ -4,8 +4,9 @@ use mathlib.Core.Bool.{Bool, true, false}
 use mathlib.Core.Option.{Option, none, some, Option·map}
 use mathlib.Core.List.{List, [], _∷_, _++_, List·Memᴰ}
 use lib.ListN.{length, getD}
-use Rattle.pregroup.specs.Types.{Basic, PregroupType}
+use Rattle.pregroup.specs.Types.{Basic, PregroupType, plain}
 use Rattle.pregroup.specs.Order.{Relation}
+use Rattle.pregroup.specs.Steps.{Chain}
 use Rattle.pregroup.specs.Tests.{Test}
 use Rattle.linking.specs.Linking.{IsLinking, AtMost, firstLinking}
 
@@ -28,12 +29,29 @@ pub data Choice : Words → List ℕ → PregroupType → Type 0 where
 abbrev pub targetAt : List Basic → ℕ → Basic
 targetAt targets t = getD targets t 0
 
+-- The type that a target stands for: its one basic type, plain.
+abbrev pub targetType : Basic → PregroupType
+targetType s = plain s ∷ []
+
 -- A reading (document 02, 2.4): the number of a target, the entry numbers of a choice, and a linking of its type with that target.
 pub record IsReading (Le : Relation) (targets : List Basic) (words : Words) (t : ℕ) (ns P : List ℕ) : Type 0 where
   pub target-there : t < length targets
   pub type : PregroupType
   pub chosen : Choice words ns type
   pub linking : IsLinking Le (targetAt targets t) type P
+
+-- The words have a reading.
+pub data HasReading (Le : Relation) (targets : List Basic) (words : Words) : Type 0 where
+  reads-by : {t : ℕ} {ns P : List ℕ} → IsReading Le targets words t ns P → HasReading Le targets words
+
+-- Some choice of entries can be turned into some target.
+pub record HasChain (Le : Relation) (targets : List Basic) (words : Words) : Type 0 where
+  pub target : ℕ
+  pub target-there : target < length targets
+  pub entries : List ℕ
+  pub type : PregroupType
+  pub chosen : Choice words entries type
+  pub chain : Chain Le type (targetType (targetAt targets target))
 
 -- The first reading: at most every reading, by the target's number, then by the entry list and then by the partner list. The entry lists of a
 -- line are all of one length, so the three are compared as one list.

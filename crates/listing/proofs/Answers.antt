@@ -1,16 +1,15 @@
 -- What `read_line` answers is listed whole: the target's number in the first row, a row for each word, with its entry, and a row for each simple
 -- type of the reading's choice, with its partner. Nothing of what `listing` says of other values is needed for it.
 use Prim.Native.Nat.{ℕ, suc, _+_, _-_, _≤_, _<_}
-use native.Mathlib.Numerals.{add-one}
 use native.Mathlib.Omega.{arith}
 use mathlib.Core.Path.{_≡_, refl, sym, ap, _∙_}
 use mathlib.Core.Logic.{⊎-elim}
 use mathlib.Core.Bool.{Bool, true, false, cond}
-use mathlib.Core.List.{List, [], _∷_, _++_, map, List·Memᴰ, List·Memᴰ·not-nil, List·Memᴰ·cases-cons}
-use lib.ListN.{length, getD, take, drop}
-use lib.Seq.{take-append-seam, drop-append-add, getD-append-seam, take-length, take-all}
+use mathlib.Core.List.{List, [], _∷_, map, List·Memᴰ, List·Memᴰ·not-nil, List·Memᴰ·cases-cons}
+use lib.ListN.{length}
+use lib.Seq.{take-all}
 use Rattle.pregroup.specs.Types.{PregroupType}
-use Rattle.linking.specs.Reading.{NumberedEntry, Words, Choice, empty, targetAt, IsFirst, answer}
+use Rattle.linking.specs.Reading.{NumberedEntry, Words, Choice, empty, Answer, answer}
 use Rattle.linking.specs.Reading.{take as chosen-entry}
 use Rattle.order.proofs.Decision.{below-decides}
 use Rattle.format.specs.Records.{Bytes}
@@ -23,10 +22,12 @@ use Rattle.capitals.specs.Capitals.{sameWord}
 use Rattle.line.proofs.Passed.{line-passing}
 use Rattle.answer.specs.declared.LineAnswer.the-variants.{Read}
 use Rattle.answer.specs.Answers.{valuesOf}
+use Rattle.answer.specs.Parts.{partnersPart}
+use Rattle.answer.proofs.PartLaws.{entries-of-answer, partners-of-answer}
 use Rattle.reader.specs.Demands.{OrderOf, Readable, Promised}
 use Rattle.letters.proofs.LetterTheorems.{linking-lettered}
 use Rattle.printing.specs.Rows.{shownRows}
-use Rattle.listing.specs.Listing.{typeOf, joined, listedType, listedLetters, readingRows, counted, answerRows, listing}
+use Rattle.listing.specs.Listing.{typeOf, joined, listedType, listedLetters, readingRows, answerRows, listing}
 use Rattle.listing.specs.ListingDemands.{ListsReading}
 
 -- An entry of a word, by its number: n entries stand before these.
@@ -75,40 +76,29 @@ module _ (B : Book) where
       let r = choice-joined c typed behind in
       (rw (← number, t .2, r .0), omega (arith, r .1), λ n k. ⊎-elim (λ q. omega (arith, t .1)) (λ l. r .2 n l) (List·Memᴰ·cases-cons k))
 
--- The parts of an answer's values are the target's number, its entry numbers and its partners.
-module _ (target : ℕ) (entries partners : List ℕ) where
-  entries-counted : counted (valuesOf (answer target entries partners)) 1 ≡ entries
-  entries-counted = take-append-seam entries (length partners ∷ partners)
-
-  partners-counted : counted (valuesOf (answer target entries partners)) (suc (suc (length entries))) ≡ partners
-  partners-counted =
-      let values = entries ++ (length partners ∷ partners) in
-      let behind = ap (λ (n : ℕ). drop n values) (sym (add-one (length entries))) ∙ drop-append-add entries (length partners ∷ partners) 1 in
-      rw (getD-append-seam entries (length partners) partners 0) (ap (take (length partners)) behind ∙ take-length partners)
-
-  answer-rows : (B : Book) (words : List Word) → answerRows B words (valuesOf (answer target entries partners)) ≡ readingRows B words target entries partners
-  answer-rows B words =
-      let values = valuesOf (answer target entries partners) in
-      ap (λ (chosen : List ℕ). readingRows B words target chosen (counted values (suc (suc (length chosen))))) entries-counted
-      ∙ ap (readingRows B words target entries) partners-counted
+answer-rows : (a : Answer) (B : Book) (words : List Word) → answerRows B words (valuesOf a) ≡ readingRows B words (a .target) (a .entries) (a .partners)
+answer-rows a B words =
+    ap (λ (entries : List ℕ). readingRows B words (a .target) entries (partnersPart (valuesOf a))) (entries-of-answer a)
+    ∙ ap (readingRows B words (a .target) (a .entries)) (partners-of-answer a)
 
 -- What is promised of an answer makes its listing that of the first reading.
 pub answer-listed : (book line : Bytes) (buffer after : List ℕ) (n : ℕ) → Promised book line buffer (Read n) after → ListsReading book line (listing book line (Read n) after)
 answer-listed book line buffer after n p =
     let a = p .answered refl in
     let B = a .0 in
-    let w = a .3 in
+    let w = a .3 .reading in
+    let found = w .reading in
     let passes = line-passing B line (a .1) (a .2 .line-passed) in
     let reading = w .first .reading in
     let each = choice-joined B (reading .chosen) (wordsOf line) (passes .words-are) in
-    let joins : listedType B (wordsOf line) (w .entries) ≡ reading .type = ap (joined (B .entries)) (take-all (length (wordsOf line)) (w .entries) (omega (arith, each .1))) ∙ each .0 in
-    let shown : PregroupType → Bytes = λ X. shownRows (B .names) (wordsOf line) (w .target) (w .entries) X (listedLetters B (w .target) X (w .partners)) (w .partners) in
+    let joins : listedType B (wordsOf line) (found .entries) ≡ reading .type = ap (joined (B .entries)) (take-all (length (wordsOf line)) (found .entries) (omega (arith, each .1))) ∙ each .0 in
+    let shown : PregroupType → Bytes = λ X. shownRows (B .names) (wordsOf line) (found .target) (found .entries) X (listedLetters B (found .target) X (found .partners)) (found .partners) in
     record {
       contents = B;
       words = a .1;
-      target = w .target;
-      entries = w .entries;
-      partners = w .partners;
+      target = found .target;
+      entries = found .entries;
+      partners = found .partners;
       type = reading .type;
       readable = a .2;
       first = w .first;
@@ -116,7 +106,7 @@ answer-listed book line buffer after n p =
       entry-each = each .1;
       partner-each = reading .linking .count;
       joins = joins;
-      letters = listedLetters B (w .target) (reading .type) (w .partners);
+      letters = listedLetters B (found .target) (reading .type) (found .partners);
       lettered = linking-lettered (below-decides (length (B .names)) (B .pairs) (accepted-declares book B (a .2 .book-accepted) .pairs)) (reading .linking);
-      rows = rw (a .2 .book-accepted, passes .bytes-fine, passes .words-fine, w .whole) (answer-rows (w .target) (w .entries) (w .partners) B (wordsOf line)) ∙ ap shown joins;
+      rows = rw (a .2 .book-accepted, passes .bytes-fine, passes .words-fine, w .whole) (answer-rows found B (wordsOf line)) ∙ ap shown joins;
     }

@@ -1,14 +1,12 @@
 -- The places of a whole listing can be counted: numbers of 64 bits have few digits, names and words are short, and there are not many rows.
 use Prim.Native.Nat.{ℕ, zero, suc, _+_, _*_, _≤_, _<_}
+use native.Mathlib.Nat.{mul-le-mul-right}
 use native.Mathlib.Omega.{arith}
 use mathlib.Core.Path.{_≡_, refl}
-use mathlib.Core.Logic.{_⊎_, inl, inr}
 use mathlib.Core.List.{List, [], _∷_, List·Memᴰ, List·Memᴰ·head, List·Memᴰ·tail}
 use mathlib.Core.Option.{none}
-use lib.ListN.{length, getD, take, drop, length-take, List·getD-eq-default}
-use lib.Seq.{getD-take, getD-drop}
-use Rattle.figures.specs.Limits.{maxName, maxWords, maxString}
-use Rattle.bits.proofs.Cases.{less-or-not}
+use lib.ListN.{length, getD, take, length-take}
+use Rattle.figures.specs.Limits.{maxName, maxWords, maxString, valueBound}
 use Rattle.pregroup.specs.Types.{Simple}
 use Rattle.format.specs.Records.{Bytes}
 use Rattle.book.specs.Format.{Entry, Book, accepted, parse}
@@ -16,11 +14,13 @@ use Rattle.book.proofs.Accepted.{BookDeclares, accepted-declares}
 use Rattle.line.specs.LineWords.{Word}
 use Rattle.line.specs.LineFaults.{wordFault}
 use Rattle.line.proofs.Passed.{words-few}
-use Rattle.printing.specs.Text.{decimal, signed}
-use Rattle.printing.specs.Rows.{yes, no, refusalRow, typeRow, wordRows, shownRows}
-use Rattle.listing.specs.Listing.{typeOf, listedType, counted}
-use Rattle.printing.specs.Placed.{placeBound, Countable}
-use Rattle.printing.proofs.Decimals.{decimal-length}
+use Rattle.writing.specs.Decimal.{decimal}
+use Rattle.printing.specs.Text.{signed}
+use Rattle.answer.proofs.PartLaws.{Narrow}
+use Rattle.printing.specs.Rows.{yes, no, firstRow, refusalRow, typeRow, shownRows}
+use Rattle.listing.specs.Listing.{typeOf, listedType}
+use Rattle.writing.specs.Placed.{placeBound, Countable}
+use Rattle.writing.proofs.Decimals.{decimal-length}
 use Rattle.listing.proofs.Lengths.{row-of-three, row-of-four, row-of-five, word-rows-within, type-rows-within, TypeShort, empty-short, listed-type-short, joined-within, shown-length}
 
 -- A number of 64 bits has at most 20 digits.
@@ -33,22 +33,6 @@ refusal-row-short number value h i = omega (arith, row-of-three no (decimal numb
 
 pub refusal-countable : (number value : ℕ) → number < placeBound → value < placeBound → Countable 0 (refusalRow number value)
 refusal-countable number value h i = record { small = omega (arith, refusal-row-short number value h i) }
-
--- The values of a list of 16-bit numbers.
-abbrev pub Narrow : List ℕ → Type 0
-Narrow values = (i : ℕ) → getD {A = ℕ} values i 0 < 65536
-
--- The values behind a count are as narrow as all, and no more than it says.
-module _ (values : List ℕ) (narrow : Narrow values) (at : ℕ) where
-  pub narrow-counted : Narrow (counted values at)
-  narrow-counted i = by (less-or-not i (getD {A = ℕ} values at 0))
-    where
-      by : (i < getD {A = ℕ} values at 0) ⊎ (getD {A = ℕ} values at 0 ≤ i) → getD {A = ℕ} (counted values at) i 0 < 65536
-      by (inl h) = rw (getD-take (getD {A = ℕ} values at 0) (drop (suc at) values) i 0 h, getD-drop (suc at) values i 0) (narrow (suc at + i))
-      by (inr h) = rw (List·getD-eq-default (counted values at) 0 {n = i} (omega (arith, length-take (getD {A = ℕ} values at 0) (drop (suc at) values)))) (omega arith)
-
-  pub few-counted : length (counted values at) < 65536
-  few-counted = omega (arith, length-take (getD {A = ℕ} values at 0) (drop (suc at) values), narrow at)
 
 -- What holds of all of a list, and of what counts where nothing is there, holds at every place.
 pub at-each : {A : Type 0} (P : A → Type 0) (l : List A) (d : A) → P d → ((x : A) → List·Memᴰ x l → P x) → (i : ℕ) → P (getD l i d)
@@ -77,41 +61,48 @@ module _ (book : Bytes) (B : Book) (parsed : parse book ≡ accepted B) where
     pub few-simples : length (listedType B words chosen) ≤ maxString
     few-simples = omega (arith, joined-within 2 (B .entries) type-short (take (length words) chosen) .0, length-take (length words) chosen, few-words)
 
-    pub exponent-short : (x : Simple) → List·Memᴰ x (listedType B words chosen) → length (signed (x .exponent)) ≤ 2
+    exponent-short : (x : Simple) → List·Memᴰ x (listedType B words chosen) → length (signed (x .exponent)) ≤ 2
     exponent-short = joined-within 2 (B .entries) type-short (take (length words) chosen) .1
 
-    -- The rows of values that are any numbers of 16 bits, with any letters.
-    module _ (target : ℕ) (letters partners : List ℕ) (small : target < 65536) (c : Narrow chosen) (p : Narrow partners) where
-      type-row-short : (j letter : ℕ) (x : Simple) → j < length (listedType B words chosen) → List·Memᴰ x (listedType B words chosen)
-          → length (typeRow (suc j) (getD {A = Bytes} (B .names) (x .base) []) (x .exponent) (getD {A = ℕ} partners j 0) letter) ≤ 31
-      type-row-short j letter x h m =
-          let partner = getD {A = ℕ} partners j 0 in
-          omega (
-            arith,
-            row-of-five (decimal (suc j)) (getD {A = Bytes} (B .names) (x .base) []) (signed (x .exponent)) (decimal partner) (letter ∷ []),
-            decimal-length 2 (suc j) (omega (arith, few-simples)),
-            name-short (x .base),
-            exponent-short x m,
-            decimal-length 4 partner (omega (arith, p j)),
-          )
+    module _ (target : ℕ) (letters partners : List ℕ) where
+      -- With so many digits at most in an entry and in a partner: a word's row has 36 bytes more, a simple type's row 26.
+      module _ (entry-digits partner-digits : ℕ) (c : (i : ℕ) → length (decimal (getD {A = ℕ} chosen i 0)) ≤ entry-digits)
+          (p : (i : ℕ) → length (decimal (getD {A = ℕ} partners i 0)) ≤ partner-digits) where
+        type-row-within : (j letter : ℕ) (x : Simple) → j < length (listedType B words chosen) → List·Memᴰ x (listedType B words chosen)
+            → length (typeRow (suc j) (getD {A = Bytes} (B .names) (x .base) []) (x .exponent) (getD {A = ℕ} partners j 0) letter) ≤ 26 + partner-digits
+        type-row-within j letter x h m =
+            omega (
+              arith,
+              row-of-five (decimal (suc j)) (getD {A = Bytes} (B .names) (x .base) []) (signed (x .exponent)) (decimal (getD {A = ℕ} partners j 0)) (letter ∷ []),
+              decimal-length 2 (suc j) (omega (arith, few-simples)),
+              name-short (x .base),
+              exponent-short x m,
+              p j,
+            )
 
-      word-rows-short : length (wordRows chosen 0 words) ≤ length words * 41
-      word-rows-short = word-rows-within 41 chosen (λ i. omega (arith, decimal-length 4 (getD {A = ℕ} chosen i 0) (omega (arith, c i)))) 0 words fine
+        pub shown-within : length (shownRows (B .names) words target chosen (listedType B words chosen) letters partners)
+            ≤ length (firstRow (length chosen) (length partners) target) + maxWords * (36 + entry-digits) + maxString * (26 + partner-digits)
+        shown-within =
+            omega (
+              arith,
+              shown-length (B .names) words target chosen (listedType B words chosen) letters partners,
+              word-rows-within (36 + entry-digits) chosen (λ i. omega (arith, c i)) 0 words fine,
+              mul-le-mul-right (36 + entry-digits) few-words,
+              type-rows-within (26 + partner-digits) (B .names) letters partners 0 (listedType B words chosen) (λ j l x h m. type-row-within j l x (omega arith) m),
+              mul-le-mul-right (26 + partner-digits) few-simples,
+            )
 
-      pub shown-countable : length chosen < placeBound → length partners < placeBound
+      -- The rows of values that are any numbers of 16 bits.
+      pub shown-countable : target < valueBound → Narrow chosen → Narrow partners → length chosen < placeBound → length partners < placeBound
           → Countable 0 (shownRows (B .names) words target chosen (listedType B words chosen) letters partners)
-      shown-countable many more =
+      shown-countable small c p many more =
           record {
             small = omega (
               arith,
-              shown-length (B .names) words target chosen (listedType B words chosen) letters partners,
+              shown-within 5 5 (λ i. decimal-length 4 (getD {A = ℕ} chosen i 0) (omega (arith, c i))) (λ i. decimal-length 4 (getD {A = ℕ} partners i 0) (omega (arith, p i))),
               row-of-four yes (decimal (length chosen)) (decimal (length partners)) (decimal target),
               decimal-short (length chosen) many,
               decimal-short (length partners) more,
               decimal-short target (omega arith),
-              word-rows-short,
-              few-words,
-              type-rows-within 31 (B .names) letters partners 0 (listedType B words chosen) (λ j l x h m. type-row-short j l x (omega arith) m),
-              few-simples,
             );
           }

@@ -1,4 +1,4 @@
--- The listing at work, by evaluation: the paper's first case byte for byte, numbers and exponents, and a refusal.
+-- The listing at work, by evaluation: an exponent, the paper's first case byte for byte, and a refusal.
 use Prim.Native.Nat.{ℕ}
 use mathlib.Core.Path.{_≡_, refl}
 use mathlib.Core.List.{List, [], _∷_, _++_}
@@ -16,21 +16,10 @@ use Rattle.book.proofs.PaperBooks.{firstBook}
 use Rattle.line.specs.LineWords.{wordsFrom}
 use Rattle.line.specs.LineFaults.{byteFault, wordFault}
 use Rattle.answer.specs.declared.LineAnswer.the-variants.{Read, Refused}
-use Rattle.printing.specs.Text.{lastDigits, decimal, signed}
+use Rattle.writing.specs.Decimal.{lastDigits}
+use Rattle.printing.specs.Text.{signed, row}
 use Rattle.printing.specs.Rows.{wordRows, typeRows}
 use Rattle.listing.specs.Listing.{joined, listing}
-
-digits-of-0 : decimal 0 ≡ 48 ∷ []
-unfolding lastDigits
-digits-of-0 = refl
-
-digits-of-10 : decimal 10 ≡ 49 ∷ 48 ∷ []
-unfolding lastDigits
-digits-of-10 = refl
-
-digits-of-65535 : decimal 65535 ≡ 54 ∷ 53 ∷ 53 ∷ 51 ∷ 53 ∷ []
-unfolding lastDigits
-digits-of-65535 = refl
 
 minus-8 : signed (negsuc 7) ≡ 45 ∷ 56 ∷ []
 unfolding lastDigits
@@ -50,10 +39,10 @@ first-case : listing firstBook fetch-bed4-ward7 (Read 11) (0 ∷ 3 ∷ 1 ∷ 2 �
     ++ (51 ∷ 32 ∷ 112 ∷ 32 ∷ 45 ∷ 49 ∷ 32 ∷ 52 ∷ 32 ∷ e ∷ 10 ∷ [])
     ++ (52 ∷ 32 ∷ 112 ∷ 32 ∷ 48 ∷ 32 ∷ 51 ∷ 32 ∷ e ∷ 10 ∷ [])
     ++ (53 ∷ 32 ∷ 117 ∷ 32 ∷ 48 ∷ 32 ∷ 50 ∷ 32 ∷ t ∷ 10 ∷ [])
-unfolding lastDigits wordRows typeRows joined letters linkKind contracts sameExponent even below every twoBytes nameByte isName exponentOf simplesOf isWorded isEntry exponentListed sameBytes numberOf bodyRules recordRules firstBroken add ended recordsFrom parse wordsFrom byteFault wordFault
+unfolding lastDigits row wordRows typeRows joined letters linkKind contracts sameExponent even below every twoBytes nameByte isName exponentOf simplesOf isWorded isEntry exponentListed sameBytes numberOf bodyRules recordRules firstBroken add ended recordsFrom parse wordsFrom byteFault wordFault
 first-case = refl
 
 -- "no 16 7".
 refusal : listing firstBook [] (Refused 16 7) [] ≡ 110 ∷ 111 ∷ 32 ∷ 49 ∷ 54 ∷ 32 ∷ 55 ∷ 10 ∷ []
-unfolding lastDigits
+unfolding lastDigits row
 refusal = refl

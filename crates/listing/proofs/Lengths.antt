@@ -22,19 +22,23 @@ use Rattle.line.specs.LineWords.{Word}
 use Rattle.line.specs.LineFaults.{wordFault}
 use Rattle.line.proofs.Passed.{word-fine}
 use Rattle.letters.specs.Letters.{t}
-use Rattle.printing.specs.Text.{decimal, signed, row}
+use Rattle.writing.specs.Decimal.{decimal}
+use Rattle.printing.specs.Text.{signed, row}
 use Rattle.printing.specs.Rows.{firstRow, wordRow, typeRow, wordRows, typeRows, shownRows}
 use Rattle.listing.specs.Listing.{typeOf, joined}
-use Rattle.printing.proofs.Decimals.{decimal-length}
+use Rattle.writing.proofs.Decimals.{decimal-length}
 
 -- A byte behind each field.
 pub row-of-three : (a b c : Bytes) → length (row (a ∷ b ∷ c ∷ [])) ≡ length a + length b + length c + 3
+unfolding row
 row-of-three a b c = omega (arith, length-append a (32 ∷ row (b ∷ c ∷ [])), length-append b (32 ∷ row (c ∷ [])), length-append c (10 ∷ []))
 
 pub row-of-four : (a b c d : Bytes) → length (row (a ∷ b ∷ c ∷ d ∷ [])) ≡ length a + length b + length c + length d + 4
+unfolding row
 row-of-four a b c d = omega (arith, length-append a (32 ∷ row (b ∷ c ∷ d ∷ [])), row-of-three b c d)
 
 pub row-of-five : (a b c d f : Bytes) → length (row (a ∷ b ∷ c ∷ d ∷ f ∷ [])) ≡ length a + length b + length c + length d + length f + 5
+unfolding row
 row-of-five a b c d f = omega (arith, length-append a (32 ∷ row (b ∷ c ∷ d ∷ f ∷ [])), row-of-four b c d f)
 
 -- Rows of at most so many bytes each. The number of a word takes at most 2, the word 31.

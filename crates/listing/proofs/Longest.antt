@@ -1,14 +1,14 @@
 -- `maxListing` bytes are enough for the listing of whatever `read_line` answers: a row's fields are as short as the limits of books and lines make
 -- them.
-use Prim.Native.Nat.{ℕ, suc, _-_, _*_, _≤_, _<_}
+use Prim.Native.Nat.{ℕ, suc, _-_, _≤_, _<_}
 use native.Mathlib.Omega.{arith}
 use mathlib.Core.Path.{_≡_, ap}
 use mathlib.Core.Logic.{_⊎_, inl, inr}
-use mathlib.Core.List.{List, [], _∷_, List·Memᴰ}
+use mathlib.Core.List.{List}
 use lib.ListN.{length, getD, List·getD-eq-default}
 use Rattle.figures.specs.Limits.{maxEntries, maxWords, maxString}
 use Rattle.bits.proofs.Cases.{less-or-not}
-use Rattle.pregroup.specs.Types.{Basic, Simple, PregroupType}
+use Rattle.pregroup.specs.Types.{Basic, PregroupType}
 use Rattle.pregroup.specs.Order.{Relation}
 use Rattle.linking.specs.Linking.{IsLinking}
 use Rattle.format.specs.Records.{Bytes}
@@ -17,14 +17,14 @@ use Rattle.line.specs.LineWords.{wordsOf}
 use Rattle.line.proofs.Passed.{Passing, line-passing}
 use Rattle.answer.specs.declared.LineAnswer.the-variants.{Read}
 use Rattle.reader.specs.Demands.{Promised}
-use Rattle.printing.specs.Text.{decimal, signed}
-use Rattle.printing.specs.Rows.{yes, firstRow, refusalRow, typeRow, wordRows}
+use Rattle.writing.specs.Decimal.{decimal}
+use Rattle.printing.specs.Rows.{yes, firstRow, refusalRow}
 use Rattle.listing.specs.ListingDemands.{ListsReading}
 use Rattle.listing.specs.Listing.{listing, maxListing}
-use Rattle.printing.specs.Placed.{placeBound}
-use Rattle.printing.proofs.Decimals.{decimal-length}
-use Rattle.listing.proofs.Bounds.{refusal-row-short, at-each, declares, name-short, few-words, few-simples, exponent-short}
-use Rattle.listing.proofs.Lengths.{row-of-four, row-of-five, word-rows-within, type-rows-within, shown-length}
+use Rattle.writing.specs.Placed.{placeBound}
+use Rattle.writing.proofs.Decimals.{decimal-length}
+use Rattle.listing.proofs.Bounds.{refusal-row-short, at-each, declares, few-words, few-simples, shown-within}
+use Rattle.listing.proofs.Lengths.{row-of-four}
 use Rattle.listing.proofs.Answers.{choice-joined, answer-listed}
 
 -- A partner is a position.
@@ -69,36 +69,16 @@ module _ (book line text : Bytes) (r : ListsReading book line text) where
         decimal-length 0 (r .target) (omega (arith, r .first .reading .target-there, declares book B parsed .few-targets)),
       )
 
-  word-rows-short : length (wordRows (r .entries) 0 (wordsOf line)) ≤ length (wordsOf line) * 40
-  word-rows-short =
-      word-rows-within 40 (r .entries) (λ i. omega (arith, decimal-length 3 (getD {A = ℕ} (r .entries) i 0) (omega (arith, entry-small i)))) 0
-      (wordsOf line) (passes .words-fine)
-
-  type-row-short : (j letter : ℕ) (x : Simple) → j < length (r .type) → List·Memᴰ x (r .type)
-      → length (typeRow (suc j) (getD {A = Bytes} (B .names) (x .base) []) (x .exponent) (getD {A = ℕ} (r .partners) j 0) letter) ≤ 29
-  type-row-short j letter x h m =
-      let partner = getD {A = ℕ} (r .partners) j 0 in
-      omega (
-        arith,
-        row-of-five (decimal (suc j)) (getD {A = Bytes} (B .names) (x .base) []) (signed (x .exponent)) (decimal partner) (letter ∷ []),
-        decimal-length 2 (suc j) (omega (arith, simples)),
-        name-short book B parsed (x .base),
-        exponent-short book B parsed (wordsOf line) (passes .words-fine) (r .entries) x (rw (← r .joins) at m),
-        decimal-length 2 partner (omega (arith, partner-within (r .first .reading .linking) j, r .partner-each, simples)),
-      )
-
   -- The listing of a reading.
   reading-short : length text ≤ maxListing
   reading-short =
       omega (
         arith,
-        ap length (r .rows),
-        shown-length (B .names) (wordsOf line) (r .target) (r .entries) (r .type) (r .letters) (r .partners),
+        rw (← r .joins) at (ap length (r .rows)),
+        shown-within book B parsed (wordsOf line) (passes .words-fine) (r .entries) (r .target) (r .letters) (r .partners) 4 3
+            (λ i. decimal-length 3 (getD {A = ℕ} (r .entries) i 0) (omega (arith, entry-small i)))
+            (λ i. decimal-length 2 (getD {A = ℕ} (r .partners) i 0) (omega (arith, partner-within (r .first .reading .linking) i, r .partner-each, simples))),
         first-row-short,
-        word-rows-short,
-        few,
-        type-rows-within 29 (B .names) (r .letters) (r .partners) 0 (r .type) (λ j l x h m. type-row-short j l x (omega arith) m),
-        simples,
       )
 
 pub answer-short : (book line : Bytes) (buffer after : List ℕ) (n : ℕ) → Promised book line buffer (Read n) after

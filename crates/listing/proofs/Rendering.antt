@@ -1,10 +1,10 @@
 -- Rendering: a piece that was counted is written if there is room for it; and the listing by its cases: book, line and values.
-use Prim.Native.Nat.{ℕ, suc, _+_, _≤_, _<_}
+use Prim.Native.Nat.{ℕ, _+_, _≤_, _<_}
 use native.Mathlib.Omega.{arith}
 use mathlib.Core.Path.{_≡_, refl, sym, ap, _∙_}
 use mathlib.Core.Bool.{Bool, true, false}
 use mathlib.Core.List.{List, _++_, map}
-use lib.ListN.{length, getD, take, drop, length-map}
+use lib.ListN.{length, take, drop, length-map}
 use lib.Seq.{sets-eq}
 use Rattle.pregroup.specs.Order.{Relation}
 use Rattle.pregroup.specs.Tests.{Test, Decides}
@@ -15,18 +15,20 @@ use Rattle.letters.specs.Letters.{letters as lettersOf}
 use Rattle.letters.proofs.LetterTheorems.{letters-agree}
 use Rattle.format.specs.Records.{Bytes, bodiesAt}
 use Rattle.book.specs.Format.{Book, accepted, refused, parse}
-use Rattle.book.specs.Kept.{entriesAt}
+use Rattle.book.specs.Kept.{entryFrom}
 use Rattle.lookup.specs.Entries.{Lexicon}
 use Rattle.line.specs.LineWords.{wordsOf}
 use Rattle.line.specs.Split.{SplitInto, Stopped, at-byte, at-word}
 use Rattle.line.proofs.LineLaws.{words-length}
-use Rattle.reader.specs.Runs.{Open}
+use Rattle.answer.specs.Parts.{targetPart, entriesPart, partnersPart}
+use Rattle.answer.proofs.PartLaws.{Narrow, target-narrow, entries-narrow, partners-narrow}
+use Rattle.opening.specs.Open.{Open}
 use Rattle.printing.specs.Rows.{refusalRow}
-use Rattle.listing.specs.Listing.{joined, listedType, listedLetters, readingRows, counted, answerRows, listed, Renders}
+use Rattle.listing.specs.Listing.{joined, listedType, listedLetters, answerRows, listed, Renders}
 use Rattle.listing.specs.declared.Rendered.the-variants.{Written, TooShort}
 use Rattle.printing.specs.Kept.{keptRows}
-use Rattle.printing.specs.Placed.{Countable, Placed}
-use Rattle.listing.proofs.Bounds.{Narrow, narrow-counted, few-counted, shown-countable}
+use Rattle.writing.specs.Placed.{Countable, Placed}
+use Rattle.listing.proofs.Bounds.{shown-countable}
 
 -- The piece was counted, with no room at all, and is then put where there is room.
 pub renders-written : (piece text : Bytes) {after : Bytes} {needed behind : ℕ} → needed ≡ 0 + length piece → needed ≤ length text
@@ -46,16 +48,8 @@ module _ (book line : Bytes) (values : List ℕ) {B : Book} (parsed : parse book
   line-stopped (at-byte e) = rw (parsed, e)
   line-stopped (at-word e f) = rw (parsed, e, f)
 
-  line-split : {starts ends : List ℕ} {words : ℕ} → SplitInto line starts ends words → answerRows B (wordsOf line) values ≡ listed book line values
+  line-split : {starts ends : List ℕ} → SplitInto line starts ends → answerRows B (wordsOf line) values ≡ listed book line values
   line-split s = rw (parsed, s .bytes-fine, s .words-fine)
-
-  -- The parts of the values are those that are counted.
-  answer-parts : {starts ends : List ℕ} {words : ℕ} → SplitInto line starts ends words → (target : ℕ) (chosen partners : List ℕ)
-      → target ≡ getD {A = ℕ} values 0 0 → chosen ≡ counted values 1 → partners ≡ counted values (length chosen + 2)
-      → readingRows B (wordsOf line) target chosen partners ≡ listed book line values
-  answer-parts s target chosen partners t c p =
-      let behind : length chosen + 2 ≡ suc (suc (length chosen)) = omega arith in
-      rw (p, behind, c, t) (line-split s)
 
 -- Two tests that decide one relation agree.
 tests-agree : {le le′ : Test} {Le : Relation} → Decides le Le → Decides le′ Le → (a b : ℕ) → le a b ≡ le′ a b
@@ -67,44 +61,36 @@ tests-agree {le} {le′} d d′ a b = by (le a b) (le′ a b) (λ h. d′ a b .1
     by false false f g = refl
 
 -- What an open book keeps of its entries.
-module _ {book : Bytes} {names : List ℕ} {types : ℕ} {offsets : List ℕ} {count : ℕ} {alike order targets : List ℕ} {B : Book} (o : Open book names types offsets count alike order targets B) where
-  entries-kept : B .entries ≡ entriesAt book (bodiesAt book names types) offsets count
-  entries-kept = o .kept .all ∙ ap (λ (all : List Bytes). entriesAt book all offsets count) (o .type-names)
+module _ {book : Bytes} {names : List ℕ} {types : ℕ} {entries alike order targets : List ℕ} {B : Book} (o : Open book names types entries alike order targets B) where
+  entries-kept : B .entries ≡ map (entryFrom book (bodiesAt book names types)) entries
+  entries-kept = o .kept .all ∙ ap (λ (all : List Bytes). map (entryFrom book all) entries) (o .type-names)
 
-  pub lexicon-kept : Lexicon book (bodiesAt book names types) offsets count
+  pub lexicon-kept : Lexicon book (bodiesAt book names types) entries
   lexicon-kept = rw (← o .type-names) (o .kept .lexicon)
 
--- What the code makes of an open book, a split line and the parts of the values: the string and its letters are those that are listed.
-module _ (book : Bytes) (names : List ℕ) (types : ℕ) (offsets : List ℕ) (count : ℕ) (alike order targets : List ℕ) (B : Book)
-    (o : Open book names types offsets count alike order targets B) (line : Bytes) (starts ends : List ℕ) (words : ℕ) (s : SplitInto line starts ends words)
-    (target : ℕ) (chosen partners string letters : List ℕ) where
-  module _ (spells : map held string ≡ joined (entriesAt book (bodiesAt book names types) offsets count) (take words chosen)) where
-    string-listed : map held string ≡ listedType B (wordsOf line) chosen
-    string-listed = rw (entries-kept o, words-length line starts ends words s) spells
+-- What the code makes of an open book, a split line and values: the string and its letters are those that are listed, and so are the rows.
+module _ {book : Bytes} {names : List ℕ} {types : ℕ} {entries alike order targets : List ℕ} {B : Book}
+    (o : Open book names types entries alike order targets B) {line : Bytes} {starts ends : List ℕ} (s : SplitInto line starts ends)
+    (values string letters : List ℕ) (spells : map held string ≡ joined (map (entryFrom book (bodiesAt book names types)) entries) (take (length starts) (entriesPart values))) where
+  string-listed : map held string ≡ listedType B (wordsOf line) (entriesPart values)
+  string-listed = rw (entries-kept o, words-length line starts ends s) spells
 
-    letters-listed : {goal : ℕ} → goal ≡ targetAt targets target → letters ≡ lettersOf (inRows order) goal (map held string) partners (length string)
-        → letters ≡ listedLetters B target (listedType B (wordsOf line) chosen) partners
-    letters-listed {goal} is told =
+  -- The values are narrow, so that the places of their rows can be counted.
+  pub kept-countable : Narrow values → Countable 0 (keptRows book names types line values string letters)
+  kept-countable narrow =
+      let entries = entries-narrow values narrow in
+      let partners = partners-narrow values narrow in
+      rw (string-listed, ← o .type-names)
+      (shown-countable book B (o .parsed) (wordsOf line) (s .words-fine) (entriesPart values) (targetPart values) letters (partnersPart values) (target-narrow values narrow)
+      (entries .0) (partners .0) (omega (arith, entries .1)) (omega (arith, partners .1)))
+
+  module _ {goal : ℕ} (is : goal ≡ targetAt targets (targetPart values))
+      (told : letters ≡ lettersOf (inRows order) goal (map held string) (partnersPart values) (length string)) where
+    letters-listed : letters ≡ listedLetters B (targetPart values) (listedType B (wordsOf line) (entriesPart values)) (partnersPart values)
+    letters-listed =
         let many : length string ≡ length (map held string) = sym (length-map string held) in
         rw (o .chosen, ← is, ← string-listed, ← many)
-        (told ∙ letters-agree goal (map held string) partners (tests-agree (rows-decide order) (o .decides)) (length string))
+        (told ∙ letters-agree goal (map held string) (partnersPart values) (tests-agree (rows-decide order) (o .decides)) (length string))
 
-    shown-listed : {goal : ℕ} → goal ≡ targetAt targets target → letters ≡ lettersOf (inRows order) goal (map held string) partners (length string)
-        → keptRows book names types line target chosen string letters partners ≡ readingRows B (wordsOf line) target chosen partners
-    shown-listed is told = rw (letters-listed is told, string-listed, o .type-names)
-
-    -- The values are narrow, and the parts are counted from them.
-    module _ (values : List ℕ) (narrow : Narrow values) (t-is : target ≡ getD {A = ℕ} values 0 0) (c-is : chosen ≡ counted values 1)
-        (p-is : partners ≡ counted values (length chosen + 2)) where
-      pub kept-countable : Countable 0 (keptRows book names types line target chosen string letters partners)
-      kept-countable =
-          let behind = length chosen + 2 in
-          let c : Narrow chosen = rw c-is (narrow-counted values narrow 1) in
-          let p : Narrow partners = rw p-is (narrow-counted values narrow behind) in
-          rw (string-listed, ← o .type-names)
-          (shown-countable book B (o .parsed) (wordsOf line) (s .words-fine) chosen target letters partners (rw t-is (narrow 0)) c p
-          (omega (arith, ap length c-is, few-counted values narrow 1)) (omega (arith, ap length p-is, few-counted values narrow behind)))
-
-      pub kept-listed : {goal : ℕ} → goal ≡ targetAt targets target → letters ≡ lettersOf (inRows order) goal (map held string) partners (length string)
-          → keptRows book names types line target chosen string letters partners ≡ listed book line values
-      kept-listed is told = shown-listed is told ∙ answer-parts book line values (o .parsed) s target chosen partners t-is c-is p-is
+    pub kept-listed : keptRows book names types line values string letters ≡ listed book line values
+    kept-listed = rw (letters-listed, string-listed, ← o .type-names) (line-split book line values (o .parsed) s)

@@ -1,5 +1,5 @@
 -- Document 01, "A book to try": what `reading` prints of an answer or a refusal, in rows as `printing` defines them.
-use Prim.Native.Nat.{ℕ, suc, _+_, _*_, _≤_, _<_}
+use Prim.Native.Nat.{ℕ, _+_, _*_, _≤_, _<_}
 use mathlib.Core.Path.{_≡_}
 use mathlib.Core.List.{List, [], _∷_, _++_}
 use mathlib.Core.Option.{Option, none, some}
@@ -14,6 +14,7 @@ use Rattle.letters.specs.Letters.{letters}
 use Rattle.book.specs.Format.{Entry, Book, Parsed, accepted, refused, parse}
 use Rattle.line.specs.LineWords.{Word, wordsOf}
 use Rattle.line.specs.LineFaults.{byteFault, wordFault}
+use Rattle.answer.specs.Parts.{targetPart, entriesPart, partnersPart}
 use Rattle.answer.specs.declared.LineAnswer.{LineAnswer}
 use Rattle.answer.specs.declared.LineAnswer.the-variants.{Read, Refused}
 use Rattle.listing.specs.declared.Rendered.{Rendered}
@@ -43,14 +44,9 @@ readingRows B words target chosen partners =
     let string = listedType B words chosen in
     shownRows (B .names) words target chosen string (listedLetters B target string partners) partners
 
--- The values that stand behind their count.
-abbrev pub counted : List ℕ → ℕ → List ℕ
-counted values at = take (getD {A = ℕ} values at 0) (drop (suc at) values)
-
--- The rows of an answer's values: the target's number, n, the n entry numbers, m, the m partners. A first value that is not there counts as 0.
+-- The rows of an answer's values.
 abbrev pub answerRows : Book → List Word → List ℕ → Bytes
-answerRows B words values =
-    readingRows B words (getD {A = ℕ} values 0 0) (counted values 1) (counted values (suc (suc (length (counted values 1)))))
+answerRows B words values = readingRows B words (targetPart values) (entriesPart values) (partnersPart values)
 
 -- A line that breaks 11 or 12 has no words to list: its refusal is listed.
 abbrev pub orRefused : ℕ → Option ℕ → Bytes → Bytes

@@ -3,27 +3,25 @@ mod parts;
 mod strings;
 
 use answer::LineAnswer;
+use answer::parts::entries_of;
+use answer::parts::first_values;
+use answer::parts::partners_of;
+use answer::parts::target_of;
 use book::Scan;
-use bytewise::widths::value_at;
-use figures::limits::MAX_ENTRIES;
 use figures::limits::MAX_STRING;
 use figures::limits::MAX_WORDS;
-use format::names::NAME_PLACES;
 use letters::link_letters;
 use line::CheckedLine;
 use line::split::split;
-use lookup::keys::NO_ENTRY;
-use lookup::keys::PLACES;
-use parts::counted;
-use parts::first_values;
+use opening::Opening;
+use opening::open_book;
 use parts::target_at;
 use printing::put_reading;
 use printing::put_refusal_row;
-use reader::open_book;
 use strings::join_types;
 ghost use Rattle.printing.specs.Rows.{refusalRow};
 ghost use Rattle.listing.specs.Listing.{listed, listing, Renders};
-ghost use Rattle.printing.specs.Kept.{LineKept, keptRows, Puttable};
+ghost use Rattle.printing.specs.Kept.{keptRows, Puttable};
 ghost use Rattle.listing.specs.ListingDemands.{ListingPromised};
 ghost use Rattle.listing.specs.Parts.{BookKept};
 
@@ -55,7 +53,7 @@ fn render_refusal(number: u32, value: usize, text: &mut [u8]) -> Rendered
     Rendered::Written { bytes }
 }
 
-// Renders the rows of a reading.
+// Renders the rows of an answer's values, for a line that is split and the string of its reading.
 fn render_rows(
     book: &[u8],
     names: &[u16],
@@ -63,17 +61,14 @@ fn render_rows(
     line: &[u8],
     starts: &[usize],
     ends: &[usize],
-    words: usize,
-    target: usize,
-    chosen: &[u16],
+    values: &[u16],
     string: &[u16],
     letters: &[u8],
-    partners: &[u16],
     text: &mut [u8],
 ) -> Rendered
-    requires { ⌜ Puttable (now book) (now names) types (now line) (now starts) (now ends) words target (now chosen) (now string) (now letters) (now partners) ⌝ }
+    requires { ⌜ Puttable (now book) (now names) types (now line) (now starts) (now ends) (now values) (now string) (now letters) ⌝ }
     ensures { λ r. ⌜ Renders
-        (keptRows (now (book .entry)) (now (names .entry)) types (now (line .entry)) target (now (chosen .entry)) (now (string .entry)) (now (letters .entry)) (now (partners .entry)))
+        (keptRows (now (book .entry)) (now (names .entry)) types (now (line .entry)) (now (values .entry)) (now (string .entry)) (now (letters .entry)))
         (now (text .entry)) r (now (text .exit)) ⌝ }
 {
     let mut nothing = [0u8; 0];
@@ -84,12 +79,9 @@ fn render_rows(
         line,
         starts,
         ends,
-        words,
-        target,
-        chosen,
+        values,
         string,
         letters,
-        partners,
         &mut nothing,
     );
     if text.len() < needed {
@@ -102,60 +94,12 @@ fn render_rows(
         line,
         starts,
         ends,
-        words,
-        target,
-        chosen,
+        values,
         string,
         letters,
-        partners,
         text,
     );
     Rendered::Written { bytes: needed }
-}
-
-// Renders the rows of an answer's values, for a book and a line that are kept.
-fn render_values(
-    book: &[u8],
-    names: &[u16],
-    types: usize,
-    offsets: &[u16],
-    count: usize,
-    order: &[u64],
-    targets: &[u8],
-    line: &[u8],
-    starts: &[usize],
-    ends: &[usize],
-    words: usize,
-    values: &[u16],
-    text: &mut [u8],
-) -> Rendered
-    requires { ⌜ BookKept (now book) (now names) types (now offsets) count (now order) (now targets) × LineKept (now line) (now starts) (now ends) words ⌝ }
-    ensures { λ r. ⌜ Renders (listed (now (book .entry)) (now (line .entry)) (now (values .entry))) (now (text .entry)) r (now (text .exit)) ⌝ }
-{
-    let target = value_at(values, 0);
-    let chosen = counted(values, 1);
-    let partners = counted(values, chosen.len() + 2);
-    let mut string = [0u16; MAX_STRING];
-    let shown = first_values(chosen, words);
-    let simples = join_types(book, names, types, offsets, count, shown, &mut string);
-    let mut letters = [0u8; LETTERS];
-    let goal = target_at(targets, target);
-    link_letters(order, &string[..simples], goal, partners, &mut letters);
-    render_rows(
-        book,
-        names,
-        types,
-        line,
-        starts,
-        ends,
-        words,
-        target,
-        chosen,
-        &string[..simples],
-        &letters[..simples + 1],
-        partners,
-        text,
-    )
 }
 
 // Renders an answer's values for a line and a book that is kept.
@@ -163,15 +107,14 @@ fn render_line(
     book: &[u8],
     names: &[u16],
     types: usize,
-    offsets: &[u16],
-    count: usize,
+    entries: &[u16],
     order: &[u64],
     targets: &[u8],
     line: &[u8],
     values: &[u16],
     text: &mut [u8],
 ) -> Rendered
-    requires { ⌜ BookKept (now book) (now names) types (now offsets) count (now order) (now targets) ⌝ }
+    requires { ⌜ BookKept (now book) (now names) types (now entries) (now order) (now targets) ⌝ }
     ensures { λ r. ⌜ Renders (listed (now (book .entry)) (now (line .entry)) (now (values .entry))) (now (text .entry)) r (now (text .exit)) ⌝ }
 {
     let mut starts = [0usize; MAX_WORDS];
@@ -179,21 +122,28 @@ fn render_line(
     let found = split(line, &mut starts, &mut ends);
     match found {
         CheckedLine::Refused { number, value } => render_refusal(number, value, text),
-        CheckedLine::Found(words) => render_values(
-            book,
-            names,
-            types,
-            offsets,
-            count,
-            order,
-            targets,
-            line,
-            &starts,
-            &ends,
-            words,
-            values,
-            text,
-        ),
+        CheckedLine::Found(words) => {
+            let mut string = [0u16; MAX_STRING];
+            let shown = first_values(entries_of(values), words);
+            let simples = join_types(book, names, types, entries, shown, &mut string);
+            let mut letters = [0u8; LETTERS];
+            let target = target_of(values);
+            let goal = target_at(targets, target);
+            let partners = partners_of(values);
+            link_letters(order, &string[..simples], goal, partners, &mut letters);
+            render_rows(
+                book,
+                names,
+                types,
+                line,
+                &starts[..words],
+                &ends[..words],
+                values,
+                &string[..simples],
+                &letters[..simples + 1],
+                text,
+            )
+        }
     }
 }
 
@@ -201,13 +151,14 @@ fn render_line(
 fn render_answer(book: &[u8], line: &[u8], values: &[u16], text: &mut [u8]) -> Rendered
     ensures { λ r. ⌜ Renders (listed (now (book .entry)) (now (line .entry)) (now (values .entry))) (now (text .entry)) r (now (text .exit)) ⌝ }
 {
-    let mut names = [0u16; NAME_PLACES];
-    let mut entries = [0u16; MAX_ENTRIES];
-    let mut alike = [NO_ENTRY; PLACES];
-    let opening = open_book(book, &mut names, &mut entries, &mut alike);
-    let rows = opening.rows;
-    let targets = opening.targets;
-    let scan = opening.scan;
+    let Opening {
+        scan,
+        names,
+        entries,
+        alike: _,
+        order,
+        targets,
+    } = open_book(book);
     match scan {
         Scan::Refused { number, value } => render_refusal(number, value, text),
         Scan::Accepted {
@@ -218,9 +169,8 @@ fn render_answer(book: &[u8], line: &[u8], values: &[u16], text: &mut [u8]) -> R
             book,
             &names,
             types,
-            &entries,
-            count,
-            &rows,
+            &entries[..count],
+            &order,
             &targets[..goals],
             line,
             values,

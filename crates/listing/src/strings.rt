@@ -11,7 +11,7 @@ ghost use Rattle.pregroup.specs.Types.{PregroupType};
 ghost use Rattle.pregroup.specs.Held.{held};
 ghost use Rattle.format.specs.Records.{bodiesAt};
 ghost use Rattle.format.specs.Names.{Named};
-ghost use Rattle.book.specs.Kept.{entriesAt, HeldType};
+ghost use Rattle.book.specs.Kept.{entryFrom, HeldType};
 ghost use Rattle.lookup.specs.Entries.{Lexicon};
 ghost use Rattle.listing.specs.Listing.{joined};
 
@@ -36,20 +36,19 @@ pub(crate) fn join_types(
     book: &[u8],
     names: &[u16],
     types: usize,
-    offsets: &[u16],
-    count: usize,
+    entries: &[u16],
     chosen: &[u16],
     string: &mut [u16],
 ) -> usize
-    requires { ⌜ Named (now book) (now names) types × Lexicon (now book) (bodiesAt (now book) (now names) types) (now offsets) count ⌝ }
+    requires { ⌜ Named (now book) (now names) types × Lexicon (now book) (bodiesAt (now book) (now names) types) (now entries) ⌝ }
     requires { ⌜ length (now chosen) * maxEntrySimples ≤ length (now string) ⌝ }
     ensures { λ r. ⌜ (r ≤ length (now (string .exit))) × (map held (take r (now (string .exit)))
-        ≡ joined (entriesAt (now (book .entry)) (bodiesAt (now (book .entry)) (now (names .entry)) types) (now (offsets .entry)) count) (now (chosen .entry))) ⌝ }
+        ≡ joined (map (entryFrom (now (book .entry)) (bodiesAt (now (book .entry)) (now (names .entry)) types)) (now (entries .entry))) (now (chosen .entry))) ⌝ }
 {
     let mut end = 0;
     let mut i = 0;
     while i < chosen.len() {
-        let t = type_of(book, names, types, offsets, count, wide_number(chosen[i]));
+        let t = type_of(book, names, types, entries, wide_number(chosen[i]));
         i += 1;
         end = append_type(t, string, end);
     }

@@ -31,17 +31,17 @@ unfolding key
 key-below word = omega arith
 
 -- The word of a kept entry has 1 to 31 bytes.
-pub kept-range : {bytes : Bytes} {offsets : List ℕ} {count : ℕ} → Entries bytes offsets count → (i : ℕ) → i < count
-    → (1 ≤ length (wordKept bytes offsets i)) × (length (wordKept bytes offsets i) ≤ maxWord)
-kept-range {bytes} {offsets} kept i h =
-    let body = bodyAt bytes (getD {A = ℕ} offsets i 0) in
+pub kept-range : {bytes : Bytes} {entries : List ℕ} → Entries bytes entries → (i : ℕ) → i < length entries
+    → (1 ≤ length (wordKept bytes entries i)) × (length (wordKept bytes entries i) ≤ maxWord)
+kept-range {bytes} {entries} kept i h =
+    let body = bodyAt bytes (getD {A = ℕ} entries i 0) in
     let shape = word-shape body (kept .worded i h) in
     let long = length-take-le (wordLength body) (drop 1 body) (omega (arith, length-drop 1 body, shape .fits)) in
     (omega (arith, long, shape .range .0), omega (arith, long, shape .range .1))
 
 -- Entries threaded from the last to the first.
-module _ (bytes : Bytes) (offsets : List ℕ) (count : ℕ) where
-  pub alike-start : {alike : List ℕ} → count ≤ maxEntries → NoneAlike alike → AlikeFrom bytes offsets count alike count
+module _ (bytes : Bytes) (entries : List ℕ) where
+  pub alike-start : {alike : List ℕ} → length entries ≤ maxEntries → NoneAlike alike → AlikeFrom bytes entries alike (length entries)
   alike-start {alike} few n =
       record {
         room = n .room;
@@ -52,7 +52,7 @@ module _ (bytes : Bytes) (offsets : List ℕ) (count : ℕ) where
         nexts = λ j h l. absurd (omega arith);
       }
 
-  module _ (alike : List ℕ) (i j k : ℕ) (t : AlikeFrom bytes offsets count alike i) (next : j + 1 ≡ i) (inside : j < count) (few : count ≤ maxEntries) (own : k ≡ key (wordKept bytes offsets j)) where
+  module _ (alike : List ℕ) (i j k : ℕ) (t : AlikeFrom bytes entries alike i) (next : j + 1 ≡ i) (inside : j < length entries) (few : length entries ≤ maxEntries) (own : k ≡ key (wordKept bytes entries j)) where
     abbrev head : ℕ
     head = maxEntries + k
 
@@ -66,7 +66,7 @@ module _ (bytes : Bytes) (offsets : List ℕ) (count : ℕ) where
     alike′ = set linked head j
 
     low-key : k < keys
-    low-key = omega (arith, own, key-below (wordKept bytes offsets j))
+    low-key = omega (arith, own, key-below (wordKept bytes entries j))
 
     at-head : getD {A = ℕ} alike′ head 0 ≡ j
     at-head = getD-set-same linked head j 0 (omega (arith, low-key, t .room, length-set alike j behind))
@@ -85,10 +85,10 @@ module _ (bytes : Bytes) (offsets : List ℕ) (count : ℕ) where
         go (no e) (yes f) = rw (f, at-entry) (t .low head (omega (arith, low-key)))
         go (no e) (no f) = rw (elsewhere p e f) (t .low p h)
 
-    heads′ : (c : ℕ) → c < keys → First (OfKey bytes offsets c) j count (getD {A = ℕ} alike′ (maxEntries + c) 0)
+    heads′ : (c : ℕ) → c < keys → First (OfKey bytes entries c) j (length entries) (getD {A = ℕ} alike′ (maxEntries + c) 0)
     heads′ c h = go (ℕ-discrete c k)
       where
-        go : Dec (c ≡ k) → First (OfKey bytes offsets c) j count (getD {A = ℕ} alike′ (maxEntries + c) 0)
+        go : Dec (c ≡ k) → First (OfKey bytes entries c) j (length entries) (getD {A = ℕ} alike′ (maxEntries + c) 0)
         go (yes e) =
             let place : getD {A = ℕ} alike′ (maxEntries + c) 0 ≡ j = rw e at-head in
             rw place (record { forth = omega arith; passed = λ p l m b o. omega arith; stops = λ l. sym own ∙ sym e })
@@ -101,42 +101,42 @@ module _ (bytes : Bytes) (offsets : List ℕ) (count : ℕ) where
               stops = old .stops;
             })
           where
-            other : (p : ℕ) → j ≤ p → p < getD {A = ℕ} alike (maxEntries + c) 0 → p < count → OfKey bytes offsets c p → Dec (p ≡ j) → ⊥
-            other p l m b o (yes f) = e (sym o ∙ ap (λ (q : ℕ). key (wordKept bytes offsets q)) f ∙ sym own)
+            other : (p : ℕ) → j ≤ p → p < getD {A = ℕ} alike (maxEntries + c) 0 → p < length entries → OfKey bytes entries c p → Dec (p ≡ j) → ⊥
+            other p l m b o (yes f) = e (sym o ∙ ap (λ (q : ℕ). key (wordKept bytes entries q)) f ∙ sym own)
             other p l m b o (no f) = t .heads c h .passed p (omega (arith, f)) m b o
 
-    nexts′ : (p : ℕ) → j ≤ p → p < count → First (OfKey bytes offsets (key (wordKept bytes offsets p))) (p + 1) count (getD {A = ℕ} alike′ p 0)
+    nexts′ : (p : ℕ) → j ≤ p → p < length entries → First (OfKey bytes entries (key (wordKept bytes entries p))) (p + 1) (length entries) (getD {A = ℕ} alike′ p 0)
     nexts′ p h l = go (ℕ-discrete p j)
       where
-        go : Dec (p ≡ j) → First (OfKey bytes offsets (key (wordKept bytes offsets p))) (p + 1) count (getD {A = ℕ} alike′ p 0)
+        go : Dec (p ≡ j) → First (OfKey bytes entries (key (wordKept bytes entries p))) (p + 1) (length entries) (getD {A = ℕ} alike′ p 0)
         go (yes e) = rw (e, next, sym own, at-entry) (t .heads k low-key)
         go (no e) = rw (elsewhere p (omega arith) e) (t .nexts p (omega (arith, e)) l)
 
-    pub alike-next : AlikeFrom bytes offsets count (set (set alike j (getD {A = ℕ} alike (maxEntries + k) 0)) (maxEntries + k) j) j
+    pub alike-next : AlikeFrom bytes entries (set (set alike j (getD {A = ℕ} alike (maxEntries + k) 0)) (maxEntries + k) j) j
     alike-next = record { room = length-set linked head j ∙ length-set alike j behind ∙ t .room; low = low′; heads = heads′; nexts = nexts′ }
 
 -- A word sought on the thread of its key.
-module _ (bytes : Bytes) (offsets : List ℕ) (count : ℕ) (word : Bytes) where
+module _ (bytes : Bytes) (entries : List ℕ) (word : Bytes) where
   -- How the search stands at entry i: none passed is the word's, and this one has the word's key.
   pub record Seeking (from i : ℕ) : Type 0 where
     pub forth : from ≤ i
-    pub passed : (k : ℕ) → from ≤ k → k < i → k < count → OfWord bytes offsets word k → ⊥
-    pub own : i < count → OfKey bytes offsets (key word) i
+    pub passed : (k : ℕ) → from ≤ k → k < i → k < length entries → OfWord bytes entries word k → ⊥
+    pub own : i < length entries → OfKey bytes entries (key word) i
 
-  word-key : (i : ℕ) → OfWord bytes offsets word i → OfKey bytes offsets (key word) i
-  word-key i = same-key (wordKept bytes offsets i) word
+  word-key : (i : ℕ) → OfWord bytes entries word i → OfKey bytes entries (key word) i
+  word-key i = same-key (wordKept bytes entries i) word
 
-  pub seeking-start : {from i : ℕ} → First (OfKey bytes offsets (key word)) from count i → Seeking from i
+  pub seeking-start : {from i : ℕ} → First (OfKey bytes entries (key word)) from (length entries) i → Seeking from i
   seeking-start f = record { forth = f .forth; passed = λ k h l m o. f .passed k h l m (word-key k o); own = f .stops }
 
-  pub seeking-found : {from i : ℕ} {t : Bool} → Seeking from i → t ≡ sameWord (wordKept bytes offsets i) word → t ≡ true → First (OfWord bytes offsets word) from count i
+  pub seeking-found : {from i : ℕ} {t : Bool} → Seeking from i → t ≡ sameWord (wordKept bytes entries i) word → t ≡ true → First (OfWord bytes entries word) from (length entries) i
   seeking-found s says e = record { forth = s .forth; passed = s .passed; stops = λ h. sym says ∙ e }
 
-  pub seeking-end : {from i : ℕ} → Seeking from i → count ≤ i → First (OfWord bytes offsets word) from count i
+  pub seeking-end : {from i : ℕ} → Seeking from i → length entries ≤ i → First (OfWord bytes entries word) from (length entries) i
   seeking-end s h = record { forth = s .forth; passed = s .passed; stops = λ l. absurd (omega arith) }
 
-  pub seeking-next : {alike : List ℕ} {from i : ℕ} {t : Bool} → Alike bytes offsets count alike → Seeking from i → i < count
-      → t ≡ sameWord (wordKept bytes offsets i) word → t ≡ false → Seeking from (getD {A = ℕ} alike i 0)
+  pub seeking-next : {alike : List ℕ} {from i : ℕ} {t : Bool} → Alike bytes entries alike → Seeking from i → i < length entries
+      → t ≡ sameWord (wordKept bytes entries i) word → t ≡ false → Seeking from (getD {A = ℕ} alike i 0)
   seeking-next {alike} {from} {i} a s h says e =
       record {
         forth = omega (arith, s .forth, next .forth);
@@ -144,10 +144,10 @@ module _ (bytes : Bytes) (offsets : List ℕ) (count : ℕ) (word : Bytes) where
         own = λ l. next .stops l ∙ s .own h;
       }
     where
-      next : First (OfKey bytes offsets (key (wordKept bytes offsets i))) (i + 1) count (getD {A = ℕ} alike i 0)
+      next : First (OfKey bytes entries (key (wordKept bytes entries i))) (i + 1) (length entries) (getD {A = ℕ} alike i 0)
       next = a .nexts i (omega arith) h
 
-      go : (k : ℕ) → from ≤ k → k < getD {A = ℕ} alike i 0 → k < count → OfWord bytes offsets word k → Dec (k ≡ i) → (k < i → k < count → OfWord bytes offsets word k → ⊥) → ⊥
+      go : (k : ℕ) → from ≤ k → k < getD {A = ℕ} alike i 0 → k < length entries → OfWord bytes entries word k → Dec (k ≡ i) → (k < i → k < length entries → OfWord bytes entries word k → ⊥) → ⊥
       go k l m b o (yes f) before = false≢true (sym e ∙ says ∙ rw f at o)
       go k l m b o (no f) before = ahead (decLt k i)
         where

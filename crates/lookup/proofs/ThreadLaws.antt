@@ -22,47 +22,47 @@ pub simples-cons : (es : List NumberedEntry) (words : Words) → simplesOfWords 
 unfolding simplesOfWords
 simples-cons es words = refl
 
-module _ (bytes : Bytes) (names : List Bytes) (offsets : List ℕ) (count : ℕ) (same : List ℕ) where
+module _ (bytes : Bytes) (names : List Bytes) (entries same : List ℕ) where
   -- A thread at an entry: it leads on to the rest.
   pub record Leads (i : ℕ) (es : List NumberedEntry) : Type 0 where
     pub rest : List NumberedEntry
     pub forth : i < getD {A = ℕ} same i 0
-    pub is : es ≡ entryAt bytes names offsets i ∷ rest
-    pub ahead : Thread bytes names offsets count same (getD {A = ℕ} same i 0) rest
+    pub is : es ≡ entryAt bytes names entries i ∷ rest
+    pub ahead : Thread bytes names entries same (getD {A = ℕ} same i 0) rest
 
   -- How the tally of a thread stands at entry i.
   pub record Tallying (es : List NumberedEntry) (sum i : ℕ) : Type 0 where
     pub rest : List NumberedEntry
-    pub ahead : Thread bytes names offsets count same i rest
+    pub ahead : Thread bytes names entries same i rest
     pub total : simplesIn es ≡ sum + simplesIn rest
     pub low : sum ≤ maxEntrySimples * i
     pub small : sum ≤ maxEntries * maxEntrySimples
 
-module _ {bytes : Bytes} {names : List Bytes} {offsets : List ℕ} {count : ℕ} {same : List ℕ} where
-  pub thread-next : {i : ℕ} {es : List NumberedEntry} → Thread bytes names offsets count same i es → i < count → Leads bytes names offsets count same i es
+module _ {bytes : Bytes} {names : List Bytes} {entries same : List ℕ} where
+  pub thread-next : {i : ℕ} {es : List NumberedEntry} → Thread bytes names entries same i es → i < length entries → Leads bytes names entries same i es
   thread-next (ends h) l = absurd (omega arith)
   thread-next (goes {i} {es} h f t) l = record { rest = es; forth = f; is = refl; ahead = t }
 
-  pub thread-end : {i : ℕ} {es : List NumberedEntry} → Thread bytes names offsets count same i es → count ≤ i → es ≡ []
+  pub thread-end : {i : ℕ} {es : List NumberedEntry} → Thread bytes names entries same i es → length entries ≤ i → es ≡ []
   thread-end (ends h) l = refl
   thread-end (goes h f t) l = absurd (omega arith)
 
-  pub tally-start : {first : ℕ} {es : List NumberedEntry} → Thread bytes names offsets count same first es → Tallying bytes names offsets count same es 0 first
+  pub tally-start : {first : ℕ} {es : List NumberedEntry} → Thread bytes names entries same first es → Tallying bytes names entries same es 0 first
   tally-start {first} {es} t = record { rest = es; ahead = t; total = omega arith; low = omega arith; small = omega arith }
 
-  pub tally-next : {es : List NumberedEntry} {sum i n : ℕ} → Lexicon bytes names offsets count → Tallying bytes names offsets count same es sum i → i < count
-      → n ≡ length (entryAt bytes names offsets i .type) → Tallying bytes names offsets count same es (sum + n) (getD {A = ℕ} same i 0)
+  pub tally-next : {es : List NumberedEntry} {sum i n : ℕ} → Lexicon bytes names entries → Tallying bytes names entries same es sum i → i < length entries
+      → n ≡ length (entryAt bytes names entries i .type) → Tallying bytes names entries same es (sum + n) (getD {A = ℕ} same i 0)
   tally-next {es} {sum} {i} {n} kept t h e =
       let short = kept .formed i h .short in
       let l = thread-next (t .ahead) h in
-      let more = ap simplesIn (l .is) ∙ simples-more (entryAt bytes names offsets i) (l .rest) in
+      let more = ap simplesIn (l .is) ∙ simples-more (entryAt bytes names entries i) (l .rest) in
       record {
         rest = l .rest;
         ahead = l .ahead;
         total = omega (arith, t .total, more);
         low = omega (arith, t .low, l .forth);
-        small = omega (arith, t .low, h, kept .entries .few);
+        small = omega (arith, t .low, h, kept .kept .few);
       }
 
-  pub tally-end : {es : List NumberedEntry} {sum i : ℕ} → Tallying bytes names offsets count same es sum i → count ≤ i → Tallied es sum
+  pub tally-end : {es : List NumberedEntry} {sum i : ℕ} → Tallying bytes names entries same es sum i → length entries ≤ i → Tallied es sum
   tally-end t h = record { total = omega (arith, t .total, ap simplesIn (thread-end (t .ahead) h), simples-none); small = t .small }

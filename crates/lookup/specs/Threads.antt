@@ -23,25 +23,25 @@ key word = (length word + 7 * small (getD {A = ℕ} word 0 0) + 37 * small (getD
 
 -- The word of a kept entry, and whether it is a given word or has a given key.
 abbrev pub wordKept : Bytes → List ℕ → ℕ → Bytes
-wordKept bytes offsets i = wordOf (bodyAt bytes (getD {A = ℕ} offsets i 0))
+wordKept bytes entries i = wordOf (bodyAt bytes (getD {A = ℕ} entries i 0))
 
 abbrev pub OfWord : Bytes → List ℕ → Bytes → ℕ → Type 0
-OfWord bytes offsets word i = sameWord (wordKept bytes offsets i) word ≡ true
+OfWord bytes entries word i = sameWord (wordKept bytes entries i) word ≡ true
 
 abbrev pub OfKey : Bytes → List ℕ → ℕ → ℕ → Type 0
-OfKey bytes offsets k i = key (wordKept bytes offsets i) ≡ k
+OfKey bytes entries k i = key (wordKept bytes entries i) ≡ k
 
 -- Entries from number i on are threaded by their keys: behind the places of entries `alike` has the first of each key, and at each of these
 -- entries' places the next of its key.
-pub record AlikeFrom (bytes : Bytes) (offsets : List ℕ) (count : ℕ) (alike : List ℕ) (i : ℕ) : Type 0 where
+pub record AlikeFrom (bytes : Bytes) (entries alike : List ℕ) (i : ℕ) : Type 0 where
   pub room : length alike ≡ maxEntries + keys
   pub low : (k : ℕ) → k < maxEntries + keys → getD {A = ℕ} alike k 0 ≤ maxEntries
-  pub heads : (k : ℕ) → k < keys → First (OfKey bytes offsets k) i count (getD {A = ℕ} alike (maxEntries + k) 0)
-  pub nexts : (j : ℕ) → i ≤ j → j < count → First (OfKey bytes offsets (key (wordKept bytes offsets j))) (j + 1) count (getD {A = ℕ} alike j 0)
+  pub heads : (k : ℕ) → k < keys → First (OfKey bytes entries k) i (length entries) (getD {A = ℕ} alike (maxEntries + k) 0)
+  pub nexts : (j : ℕ) → i ≤ j → j < length entries → First (OfKey bytes entries (key (wordKept bytes entries j))) (j + 1) (length entries) (getD {A = ℕ} alike j 0)
 
 -- All are.
-abbrev pub Alike : Bytes → List ℕ → ℕ → List ℕ → Type 0
-Alike bytes offsets count alike = AlikeFrom bytes offsets count alike 0
+abbrev pub Alike : Bytes → List ℕ → List ℕ → Type 0
+Alike bytes entries alike = AlikeFrom bytes entries alike 0
 
 -- No entry is threaded yet.
 pub record NoneAlike (alike : List ℕ) : Type 0 where
@@ -49,43 +49,43 @@ pub record NoneAlike (alike : List ℕ) : Type 0 where
   pub none : (k : ℕ) → k < maxEntries + keys → getD {A = ℕ} alike k 0 ≡ maxEntries
 
 -- At the place of an entry `same` has the next entry of its word.
-abbrev pub Knows : Bytes → List ℕ → ℕ → List ℕ → ℕ → Type 0
-Knows bytes offsets count same i = First (OfWord bytes offsets (wordKept bytes offsets i)) (i + 1) count (getD {A = ℕ} same i 0)
+abbrev pub Knows : Bytes → List ℕ → List ℕ → ℕ → Type 0
+Knows bytes entries same i = First (OfWord bytes entries (wordKept bytes entries i)) (i + 1) (length entries) (getD {A = ℕ} same i 0)
 
 -- It does so for all entries of a word, or has 0 at all of them.
-pub record Same (bytes : Bytes) (offsets : List ℕ) (count : ℕ) (same : List ℕ) : Type 0 where
-  pub room : maxEntries ≤ length same
-  pub known : (i j : ℕ) → i < count → 0 < getD {A = ℕ} same i 0 → j < count → OfWord bytes offsets (wordKept bytes offsets i) j → Knows bytes offsets count same j
+pub record Threaded (bytes : Bytes) (entries same : List ℕ) : Type 0 where
+  pub room : length entries ≤ length same
+  pub known : (i j : ℕ) → i < length entries → 0 < getD {A = ℕ} same i 0 → j < length entries → OfWord bytes entries (wordKept bytes entries i) j → Knows bytes entries same j
 
 -- The entries of a word are threaded: `same` becomes `same′`, which has the next entry of every one of them, and what was known stays.
-pub record Joined (bytes : Bytes) (offsets : List ℕ) (count : ℕ) (word : Bytes) (same same′ : List ℕ) : Type 0 where
-  pub known : (j : ℕ) → j < count → OfWord bytes offsets word j → Knows bytes offsets count same′ j
-  pub kept : (j : ℕ) → Knows bytes offsets count same j → Knows bytes offsets count same′ j
-  pub others : (j : ℕ) → (OfWord bytes offsets word j → ⊥) → getD {A = ℕ} same′ j 0 ≡ getD {A = ℕ} same j 0
+pub record WordJoined (bytes : Bytes) (entries : List ℕ) (word : Bytes) (same same′ : List ℕ) : Type 0 where
+  pub known : (j : ℕ) → j < length entries → OfWord bytes entries word j → Knows bytes entries same′ j
+  pub kept : (j : ℕ) → Knows bytes entries same j → Knows bytes entries same′ j
+  pub others : (j : ℕ) → (OfWord bytes entries word j → ⊥) → getD {A = ℕ} same′ j 0 ≡ getD {A = ℕ} same j 0
 
 -- A word is found: this is its first entry, and all of its entries are threaded.
-pub record Found (bytes : Bytes) (offsets : List ℕ) (count : ℕ) (word : Bytes) (same : List ℕ) (first : ℕ) : Type 0 where
-  pub begins : First (OfWord bytes offsets word) 0 count first
-  pub known : (j : ℕ) → j < count → OfWord bytes offsets word j → Knows bytes offsets count same j
+pub record Found (bytes : Bytes) (entries : List ℕ) (word : Bytes) (same : List ℕ) (first : ℕ) : Type 0 where
+  pub begins : First (OfWord bytes entries word) 0 (length entries) first
+  pub known : (j : ℕ) → j < length entries → OfWord bytes entries word j → Knows bytes entries same j
 
 -- It is found, and what was known stays.
-pub record Finds (bytes : Bytes) (offsets : List ℕ) (count : ℕ) (word : Bytes) (same same′ : List ℕ) (first : ℕ) : Type 0 where
+pub record Finds (bytes : Bytes) (entries : List ℕ) (word : Bytes) (same same′ : List ℕ) (first : ℕ) : Type 0 where
   pub low : first ≤ maxEntries
-  pub found : Found bytes offsets count word same′ first
-  pub threaded : Same bytes offsets count same′
-  pub kept : (j : ℕ) → Knows bytes offsets count same j → Knows bytes offsets count same′ j
+  pub found : Found bytes entries word same′ first
+  pub threaded : Threaded bytes entries same′
+  pub kept : (j : ℕ) → Knows bytes entries same j → Knows bytes entries same′ j
 
 -- A thread of entries: from each of them `same` leads to the next.
-pub data Thread (bytes : Bytes) (names : List Bytes) (offsets : List ℕ) (count : ℕ) (same : List ℕ) : ℕ → List NumberedEntry → Type 0 where
-  ends : {i : ℕ} → count ≤ i → Thread bytes names offsets count same i []
-  goes : {i : ℕ} {es : List NumberedEntry} → i < count → i < getD {A = ℕ} same i 0
-      → Thread bytes names offsets count same (getD {A = ℕ} same i 0) es → Thread bytes names offsets count same i (entryAt bytes names offsets i ∷ es)
+pub data Thread (bytes : Bytes) (names : List Bytes) (entries same : List ℕ) : ℕ → List NumberedEntry → Type 0 where
+  ends : {i : ℕ} → length entries ≤ i → Thread bytes names entries same i []
+  goes : {i : ℕ} {es : List NumberedEntry} → i < length entries → i < getD {A = ℕ} same i 0
+      → Thread bytes names entries same (getD {A = ℕ} same i 0) es → Thread bytes names entries same i (entryAt bytes names entries i ∷ es)
 
 -- Words by the first entry of each, from the k-th on.
-pub data Threads (bytes : Bytes) (names : List Bytes) (offsets : List ℕ) (count : ℕ) (same firsts : List ℕ) : ℕ → Words → Type 0 where
-  none : {k : ℕ} → Threads bytes names offsets count same firsts k []
-  word : {k : ℕ} {es : List NumberedEntry} {words : Words} → Thread bytes names offsets count same (getD {A = ℕ} firsts k 0) es
-      → Threads bytes names offsets count same firsts (k + 1) words → Threads bytes names offsets count same firsts k (es ∷ words)
+pub data Threads (bytes : Bytes) (names : List Bytes) (entries same firsts : List ℕ) : ℕ → Words → Type 0 where
+  none : {k : ℕ} → Threads bytes names entries same firsts k []
+  word : {k : ℕ} {es : List NumberedEntry} {words : Words} → Thread bytes names entries same (getD {A = ℕ} firsts k 0) es
+      → Threads bytes names entries same firsts (k + 1) words → Threads bytes names entries same firsts k (es ∷ words)
 
 -- The number of simple types of a thread's entries: no more than an entry may have, for each of a full book.
 pub record Tallied (es : List NumberedEntry) (sum : ℕ) : Type 0 where

@@ -31,14 +31,14 @@ pub fn key_of(word: &[u8]) -> usize
 }
 
 // Threads the entries of a book by their keys, from the last to the first, so that each thread has them in the book's order.
-pub fn thread_entries(book: &[u8], offsets: &[u16], count: usize, alike: &mut [u16])
-    requires { ⌜ Entries (now book) (now offsets) count × NoneAlike (now alike) ⌝ }
-    ensures { λ _. ⌜ Alike (now (book .entry)) (now (offsets .entry)) count (now (alike .exit)) ⌝ }
+pub fn thread_entries(book: &[u8], entries: &[u16], alike: &mut [u16])
+    requires { ⌜ Entries (now book) (now entries) × NoneAlike (now alike) ⌝ }
+    ensures { λ _. ⌜ Alike (now (book .entry)) (now (entries .entry)) (now (alike .exit)) ⌝ }
 {
-    let mut i = count;
+    let mut i = entries.len();
     while 0 < i {
         i -= 1;
-        let head = MAX_ENTRIES + key_of(entry_word(book, wide_number(offsets[i])));
+        let head = MAX_ENTRIES + key_of(entry_word(book, wide_number(entries[i])));
         alike[i] = alike[head];
         alike[head] = i as u16;
     }

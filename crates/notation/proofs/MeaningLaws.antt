@@ -19,20 +19,20 @@ use Rattle.notation.proofs.Induction.{Inductive, all-types}
 use Rattle.notation.proofs.Counting.{times-append, name-without, unit-balanced, Shallow, not-deep-shallow, shallow-first, shallow-second, shallow-behind, shallow-inside, not-shallow}
 
 -- A whole number from −n to n.
-abbrev pub Within : ℕ → ℤ → Type 0
-Within n (pos k) = k ≤ n
-Within n (negsuc k) = k < n
+abbrev pub ExponentWithin : ℕ → ℤ → Type 0
+ExponentWithin n (pos k) = k ≤ n
+ExponentWithin n (negsuc k) = k < n
 
-within-more : (n : ℕ) (z : ℤ) → Within n z → Within (suc n) z
+within-more : (n : ℕ) (z : ℤ) → ExponentWithin n z → ExponentWithin (suc n) z
 within-more n (pos k) h = omega arith
 within-more n (negsuc k) h = omega arith
 
-within-down : (n : ℕ) (z : ℤ) → Within n z → Within (suc n) (predℤ z)
+within-down : (n : ℕ) (z : ℤ) → ExponentWithin n z → ExponentWithin (suc n) (predℤ z)
 within-down n (pos zero) h = omega arith
 within-down n (pos (suc k)) h = omega arith
 within-down n (negsuc k) h = omega arith
 
-within-up : (n : ℕ) (z : ℤ) → Within n z → Within (suc n) (sucℤ z)
+within-up : (n : ℕ) (z : ℤ) → ExponentWithin n z → ExponentWithin (suc n) (sucℤ z)
 within-up n (pos k) h = omega arith
 within-up n (negsuc zero) h = omega arith
 within-up n (negsuc (suc k)) h = omega arith
@@ -53,15 +53,15 @@ each-adjoint P Q f step (y ∷ X) h =
 
 -- The exponents of a type, from −n to n.
 abbrev Bounded : ℕ → PregroupType → Type 0
-Bounded n X = Each (λ x. Within n (x .exponent)) X
+Bounded n X = Each (λ x. ExponentWithin n (x .exponent)) X
 
 bounded-left : (n : ℕ) (X : PregroupType) → Bounded n X → Bounded (suc n) (leftAdjoint X)
 bounded-left n X h =
-    each-adjoint (λ x. Within n (x .exponent)) (λ x. Within (suc n) (x .exponent)) simpleLeft (λ x k. within-down n (x .exponent) k) X h
+    each-adjoint (λ x. ExponentWithin n (x .exponent)) (λ x. ExponentWithin (suc n) (x .exponent)) simpleLeft (λ x k. within-down n (x .exponent) k) X h
 
 bounded-right : (n : ℕ) (X : PregroupType) → Bounded n X → Bounded (suc n) (rightAdjoint X)
 bounded-right n X h =
-    each-adjoint (λ x. Within n (x .exponent)) (λ x. Within (suc n) (x .exponent)) simpleRight (λ x k. within-up n (x .exponent) k) X h
+    each-adjoint (λ x. ExponentWithin n (x .exponent)) (λ x. ExponentWithin (suc n) (x .exponent)) simpleRight (λ x k. within-up n (x .exponent) k) X h
 
 bounded-more : (n : ℕ) (X : PregroupType) → Bounded n X → Bounded (suc n) X
 bounded-more n X h x m = within-more n (x .exponent) (h x m)
@@ -81,22 +81,22 @@ module _ (names : List Bytes) where
   all-bounded : Inductive UnitBounded TypeBounded
   unfolding meaning
   all-bounded = record {
-    of-name = λ name h d s x m. subst (λ (y : Simple). Within d (y .exponent)) (sym (List·Memᴰ·eq-of-singleton m)) (omega arith);
+    of-name = λ name h d s x m. subst (λ (y : Simple). ExponentWithin d (y .exponent)) (sym (List·Memᴰ·eq-of-singleton m)) (omega arith);
     of-brackets = brackets-bounded;
     of-unit = λ text T h d s. bounded-more d (meaning names T) (h d s);
     of-slash = λ a b A B u v h k d s.
-        each-append (λ x. Within (suc d) (x .exponent)) (meaning names A) (leftAdjoint (meaning names B))
+        each-append (λ x. ExponentWithin (suc d) (x .exponent)) (meaning names A) (leftAdjoint (meaning names B))
         (bounded-more d (meaning names A) (h d (shallow-first d a (slash ∷ b) s)))
         (bounded-left d (meaning names B) (k d (shallow-behind d slash b refl refl (shallow-second d a (slash ∷ b) (unit-balanced u) s))));
     of-backslash = λ b a B A u v h k d s.
-        each-append (λ x. Within (suc d) (x .exponent)) (rightAdjoint (meaning names B)) (meaning names A)
+        each-append (λ x. ExponentWithin (suc d) (x .exponent)) (rightAdjoint (meaning names B)) (meaning names A)
         (bounded-right d (meaning names B) (h d (shallow-first d b (backslash ∷ a) s)))
         (bounded-more d (meaning names A) (k d (shallow-behind d backslash a refl refl (shallow-second d b (backslash ∷ a) (unit-balanced u) s))));
   }
 
 -- The exponents of a text that is not too deep go from −7 to 7.
 pub exponents-within :
-    (names : List Bytes) (text : Bytes) (T : Tree) → IsType text T → tooDeep text ≡ false → (x : Simple) → List·Memᴰ x (meaning names T) → Within 7 (x .exponent)
+    (names : List Bytes) (text : Bytes) (T : Tree) → IsType text T → tooDeep text ≡ false → (x : Simple) → List·Memᴰ x (meaning names T) → ExponentWithin 7 (x .exponent)
 exponents-within names text T t h = all-types (all-bounded names) t maxDepth (not-deep-shallow text h)
 
 length-adjoint : (f : Simple → Simple) (X : PregroupType) → length (adjointBy f X) ≡ length X

@@ -11,7 +11,7 @@ use lib.Seq.{getD-set-same, getD-set-other}
 use Rattle.pregroup.specs.Types.{Simple, PregroupType, plain, simpleLeft, simpleRight, adjointBy}
 use Rattle.pregroup.specs.Held.{bias, held}
 use Rattle.pregroup.proofs.HeldLaws.{held-up, held-down}
-use Rattle.notation.specs.Places.{Holds, one, Movable, moved, Turnable, Turned, Tame}
+use Rattle.notation.specs.Places.{Holds, one, Movable, moved, Turnable, StretchTurned, Tame}
 
 -- A store leaves every place inside.
 pub still-inside : (l : List ℕ) (i x : ℕ) {k : ℕ} → k < length l → k < length (set l i x)
@@ -20,7 +20,7 @@ still-inside l i x h = omega (arith, length-set l i x)
 -- One place alone is turned where it stands.
 pub turned-alone :
     {left : Bool} {places : List ℕ} {from end x : ℕ} → Turnable places from end → end - from ≡ 1 → x ≡ moved left (getD {A = ℕ} places from 0)
-    → Turned left places from end (set places from x)
+    → StretchTurned left places from end (set places from x)
 turned-alone {left} {places} {from} {end} {x} able alone is-x =
     record {
       turned = λ k l m.
@@ -108,7 +108,7 @@ module _ {left : Bool} {places : List ℕ} {from end : ℕ} {places′ : List �
       backs k l m (no d) = other k (omega (arith, d)) d ∙ t .back k (omega (arith, d)) m
 
 pub turning-end :
-    {left : Bool} {places : List ℕ} {from end : ℕ} {places′ : List ℕ} {i j : ℕ} → Turning left places from end places′ i j → j ≤ i → Turned left places from end places′
+    {left : Bool} {places : List ℕ} {from end : ℕ} {places′ : List ℕ} {i j : ℕ} → Turning left places from end places′ i j → j ≤ i → StretchTurned left places from end places′
 turning-end {left} {places} {from} {end} {places′} {i} {j} t h = record { turned = λ k l m. go k l m (decLt k i); before = t .before }
   where
     go : (k : ℕ) → from ≤ k → k < end → Dec (k < i) → getD {A = ℕ} places′ k 0 ≡ moved left (getD {A = ℕ} places (from + end - suc k) 0)
@@ -157,7 +157,7 @@ module _ (f : Simple → Simple) where
           ap (λ (m : ℕ). getD (adjointBy f X ++ (f x ∷ [])) m (plain 0)) e ∙ simple-behind (adjointBy f X) (f x ∷ []) 0 ∙ sym (ap (λ (m : ℕ). f (getD (x ∷ X) m (plain 0))) n)
 
 -- A type turned.
-module _ {left : Bool} {places : List ℕ} {from end : ℕ} {places′ : List ℕ} (able : Turnable places from end) (t : Turned left places from end places′) where
+module _ {left : Bool} {places : List ℕ} {from end : ℕ} {places′ : List ℕ} (able : Turnable places from end) (t : StretchTurned left places from end places′) where
   pub turned-holds : (X : PregroupType) → end ≡ from + length X → Holds places from X → Holds places′ from (adjointBy (side left) X)
   turned-holds X size h =
       record {

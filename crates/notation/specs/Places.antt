@@ -11,7 +11,7 @@ use Rattle.pregroup.specs.Held.{bias, held}
 pub record Holds (places : List ℕ) (from : ℕ) (X : PregroupType) : Type 0 where
   pub each : (k : ℕ) → k < length X → held (getD {A = ℕ} places (from + k) 0) ≡ getD X k (plain 0)
 
--- What a held simple type changes by where its exponent changes by one.
+-- What is added to a held simple type to raise its exponent by one.
 abbrev pub one : ℕ
 one = 256
 
@@ -30,7 +30,7 @@ pub record Turnable (places : List ℕ) (from end : ℕ) : Type 0 where
   pub inside : end ≤ length places
   pub movable : (k : ℕ) → from ≤ k → k < end → Movable (getD {A = ℕ} places k 0)
 
-pub record Turned (left : Bool) (places : List ℕ) (from end : ℕ) (places′ : List ℕ) : Type 0 where
+pub record StretchTurned (left : Bool) (places : List ℕ) (from end : ℕ) (places′ : List ℕ) : Type 0 where
   pub turned : (k : ℕ) → from ≤ k → k < end → getD {A = ℕ} places′ k 0 ≡ moved left (getD {A = ℕ} places (from + end - suc k) 0)
   pub before : (k : ℕ) → k < from → getD {A = ℕ} places′ k 0 ≡ getD {A = ℕ} places k 0
 

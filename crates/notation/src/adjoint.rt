@@ -1,6 +1,6 @@
 // The adjoint of a type in place: the string reversed, and every exponent moved by one.
 ghost use mathlib.Core.Path.{_≡_};
-ghost use Rattle.notation.specs.Places.{moved, Turnable, Turned, Movable};
+ghost use Rattle.notation.specs.Places.{moved, Turnable, StretchTurned, Movable};
 
 // What is added to a held simple type, or taken from it, to move its exponent by one.
 const ONE: u16 = 256;
@@ -16,7 +16,7 @@ fn shift(simple: u16, left: bool) -> u16
 // Turns the type at the places from `from` up to `end` into its left or right adjoint. Most have one simple type, and are moved where they stand.
 pub fn turn(places: &mut [u16], from: usize, end: usize, left: bool)
     requires { ⌜ Turnable (now places) from end ⌝ }
-    ensures { λ _. ⌜ Turned left (now (places .entry)) from end (now (places .exit)) ⌝ }
+    ensures { λ _. ⌜ StretchTurned left (now (places .entry)) from end (now (places .exit)) ⌝ }
 {
     if end - from == 1 {
         places[from] = shift(places[from], left);

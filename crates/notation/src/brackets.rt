@@ -30,7 +30,7 @@ pub fn is_too_deep(text: &[u8]) -> bool
     false
 }
 
-// How many simple types a type has that is written as this text: one more than it has slashes.
+// How many simple types the type of this text has: one more than the text has slashes.
 pub fn count_simples(text: &[u8]) -> usize
     ensures { λ r. ⌜ r ≡ suc (slashes (now (text .entry))) ⌝ }
 {

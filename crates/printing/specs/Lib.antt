@@ -1,5 +1,4 @@
--- Rows of text, and how they are put into a lent buffer.
+-- Rows of text, and what they are put from.
 pub mod Text
 pub mod Rows
-pub mod Placed
 pub mod Kept

@@ -7,7 +7,8 @@ use Rattle.pregroup.specs.Types.{PregroupType}
 use Rattle.letters.specs.Letters.{t}
 use Rattle.format.specs.Records.{Bytes}
 use Rattle.line.specs.LineWords.{Word}
-use Rattle.printing.specs.Text.{decimal, signed, row}
+use Rattle.writing.specs.Decimal.{decimal}
+use Rattle.printing.specs.Text.{signed, row}
 
 abbrev pub yes : Bytes
 yes = 121 ∷ 101 ∷ 115 ∷ []

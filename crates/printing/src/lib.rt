@@ -1,11 +1,13 @@
 // The rows of a listing, put into a lent buffer one behind another. specs/Rows says which fields a row has.
 mod text;
 
+use answer::parts::entries_of;
+use answer::parts::partners_of;
+use answer::parts::target_of;
 use bytewise::widths::value_at;
 use bytewise::widths::wide_number;
 use format::layout::body_at;
 use text::put_exponent;
-use text::put_letter;
 use text::put_number;
 use text::put_text;
 ghost use Prim.Native.Nat.{_<_};
@@ -17,8 +19,9 @@ ghost use Rattle.pregroup.specs.Held.{bias, held};
 ghost use Rattle.format.specs.Records.{Whole, bodiesAt};
 ghost use Rattle.line.specs.LineWords.{wordsOf};
 ghost use Rattle.printing.specs.Rows.{firstRow, wordRow, typeRow, refusalRow, wordRows, typeRows};
-ghost use Rattle.printing.specs.Kept.{LineKept, keptRows, Puttable};
-ghost use Rattle.printing.specs.Placed.{Countable, Placed};
+ghost use Rattle.line.specs.Split.{SplitInto};
+ghost use Rattle.printing.specs.Kept.{keptRows, Puttable};
+ghost use Rattle.writing.specs.Placed.{Countable, Placed};
 
 const SPACE: u8 = 32;
 
@@ -83,7 +86,7 @@ fn put_type_row(
     let at = put_text(name, SPACE, text, at);
     let at = put_exponent(raised, SPACE, text, at);
     let at = put_number(partner, SPACE, text, at);
-    put_letter(letter, ROW_END, text, at)
+    put_text(&[letter], ROW_END, text, at)
 }
 
 // The rows of a line's words, which are split off.
@@ -91,18 +94,17 @@ fn put_word_rows(
     line: &[u8],
     starts: &[usize],
     ends: &[usize],
-    words: usize,
     entries: &[u16],
     text: &mut [u8],
     at: usize,
 ) -> usize
-    requires { ⌜ LineKept (now line) (now starts) (now ends) words ⌝ }
+    requires { ⌜ SplitInto (now line) (now starts) (now ends) ⌝ }
     requires { ⌜ Countable at (wordRows (now entries) 0 (wordsOf (now line))) ⌝ }
     ensures { λ r. ⌜ Placed (now (text .entry)) at (wordRows (now (entries .entry)) 0 (wordsOf (now (line .entry)))) (now (text .exit)) r ⌝ }
 {
     let mut next = at;
     let mut k = 0;
-    while k < words {
+    while k < starts.len() {
         let start = starts[k];
         let end = ends[k];
         let entry = value_at(entries, k);
@@ -140,7 +142,7 @@ fn put_type_rows(
     next
 }
 
-// All rows of a reading, from the start of the buffer on.
+// All rows of a reading by an answer's values, from the start of the buffer on.
 pub fn put_reading(
     book: &[u8],
     names: &[u16],
@@ -148,20 +150,20 @@ pub fn put_reading(
     line: &[u8],
     starts: &[usize],
     ends: &[usize],
-    words: usize,
-    target: usize,
-    chosen: &[u16],
+    values: &[u16],
     string: &[u16],
     letters: &[u8],
-    partners: &[u16],
     text: &mut [u8],
 ) -> usize
-    requires { ⌜ Puttable (now book) (now names) types (now line) (now starts) (now ends) words target (now chosen) (now string) (now letters) (now partners) ⌝ }
+    requires { ⌜ Puttable (now book) (now names) types (now line) (now starts) (now ends) (now values) (now string) (now letters) ⌝ }
     ensures { λ r. ⌜ Placed (now (text .entry)) 0
-        (keptRows (now (book .entry)) (now (names .entry)) types (now (line .entry)) target (now (chosen .entry)) (now (string .entry)) (now (letters .entry)) (now (partners .entry)))
+        (keptRows (now (book .entry)) (now (names .entry)) types (now (line .entry)) (now (values .entry)) (now (string .entry)) (now (letters .entry)))
         (now (text .exit)) r ⌝ }
 {
-    let at = put_first_row(chosen.len(), partners.len(), target, text, 0);
-    let at = put_word_rows(line, starts, ends, words, chosen, text, at);
+    let target = target_of(values);
+    let entries = entries_of(values);
+    let partners = partners_of(values);
+    let at = put_first_row(entries.len(), partners.len(), target, text, 0);
+    let at = put_word_rows(line, starts, ends, entries, text, at);
     put_type_rows(book, names, types, string, letters, partners, text, at)
 }

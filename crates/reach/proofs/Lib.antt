@@ -1,2 +1,2 @@
--- Laws on charting words.
+-- The graph of words that are looked up.
 pub mod DrawnLaws

@@ -1,3 +1,2 @@
--- Words that are looked up, and what their chart says.
-pub mod FoundWords
+-- What the chart of words says.
 pub mod Charted

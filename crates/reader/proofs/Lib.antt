@@ -9,5 +9,5 @@ pub mod Ample
 pub mod Capitals
 pub mod Spellings
 pub mod Notations
-pub mod OpeningLaws
+pub mod Given
 pub mod Theorems

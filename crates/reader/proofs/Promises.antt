@@ -19,7 +19,7 @@ use Rattle.order.proofs.ClosureLaws.{closed-is-order}
 use Rattle.format.specs.Records.{Bytes}
 use Rattle.book.specs.Format.{Book, Parsed, accepted, refused, parse}
 use Rattle.book.proofs.Accepted.{accepted-declares}
-use Rattle.linking.specs.Reading.{Words, Answer, answer, IsReading, IsFirst, firstReading}
+use Rattle.linking.specs.Reading.{Words, Answer, answer, IsReading, HasChain, IsFirst, firstReading}
 use Rattle.linking.specs.Ascending.{AllAscending}
 use Rattle.linking.proofs.FirstReading.{first-reading-some, first-reading-none, first-reading-unique}
 use Rattle.linking.proofs.Derivation.{unread-iff-no-chain}
@@ -28,12 +28,12 @@ use Rattle.line.proofs.Passed.{line-passing}
 use Rattle.answer.specs.declared.LineAnswer.{LineAnswer}
 use Rattle.answer.specs.declared.LineAnswer.the-variants.{Read, Refused}
 use Rattle.answer.proofs.GivenLaws.{read-refused}
-use Rattle.answer.specs.Answers.{Outcome, lineReply, valuesOf, given}
+use Rattle.answer.specs.Answers.{Outcome, lineReply, valuesOf, answerLength, given}
 use Rattle.reader.specs.Outcome.{readAgainst, readParsed, outcome}
-use Rattle.reader.specs.Demands.{OrderOf, Readable, Written, TooShort, NoChain, Promised, LineNumber}
+use Rattle.reader.specs.Demands.{OrderOf, Readable, FirstWritten, TooShort, Promised, LineNumber}
 use Rattle.reader.proofs.Refusals.{line-some, NamedParse, parse-named, NamedLine, line-named}
 
-pub values-count : (a : Answer) → length (valuesOf a) ≡ 3 + length (a .entries) + length (a .partners)
+pub values-count : (a : Answer) → length (valuesOf a) ≡ answerLength (length (a .entries)) (length (a .partners))
 values-count a = let n = length-append (a .entries) (length (a .partners) ∷ a .partners) in omega arith
 
 -- The three outcomes that `given` has.
@@ -100,7 +100,7 @@ module _ (book line : Bytes) (B : Book) (words : Words) (r : Readable book line 
   first-none : firstOf ≡ none → (t : ℕ) (entries partners : List ℕ) → IsReading (OrderOf B) (B .targets) words t entries partners → ⊥
   first-none e = first-reading-none decides ascending .0 e
 
-  none-iff : (firstOf ≡ none) ↔ NoChain B words
+  none-iff : (firstOf ≡ none) ↔ (HasChain (OrderOf B) (B .targets) words → ⊥)
   none-iff = unread-iff-no-chain (closed-is-order declared) (B .targets) (accepted-declares book B (r .book-accepted) .targets) words decides ascending
 
   module _ {buffer : List ℕ} where
@@ -110,12 +110,12 @@ module _ (book line : Bytes) (B : Book) (words : Words) (r : Readable book line 
     untouched-of (enough l) h = absurd (h refl)
 
     written-of : {o : Option Answer} {answer : LineAnswer} {after : List ℕ} → Given buffer o answer after → firstOf ≡ o → lineReply answer after .number ≡ 0
-        → Written B words buffer (lineReply answer after .values) after
+        → FirstWritten B words buffer (lineReply answer after .values) after
     written-of no-answer e h = absurd (omega arith)
     written-of (too-short l) e h = absurd (omega arith)
     written-of (enough {a} l) e h =
-        subst (λ (values : List ℕ). Written B words buffer values (valuesOf a ++ drop (length (valuesOf a)) buffer)) (sym (take-append-seam (valuesOf a) (drop (length (valuesOf a)) buffer)))
-        (record { target = a .target; entries = a .entries; partners = a .partners; first = is-first a e; whole = refl; room = l; behind = refl })
+        subst (λ (values : List ℕ). FirstWritten B words buffer values (valuesOf a ++ drop (length (valuesOf a)) buffer)) (sym (take-append-seam (valuesOf a) (drop (length (valuesOf a)) buffer)))
+        (record { reading = record { reading = a; first = is-first a e; whole = refl }; room = l; behind = refl })
 
     counted-of : {o : Option Answer} {answer : LineAnswer} {after : List ℕ} → Given buffer o answer after → (n : ℕ) → answer ≡ Read n → n ≡ length (lineReply answer after .values)
     counted-of no-answer n h = read-refused (sym h)
@@ -126,7 +126,7 @@ module _ (book line : Bytes) (B : Book) (words : Words) (r : Readable book line 
 
     -- A first reading that is too long is the one there is.
     count-of : {a : Answer} {v : ℕ} → firstOf ≡ some a → TooShort B words buffer v → length (valuesOf a) ≡ v
-    count-of {a} e t = values-count a ∙ ap (λ (b : Answer). 3 + length (b .entries) + length (b .partners)) (some-same (sym e ∙ of-first (t .first))) ∙ sym (t .needed)
+    count-of {a} e t = values-count a ∙ ap (λ (b : Answer). answerLength (length (b .entries)) (length (b .partners))) (some-same (sym e ∙ of-first (t .first))) ∙ sym (t .needed)
 
     short-of : {o : Option Answer} {answer : LineAnswer} {after : List ℕ} → Given buffer o answer after → firstOf ≡ o → (v : ℕ)
         → (lineReply answer after ≡ refusal bufferTooShort v) ↔ TooShort B words buffer v
@@ -134,7 +134,7 @@ module _ (book line : Bytes) (B : Book) (words : Words) (r : Readable book line 
     short-of (too-short {a} l) e v = (
       λ h.
           let q : length (valuesOf a) ≡ v = same-value h in
-          subst (λ (m : ℕ). TooShort B words buffer m) q (record { target = a .target; entries = a .entries; partners = a .partners; first = is-first a e; needed = values-count a; lent = l }),
+          subst (λ (m : ℕ). TooShort B words buffer m) q (record { reading = a; first = is-first a e; needed = values-count a; lent = l }),
       λ t. ap (refusal bufferTooShort) (count-of e t),
     )
     short-of (enough {a} l) e v = (λ h. other-number (omega arith) h, λ t. let q = count-of e t in let lent = t .lent in absurd (omega arith))
@@ -147,7 +147,7 @@ module _ (book line : Bytes) (B : Book) (words : Words) (r : Readable book line 
     found-of : {o : Option Answer} {answer : LineAnswer} {after : List ℕ} → Given buffer o answer after → firstOf ≡ o → (o ≡ none → ⊥)
         → (lineReply answer after .number ≡ 0) ⊎ ((v : ℕ) × TooShort B words buffer v)
     found-of no-answer e h = absurd (h refl)
-    found-of (too-short {a} l) e h = inr (length (valuesOf a), record { target = a .target; entries = a .entries; partners = a .partners; first = is-first a e; needed = values-count a; lent = l })
+    found-of (too-short {a} l) e h = inr (length (valuesOf a), record { reading = a; first = is-first a e; needed = values-count a; lent = l })
     found-of (enough {a} l) e h = inl refl
 
 module _ (book line : Bytes) (buffer : List ℕ) where
@@ -175,7 +175,7 @@ module _ (book line : Bytes) (buffer : List ℕ) where
   untouched-came (came-to-read {B} {words} r g) h = untouched-of book line B words r g h
 
   written-came : {answer : LineAnswer} {after : List ℕ} → Came answer after → lineReply answer after .number ≡ 0
-      → (B : Book) × (words : Words) × Readable book line B words × Written B words buffer (lineReply answer after .values) after
+      → (B : Book) × (words : Words) × Readable book line B words × FirstWritten B words buffer (lineReply answer after .values) after
   written-came (refused-before named) h = absurd (omega (arith, line-some named))
   written-came (came-to-read {B} {words} r g) h = (B, words, r, written-of book line B words r g refl h)
 

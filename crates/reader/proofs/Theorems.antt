@@ -17,7 +17,7 @@ use Rattle.pregroup.specs.Tests.{Test, Decides}
 use Rattle.pregroup.proofs.General.{general, general-left}
 use Rattle.pregroup.proofs.Switching.{switching, switching-contractions}
 use Rattle.linking.specs.Linking.{IsLinking}
-use Rattle.linking.specs.Reading.{Words, Choice, targetAt, IsReading, IsFirst, answer, firstReading}
+use Rattle.linking.specs.Reading.{Words, targetAt, IsReading, HasReading, HasChain, IsFirst, answer, firstReading}
 use Rattle.linking.specs.Ascending.{AllAscending}
 use Rattle.linking.proofs.Reduction.{linking-iff-reduces}
 use Rattle.linking.proofs.FirstReading.{first-reading-some, first-reading-none, first-reading-unique}
@@ -78,8 +78,7 @@ module _ {Declared : Basic → Type 0} {Le : Relation} (order : IsOrder Declared
 
   -- A line has a reading exactly when the type of some choice can be turned into some target.
   pub reading-exactly-when-chain : (targets : List Basic) → ((t : ℕ) → t < length targets → Declared (targetAt targets t)) → (words : Words)
-      → ((t : ℕ) × (ns : List ℕ) × (P : List ℕ) × IsReading Le targets words t ns P)
-      ↔ ((t : ℕ) × (t < length targets) × (ns : List ℕ) × (X : PregroupType) × Choice words ns X × Chain Le X (plain (targetAt targets t) ∷ []))
+      → HasReading Le targets words ↔ HasChain Le targets words
   reading-exactly-when-chain = reading-iff-chain order
 
 -- A type has a linking exactly when everything in it but one plain type at or below the target links up.

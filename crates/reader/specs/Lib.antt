@@ -1,4 +1,3 @@
 -- What reading a line against a book comes to.
 pub mod Outcome
 pub mod Demands
-pub mod Runs

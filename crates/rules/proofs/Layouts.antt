@@ -1,10 +1,10 @@
 -- The layouts of a word and of an entry, by the tests in their order: the first that fails decides, and the last is the answer.
-use Prim.Native.Nat.{ℕ, _+_, _-_, _*_, _%_, _≤_, _<_}
+use Prim.Native.Nat.{ℕ, _*_, _%_, _≤_, _<_}
 use native.Mathlib.Omega.{arith}
-use mathlib.Core.Path.{_≡_, ap, _∙_}
+use mathlib.Core.Path.{_≡_}
 use mathlib.Core.Bool.{Bool, true, false}
 use lib.Dec.{leb}
-use lib.ListN.{length, take, drop, List·getD-eq-default}
+use lib.ListN.{length, List·getD-eq-default}
 use borrow.Author.Tests.{lt-ltb, le-ltb, eq-eqb, ne-eqb, leb-true, ltb-true, eqb-true}
 use Rattle.figures.specs.Limits.{maxWord, maxEntrySimples}
 use Rattle.format.specs.Records.{Bytes, every, between}
@@ -24,14 +24,9 @@ module _ (body : Bytes) where
     unfolding isWorded
     worded-past h = rw (inside 1 maxWord (wordLength body) range, le-ltb (wordLength body) (length body) h)
 
-    -- The word as the part from 1 up to its end.
-    pub worded-end :
-        wordLength body < length body → (n : ℕ) → n ≡ wordLength body → (t : Bool) → t ≡ every (between 33 126) (take (1 + n - 1) (drop 1 body)) → t ≡ isWorded body
+    pub worded-end : wordLength body < length body → (t : Bool) → t ≡ every (between 33 126) (wordOf body) → t ≡ isWorded body
     unfolding isWorded
-    worded-end fits n e t h =
-        let same : 1 + n - 1 ≡ wordLength body = omega arith in
-        let word : t ≡ every (between 33 126) (wordOf body) = h ∙ ap (λ (k : ℕ). every (between 33 126) (take k (drop 1 body))) same in
-        rw (inside 1 maxWord (wordLength body) range, lt-ltb (wordLength body) (length body) fits) word
+    worded-end fits t word = rw (inside 1 maxWord (wordLength body) range, lt-ltb (wordLength body) (length body) fits) word
 
   pub entry-unworded : isWorded body ≡ false → false ≡ isEntry body
   unfolding isEntry

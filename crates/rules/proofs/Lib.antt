@@ -1,6 +1,7 @@
 -- Laws that the proofs of several functions cite.
 pub mod Bools
 pub mod Layouts
+pub mod KindLaws
 pub mod EntryLaws
 pub mod Simples
 pub mod HeldDeclared

@@ -12,7 +12,7 @@ use Rattle.format.specs.Records.{Bytes, every}
 use Rattle.notation.specs.Brackets.{tooDeep}
 use Rattle.notation.specs.Trees.{hasTree, textType}
 use Rattle.rules.proofs.Texts.{text-exponents-listed}
-use Rattle.rules.specs.Layouts.{typePart, isWorded}
+use Rattle.rules.specs.Layouts.{typePart, isWorded, slashed}
 use Rattle.rules.specs.Rules.{bases, exponents, declaredAmong, exponentListed, bodyRules, firstBroken}
 
 -- The rules for a slashed entry by the answers of their tests: where every text that is not too deep has listed exponents, 6 is not reached.
@@ -30,7 +30,7 @@ not-reached true false true true true true full h e = omega arith
 not-reached true false true true true false true h e = omega arith
 not-reached true false true true true false false h e = omega arith
 
-pub no-exponent-fault : (body : Bytes) (names : List Bytes) (entries targets : ℕ) → firstBroken (bodyRules 5 body names entries targets) ≡ exponentOutside → ⊥
+pub no-exponent-fault : (body : Bytes) (names : List Bytes) (entries targets : ℕ) → firstBroken (bodyRules slashed body names entries targets) ≡ exponentOutside → ⊥
 unfolding bodyRules firstBroken
 no-exponent-fault body names entries targets e =
     let part = typePart body in

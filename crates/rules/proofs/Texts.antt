@@ -20,9 +20,9 @@ use Rattle.notation.specs.Trees.{treeOf, isSome, hasTree, meaningOf, textType, 
 use Rattle.notation.specs.Places.{Holds}
 use Rattle.slash.specs.Parsing.{room, TextSays}
 use Rattle.notation.proofs.TreeLaws.{tree-sound}
-use Rattle.notation.proofs.MeaningLaws.{Within, exponents-within, simples-count}
-use Rattle.rules.specs.Layouts.{typePart, isWorded}
-use Rattle.rules.specs.Rules.{bases, declaredAmong, exponents, exponentListed, bodyRules, firstBroken}
+use Rattle.notation.proofs.MeaningLaws.{ExponentWithin, exponents-within, simples-count}
+use Rattle.rules.specs.Layouts.{slashed-entry, typePart, isWorded}
+use Rattle.rules.specs.Rules.{bases, declaredAmong, exponents, exponentListed, kindRules, firstBroken}
 use Rattle.rules.proofs.Faults.{slashed-faults}
 
 -- There is room for the longest type of a text.
@@ -56,12 +56,12 @@ module _ (names : List Bytes) (text : Bytes) where
       go none h = absurd (h refl)
       go (some T) h = refl
 
-within-listed : (z : ℤ) → Within 7 z → exponentListed z ≡ true
+within-listed : (z : ℤ) → ExponentWithin 7 z → exponentListed z ≡ true
 unfolding exponentListed
 within-listed (pos n) h = le-leb n maxExponent (omega arith)
 within-listed (negsuc n) h = lt-ltb n maxExponent (omega arith)
 
-each-listed : (X : PregroupType) → ((x : Simple) → List·Memᴰ x X → Within 7 (x .exponent)) → every exponentListed (exponents X) ≡ true
+each-listed : (X : PregroupType) → ((x : Simple) → List·Memᴰ x X → ExponentWithin 7 (x .exponent)) → every exponentListed (exponents X) ≡ true
 unfolding every
 each-listed [] h = refl
 each-listed (x ∷ X) h = rw (within-listed (x .exponent) (h x (List·Memᴰ·head refl)), each-listed X (λ y m. h y (List·Memᴰ·tail m)))
@@ -110,7 +110,7 @@ module _ (names : List Bytes) (text : Bytes) (body : Bytes) (entries : ℕ) (tar
       → every (declaredAmong (length names)) (bases (textType names text)) ≡ declared
       → every exponentListed (exponents (textType names text)) ≡ listed
       → ltb maxEntrySimples (length (textType names text)) ≡ long → leb maxEntries entries ≡ full
-      → firstBroken (bodyRules 5 body names entries targets)
+      → firstBroken (kindRules slashed-entry body names entries targets)
       ≡ cond deep bracketsTooDeep
       (cond (not tree) notAType
       (cond (not declared) undeclaredType (cond (not listed) exponentOutside (cond long typeTooLong (cond full tooManyRecords 0)))))
@@ -120,31 +120,31 @@ module _ (names : List Bytes) (text : Bytes) (body : Bytes) (entries : ℕ) (tar
       (ap (λ (x : Bytes). every exponentListed (exponents (textType names x))) is ∙ e)
       (ap (λ (x : Bytes). ltb maxEntrySimples (length (textType names x))) is ∙ s) f
 
-  pub text-unread : length (shallowType names text) ≡ 0 → cond (tooDeep text) bracketsTooDeep notAType ≡ firstBroken (bodyRules 5 body names entries targets)
+  pub text-unread : length (shallowType names text) ≡ 0 → cond (tooDeep text) bracketsTooDeep notAType ≡ firstBroken (kindRules slashed-entry body names entries targets)
   text-unread h = go (tooDeep text) refl
     where
-      go : (deep : Bool) → tooDeep text ≡ deep → cond deep bracketsTooDeep notAType ≡ firstBroken (bodyRules 5 body names entries targets)
+      go : (deep : Bool) → tooDeep text ≡ deep → cond deep bracketsTooDeep notAType ≡ firstBroken (kindRules slashed-entry body names entries targets)
       go true e = sym (text-faults e refl refl refl refl refl)
       go false e =
           sym (text-faults e (text-treeless names text (sym (ap (λ (b : Bool). length (type-if names text b)) e) ∙ h)) refl refl refl refl)
 
   module _ {places : List ℕ} {count : ℕ} (s : Shown names text places count) where
-    pub text-undeclared : every (declaredAmong (length names)) (bases (textType names text)) ≡ false → undeclaredType ≡ firstBroken (bodyRules 5 body names entries targets)
+    pub text-undeclared : every (declaredAmong (length names)) (bases (textType names text)) ≡ false → undeclaredType ≡ firstBroken (kindRules slashed-entry body names entries targets)
     text-undeclared d = sym (text-faults (s .shallow) (s .tree) d refl refl refl)
 
     module _ (declared : every (declaredAmong (length names)) (bases (textType names text)) ≡ true) where
       text-declared :
           {long full : Bool} → ltb maxEntrySimples (length (textType names text)) ≡ long → leb maxEntries entries ≡ full
-          → cond long typeTooLong (cond full tooManyRecords 0) ≡ firstBroken (bodyRules 5 body names entries targets)
+          → cond long typeTooLong (cond full tooManyRecords 0) ≡ firstBroken (kindRules slashed-entry body names entries targets)
       text-declared l f = sym (text-faults (s .shallow) (s .tree) declared (text-exponents-listed names text (s .shallow)) l f)
 
-      pub text-long : maxEntrySimples < count → typeTooLong ≡ firstBroken (bodyRules 5 body names entries targets)
+      pub text-long : maxEntrySimples < count → typeTooLong ≡ firstBroken (kindRules slashed-entry body names entries targets)
       text-long h = text-declared (lt-ltb maxEntrySimples (length (textType names text)) (omega (arith, s .size))) refl
 
-      pub text-full : count ≤ maxEntrySimples → maxEntries ≤ entries → tooManyRecords ≡ firstBroken (bodyRules 5 body names entries targets)
+      pub text-full : count ≤ maxEntrySimples → maxEntries ≤ entries → tooManyRecords ≡ firstBroken (kindRules slashed-entry body names entries targets)
       text-full h k =
           text-declared (le-ltb maxEntrySimples (length (textType names text)) (omega (arith, s .size))) (le-leb maxEntries entries k)
 
-      pub text-clean : count ≤ maxEntrySimples → entries < maxEntries → 0 ≡ firstBroken (bodyRules 5 body names entries targets)
+      pub text-clean : count ≤ maxEntrySimples → entries < maxEntries → 0 ≡ firstBroken (kindRules slashed-entry body names entries targets)
       text-clean h k =
           text-declared (le-ltb maxEntrySimples (length (textType names text)) (omega (arith, s .size))) (lt-leb maxEntries entries k)

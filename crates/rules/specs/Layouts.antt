@@ -1,7 +1,8 @@
 -- Document 01, "The book's bytes", with document 02, 2.5: the kinds of records and the layout of an entry's body.
 use Prim.Native.Nat.{ℕ, _+_, _-_, _*_, _%_}
 use mathlib.Core.Bool.{Bool, cond, _&&_}
-use mathlib.Core.List.{[], _∷_, _++_}
+use mathlib.Core.Option.{Option, none, some}
+use mathlib.Core.List.{List, [], _∷_, _++_}
 use lib.Dec.{leb, ltb, eqb}
 use lib.IntN.{ℤ, pos, negsuc}
 use lib.ListN.{length, getD, take, drop}
@@ -9,13 +10,34 @@ use Rattle.figures.specs.Limits.{maxWord, maxEntrySimples}
 use Rattle.pregroup.specs.Types.{PregroupType, _⁽_⁾}
 use Rattle.format.specs.Records.{Bytes, every, between}
 
--- Of five things the one that goes with a listed kind: 1 basic type, 2 order pair, 3 entry, 4 target, 5 slashed entry.
-abbrev pub byKind {ℓ} : {A : Type ℓ} → ℕ → A → A → A → A → A → A
-byKind kind basic-type order-pair entry target slashed =
-    cond (eqb kind 1) basic-type (cond (eqb kind 2) order-pair (cond (eqb kind 3) entry (cond (eqb kind 4) target slashed)))
+-- The listed kinds of records, and the number that a record's head has for each.
+pub data Kind : Type 0 where
+  basic-type : Kind
+  order-pair : Kind
+  entry : Kind
+  target : Kind
+  slashed-entry : Kind
 
--- Kind 3, an entry: the word's length (1 to 31), the word (bytes 33 to 126), then 0 to 12 simple types, each a type number and an
--- exponent, a byte in two's complement. Kind 5, a slashed entry, has in their place the type's text (document 02, 2.5).
+abbrev pub kindNumber : Kind → ℕ
+kindNumber basic-type = 1
+kindNumber order-pair = 2
+kindNumber entry = 3
+kindNumber target = 4
+kindNumber slashed-entry = 5
+
+abbrev pub kinds : List Kind
+kinds = basic-type ∷ order-pair ∷ entry ∷ target ∷ slashed-entry ∷ []
+
+-- The kind that a number stands for, if it is listed.
+abbrev pub firstWith : ℕ → List Kind → Option Kind
+firstWith number [] = none
+firstWith number (kind ∷ more) = cond (eqb number (kindNumber kind)) (some kind) (firstWith number more)
+
+abbrev pub kindOf : ℕ → Option Kind
+kindOf number = firstWith number kinds
+
+-- An entry: the word's length (1 to 31), the word (bytes 33 to 126), then 0 to 12 simple types, each a type number and an exponent, a byte in
+-- two's complement. A slashed entry has in their place the type's text (document 02, 2.5).
 
 abbrev pub wordLength : Bytes → ℕ
 wordLength body = getD {A = ℕ} body 0 0
@@ -44,10 +66,10 @@ isWorded body = between 1 maxWord (wordLength body) && ltb (wordLength body) (le
 unfoldable pub isEntry : Bytes → Bool
 isEntry body = isWorded body && eqb (length (typePart body) % 2) 0 && leb (length (typePart body)) (2 * maxEntrySimples)
 
--- The kind of an entry whose type is a text, and the kinds of entries.
+-- The number of an entry whose type is a text, and the numbers of all entries.
 abbrev pub slashed : ℕ
-slashed = 5
+slashed = kindNumber slashed-entry
 
 pub data EntryKind : ℕ → Type 0 where
-  of-simples : EntryKind 3
+  of-simples : EntryKind (kindNumber entry)
   of-text : EntryKind slashed

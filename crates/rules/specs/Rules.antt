@@ -1,7 +1,8 @@
 -- Of document 01, "When the screen says no", causes 2 to 9, with document 02's 19 to 21: the rules for one record. They stand with their numbers in
--- `bodyRules` and `recordRules`, and the first of them that is broken counts.
+-- `kindRules`, `bodyRules` and `recordRules`, and the first of them that is broken counts.
 use Prim.Native.Nat.{ℕ, _+_}
-use mathlib.Core.Bool.{Bool, false, cond, not, _||_}
+use mathlib.Core.Bool.{Bool, true, cond, not, _||_}
+use mathlib.Core.Option.{none, some}
 use mathlib.Core.List.{List, [], _∷_, map}
 use lib.Dec.{leb, ltb, eqb}
 use lib.IntN.{ℤ, pos, negsuc}
@@ -9,11 +10,11 @@ use lib.ListN.{length}
 use Rattle.figures.specs.Limits.{maxTypes, maxEntries, maxTargets, maxEntrySimples, maxExponent}
 use Rattle.figures.specs.Refusals.{cutShort, kindNotListed, badLayout, undeclaredType, exponentOutside, nameUsed, tooManyTargets, tooManyRecords, bracketsTooDeep, notAType, typeTooLong}
 use Rattle.pregroup.specs.Types.{Basic, Simple, PregroupType}
-use Rattle.format.specs.Records.{Bytes, every, between, headLength, kindAt, bodyAt, nextAt}
+use Rattle.format.specs.Records.{Bytes, every, headLength, kindAt, bodyAt, nextAt}
 use Rattle.format.specs.Names.{isName, isAmong}
 use Rattle.notation.specs.Brackets.{tooDeep}
 use Rattle.notation.specs.Trees.{hasTree, textType}
-use Rattle.rules.specs.Layouts.{byKind, typePart, simplesOf, isWorded, isEntry}
+use Rattle.rules.specs.Layouts.{Kind, basic-type, order-pair, entry, target, slashed-entry, kindOf, typePart, simplesOf, isWorded, isEntry}
 
 -- What the rules ask of type numbers, exponents and names.
 
@@ -31,24 +32,46 @@ unfoldable pub exponentListed : ℤ → Bool
 exponentListed (pos n) = leb n maxExponent
 exponentListed (negsuc n) = ltb n maxExponent
 
--- The rules for a record that is there whole, each a number and whether the record is refused with it. Of the records before it they look at
--- the names of the basic types, the number of entries, and that of targets.
-unfoldable pub bodyRules : ℕ → Bytes → List Bytes → ℕ → ℕ → List (ℕ × Bool)
-bodyRules kind body names entries targets =
-    let part = typePart body in
-    let simples = simplesOf part in
-    let meant = textType names part in
-    (kindNotListed, not (between 1 5 kind))
-    ∷ (badLayout, not (byKind kind (isName body) (eqb (length body) 2) (isEntry body) (eqb (length body) 1) (isWorded body)))
-    ∷ (bracketsTooDeep, byKind kind false false false false (tooDeep part))
-    ∷ (notAType, byKind kind false false false false (not (hasTree part)))
-    ∷ (undeclaredType, not (every (declaredAmong (length names)) (byKind kind [] body (bases simples) body (bases meant))))
-    ∷ (exponentOutside, not (every exponentListed (byKind kind [] [] (exponents simples) [] (exponents meant))))
-    ∷ (typeTooLong, byKind kind false false false false (ltb maxEntrySimples (length meant)))
-    ∷ (nameUsed, byKind kind (isAmong names body) false false false false)
-    ∷ (tooManyTargets, byKind kind false false false (leb maxTargets targets) false)
-    ∷ (tooManyRecords, byKind kind (leb maxTypes (length names)) false (leb maxEntries entries) false (leb maxEntries entries))
+-- The rules for a record of each kind that is there whole, in the order in which they are tried: a number, and whether the record is refused with it.
+-- Of the records before it they look at the names of the basic types, the number of entries, and that of targets.
+abbrev pub kindRules : Kind → Bytes → List Bytes → ℕ → ℕ → List (ℕ × Bool)
+kindRules basic-type body names entries targets =
+    (badLayout, not (isName body))
+    ∷ (nameUsed, isAmong names body)
+    ∷ (tooManyRecords, leb maxTypes (length names))
     ∷ []
+kindRules order-pair body names entries targets =
+    (badLayout, not (eqb (length body) 2))
+    ∷ (undeclaredType, not (every (declaredAmong (length names)) body))
+    ∷ []
+kindRules entry body names entries targets =
+    let simples = simplesOf (typePart body) in
+    (badLayout, not (isEntry body))
+    ∷ (undeclaredType, not (every (declaredAmong (length names)) (bases simples)))
+    ∷ (exponentOutside, not (every exponentListed (exponents simples)))
+    ∷ (tooManyRecords, leb maxEntries entries)
+    ∷ []
+kindRules target body names entries targets =
+    (badLayout, not (eqb (length body) 1))
+    ∷ (undeclaredType, not (every (declaredAmong (length names)) body))
+    ∷ (tooManyTargets, leb maxTargets targets)
+    ∷ []
+kindRules slashed-entry body names entries targets =
+    let part = typePart body in
+    let meant = textType names part in
+    (badLayout, not (isWorded body))
+    ∷ (bracketsTooDeep, tooDeep part)
+    ∷ (notAType, not (hasTree part))
+    ∷ (undeclaredType, not (every (declaredAmong (length names)) (bases meant)))
+    ∷ (exponentOutside, not (every exponentListed (exponents meant)))
+    ∷ (typeTooLong, ltb maxEntrySimples (length meant))
+    ∷ (tooManyRecords, leb maxEntries entries)
+    ∷ []
+
+-- The same by the number in the record's head.
+unfoldable pub bodyRules : ℕ → Bytes → List Bytes → ℕ → ℕ → List (ℕ × Bool)
+bodyRules number body names entries targets =
+    elim (kindOf number) [ none ↦ (kindNotListed, true) ∷ [] | some kind ↦ kindRules kind body names entries targets ]
 
 -- The rules for the record at an offset.
 unfoldable pub recordRules : Bytes → ℕ → List Bytes → ℕ → ℕ → List (ℕ × Bool)

@@ -1,17 +1,27 @@
-// The layout of an entry's body: byte ranges for words and exponents, and the layouts built from them, as specs/Layouts has them.
+// The kinds of records and the layout of an entry's body: byte ranges for words and exponents, and the layouts built from them, as specs/Layouts
+// has them.
 use bytewise::widths::wide_byte;
 use figures::limits::MAX_ENTRY_SIMPLES;
 use figures::limits::MAX_EXPONENT;
 use figures::limits::MAX_WORD;
 ghost use mathlib.Core.Path.{_≡_};
 ghost use mathlib.Core.Bool.{true};
+ghost use Prim.Native.Nat.{_<_};
 ghost use lib.ListN.{length};
 ghost use Rattle.format.specs.Records.{between, every};
-ghost use Rattle.rules.specs.Layouts.{exponentOf, isWorded, isEntry, wordOf, typePart};
+ghost use Rattle.rules.specs.Layouts.{exponentOf, isWorded, isEntry, wordLength, wordOf, typePart};
 ghost use Rattle.rules.specs.Rules.{exponentListed};
 
-// The kind of an entry whose type is a text.
-pub const SLASHED: usize = 5;
+// The numbers of the listed kinds of records. The type of a slashed entry is a text.
+pub const BASIC_TYPE: usize = 1;
+
+pub const ORDER_PAIR: usize = 2;
+
+pub const ENTRY: usize = 3;
+
+pub const TARGET: usize = 4;
+
+pub const SLASHED_ENTRY: usize = 5;
 
 // The byte of the least exponent, in two's complement.
 pub const LEAST_EXPONENT: u8 = 255 - (MAX_EXPONENT - 1);
@@ -65,10 +75,10 @@ pub fn is_worded(body: &[u8]) -> bool
     if body.len() <= length {
         return false;
     }
-    all_word_bytes(&body[1..1 + length])
+    all_word_bytes(word_part(body))
 }
 
-// Whether a body is an entry's with simple types: behind the word pairs of a type number and an exponent.
+// Whether a body is that of an entry with simple types: behind its word stand pairs of a type number and an exponent.
 pub fn is_entry(body: &[u8]) -> bool
     ensures { λ r. ⌜ r ≡ isEntry (now (body .entry)) ⌝ }
 {
@@ -93,7 +103,7 @@ pub fn type_part(body: &[u8]) -> &[u8]
 
 // The word of an entry's body.
 pub fn word_part(body: &[u8]) -> &[u8]
-    requires { ⌜ isWorded (now body) ≡ true ⌝ }
+    requires { ⌜ wordLength (now body) < length (now body) ⌝ }
     ensures { λ r. ⌜ now r ≡ wordOf (now (body .entry)) ⌝ }
 {
     let end = 1 + wide_byte(body[0]);

@@ -1,6 +1,10 @@
 // The rules for one record: the number that it is refused with, that of the first rule it breaks, or 0. The functions go by the record's kind,
 // each over the record's body as a part of the book.
-use crate::layout::SLASHED;
+use crate::layout::BASIC_TYPE;
+use crate::layout::ENTRY;
+use crate::layout::ORDER_PAIR;
+use crate::layout::SLASHED_ENTRY;
+use crate::layout::TARGET;
 use crate::layout::is_entry;
 use crate::layout::is_exponent;
 use crate::layout::is_worded;
@@ -41,8 +45,8 @@ ghost use Rattle.format.specs.Names.{Named};
 ghost use Rattle.figures.specs.Refusals.{bracketsTooDeep, notAType};
 ghost use Rattle.notation.specs.Brackets.{tooDeep};
 ghost use Rattle.notation.specs.Places.{Holds};
-ghost use Rattle.rules.specs.Layouts.{typePart, isWorded, simplesOf};
-ghost use Rattle.rules.specs.Rules.{bases, declaredAmong, exponents, exponentListed, bodyRules, recordRules, firstBroken};
+ghost use Rattle.rules.specs.Layouts.{basic-type, order-pair, entry, target, slashed-entry, typePart, isWorded, simplesOf};
+ghost use Rattle.rules.specs.Rules.{bases, declaredAmong, exponents, exponentListed, kindRules, recordRules, firstBroken};
 
 pub mod layout;
 
@@ -95,7 +99,7 @@ fn held_declared(places: &[u16], count: usize, types: usize) -> bool
 fn name_fault(book: &[u8], names: &[u16], types: usize, body: &[u8]) -> u32
     requires { ⌜ Named (now book) (now names) types ⌝ }
     ensures { λ r. ⌜ ((entries targets : ℕ) → r ≡ firstBroken
-        (bodyRules 1 (now (body .entry)) (bodiesAt (now (book .entry)) (now (names .entry)) types) entries targets)) ⌝ }
+        (kindRules basic-type (now (body .entry)) (bodiesAt (now (book .entry)) (now (names .entry)) types) entries targets)) ⌝ }
 {
     if !is_name(body) {
         return BAD_LAYOUT;
@@ -112,7 +116,7 @@ fn name_fault(book: &[u8], names: &[u16], types: usize, body: &[u8]) -> u32
 // The rules for an order pair: its layout, and two declared type numbers.
 fn pair_fault(body: &[u8], types: usize) -> u32
     ensures { λ r. ⌜ ((names : List Bytes) (entries targets : ℕ) → length names ≡ types → r ≡ firstBroken
-        (bodyRules 2 (now (body .entry)) names entries targets)) ⌝ }
+        (kindRules order-pair (now (body .entry)) names entries targets)) ⌝ }
 {
     if body.len() != 2 {
         return BAD_LAYOUT;
@@ -129,7 +133,7 @@ fn pair_fault(body: &[u8], types: usize) -> u32
 // The rules for an entry: its layout, declared type numbers, exponents from -8 to 8, one too many.
 fn entry_fault(body: &[u8], types: usize, entries: usize) -> u32
     ensures { λ r. ⌜ ((names : List Bytes) (targets : ℕ) → length names ≡ types → r ≡ firstBroken
-        (bodyRules 3 (now (body .entry)) names entries targets)) ⌝ }
+        (kindRules entry (now (body .entry)) names entries targets)) ⌝ }
 {
     if !is_entry(body) {
         return BAD_LAYOUT;
@@ -161,7 +165,7 @@ fn unread_fault(text: &[u8]) -> u32
 fn text_fault(book: &[u8], names: &[u16], types: usize, text: &[u8], entries: usize) -> u32
     requires { ⌜ Named (now book) (now names) types ⌝ }
     ensures { λ r. ⌜ ((body : Bytes) (targets : ℕ) → isWorded body ≡ true → typePart body ≡ now (text .entry) → r ≡ firstBroken
-        (bodyRules 5 body (bodiesAt (now (book .entry)) (now (names .entry)) types) entries targets)) ⌝ }
+        (kindRules slashed-entry body (bodiesAt (now (book .entry)) (now (names .entry)) types) entries targets)) ⌝ }
 {
     let mut places = [0u16; MAX_TEXT_SIMPLES];
     let count = read_text(text, book, names, types, &mut places);
@@ -184,7 +188,7 @@ fn text_fault(book: &[u8], names: &[u16], types: usize, text: &[u8], entries: us
 fn slashed_fault(book: &[u8], names: &[u16], types: usize, body: &[u8], entries: usize) -> u32
     requires { ⌜ Named (now book) (now names) types ⌝ }
     ensures { λ r. ⌜ ((targets : ℕ) → r ≡ firstBroken
-        (bodyRules 5 (now (body .entry)) (bodiesAt (now (book .entry)) (now (names .entry)) types) entries targets)) ⌝ }
+        (kindRules slashed-entry (now (body .entry)) (bodiesAt (now (book .entry)) (now (names .entry)) types) entries targets)) ⌝ }
 {
     if !is_worded(body) {
         return BAD_LAYOUT;
@@ -195,7 +199,7 @@ fn slashed_fault(book: &[u8], names: &[u16], types: usize, body: &[u8], entries:
 // The rules for a target: its layout, a declared type number, fewer than eight targets before.
 fn target_fault(body: &[u8], types: usize, targets: usize) -> u32
     ensures { λ r. ⌜ ((names : List Bytes) (entries : ℕ) → length names ≡ types → r ≡ firstBroken
-        (bodyRules 4 (now (body .entry)) names entries targets)) ⌝ }
+        (kindRules target (now (body .entry)) names entries targets)) ⌝ }
 {
     if body.len() != 1 {
         return BAD_LAYOUT;
@@ -232,11 +236,11 @@ pub fn record_fault(
     let body = body_at(book, at);
     let kind = two_bytes(book, at + 2);
     match kind {
-        1 => name_fault(book, names, types, body),
-        2 => pair_fault(body, types),
-        3 => entry_fault(body, types, entries),
-        4 => target_fault(body, types, targets),
-        SLASHED => slashed_fault(book, names, types, body, entries),
+        BASIC_TYPE => name_fault(book, names, types, body),
+        ORDER_PAIR => pair_fault(body, types),
+        ENTRY => entry_fault(body, types, entries),
+        TARGET => target_fault(body, types, targets),
+        SLASHED_ENTRY => slashed_fault(book, names, types, body, entries),
         _ => KIND_NOT_LISTED,
     }
 }

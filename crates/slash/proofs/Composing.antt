@@ -11,8 +11,8 @@ use Rattle.pregroup.specs.Types.{PregroupType, simpleLeft, simpleRight, leftAdj
 use Rattle.format.specs.Records.{Bytes}
 use Rattle.notation.specs.Grammar.{opening, closing, slash, backslash, Tree, over, under, meaning}
 use Rattle.notation.specs.Trees.{Front, front, joined, closed, behindFirst, unitAt, typeAt}
-use Rattle.notation.specs.Places.{Turned}
-use Rattle.slash.specs.Parsing.{Written, Says, neither, written}
+use Rattle.notation.specs.Places.{StretchTurned}
+use Rattle.slash.specs.Parsing.{FrontWritten, Says, neither, written}
 use Rattle.slash.specs.declared.Found.{Found}
 use Rattle.notation.proofs.TurnLaws.{adjoint-length, turned-holds, turned-tame, tame-turnable}
 use Rattle.slash.proofs.PlaceLaws.{holds-kept, holds-append, tame-kept, tame-more, tame-join, tame-most, room-none, room-some, room-twice}
@@ -74,7 +74,7 @@ brackets-none text at d deep small opens e = ap (λ (k : ℕ). unitAt k (drop at
 -- A second unit turned into its left adjoint.
 pub turned-left :
     (names : List Bytes) {text : Bytes} {o : Option Front} {d from : ℕ} {places middle places′ : List ℕ} {behind end : ℕ} → d ≤ maxDepth → end ≤ length middle
-    → Read (meaning names) text o d d from places middle behind end → Turned true middle from end places′
+    → Read (meaning names) text o d d from places middle behind end → StretchTurned true middle from end places′
     → Says (λ B. leftAdjoint (meaning names B)) text o (suc d) d from places places′ (record { behind = behind; end = end })
 turned-left names {text} {o} {d} {from} {places} {middle} {places′} {behind} {end} low inside r t =
     let w = r .how in
@@ -102,7 +102,7 @@ module _ (names : List Bytes) {text : Bytes} (X : Bytes) {d from : ℕ} {places 
   type-is = ap (behindFirst (unitAt d)) (first .is ∙ front-at text behind (first .how .left))
 
   -- .. it stands alone ..
-  alone : Written (meaning names) text (front A (drop behind text)) (suc d) (suc d) from places middle behind end
+  alone : FrontWritten (meaning names) text (front A (drop behind text)) (suc d) (suc d) from places middle behind end
   alone =
       let w = first .how in
       record {
@@ -124,8 +124,8 @@ module _ (names : List Bytes) {text : Bytes} (X : Bytes) {d from : ℕ} {places 
   alone-behind h s t = says-front (type-is ∙ second-none text behind (unitAt d) A h s t) alone
 
   -- .. a slash stands behind it, and the second unit's left adjoint ..
-  over-written : (g : Front) {places′ : List ℕ} {b e : ℕ} → Written (λ B. leftAdjoint (meaning names B)) text g (suc d) d end middle places′ b e
-      → Written (meaning names) text (front (over A (g .tree)) (g .behind)) (suc d) (suc d) from places places′ b e
+  over-written : (g : Front) {places′ : List ℕ} {b e : ℕ} → FrontWritten (λ B. leftAdjoint (meaning names B)) text g (suc d) d end middle places′ b e
+      → FrontWritten (meaning names) text (front (over A (g .tree)) (g .behind)) (suc d) (suc d) from places places′ b e
   unfolding meaning
   over-written g w =
       let v = first .how in
@@ -154,9 +154,9 @@ module _ (names : List Bytes) {text : Bytes} (X : Bytes) {d from : ℕ} {places 
   over-read h sign s = rw (type-is ∙ second-over text behind (unitAt d) A h sign) (over-says s)
 
   -- .. or a backslash does, and it is turned into its right adjoint before the second unit is read.
-  module _ {turned : List ℕ} (low : d ≤ maxDepth) (inside : end ≤ length middle) (t : Turned false middle from end turned) where
-    under-written : (g : Front) {places′ : List ℕ} {b e : ℕ} → Written (meaning names) text g d d end turned places′ b e
-        → Written (meaning names) text (front (under A (g .tree)) (g .behind)) (suc d) (suc d) from places places′ b e
+  module _ {turned : List ℕ} (low : d ≤ maxDepth) (inside : end ≤ length middle) (t : StretchTurned false middle from end turned) where
+    under-written : (g : Front) {places′ : List ℕ} {b e : ℕ} → FrontWritten (meaning names) text g d d end turned places′ b e
+        → FrontWritten (meaning names) text (front (under A (g .tree)) (g .behind)) (suc d) (suc d) from places places′ b e
     unfolding meaning
     under-written g w =
         let v = first .how in

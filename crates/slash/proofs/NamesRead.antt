@@ -19,7 +19,7 @@ use Rattle.format.proofs.NameLaws.{bodies-length, name-length-no, name-first-no
 use Rattle.notation.specs.Grammar.{named, meaning}
 use Rattle.notation.specs.Trees.{front, nameAt}
 use Rattle.notation.specs.Places.{Holds, Tame}
-use Rattle.slash.specs.Parsing.{Written}
+use Rattle.slash.specs.Parsing.{FrontWritten}
 use Rattle.slash.proofs.PlaceLaws.{room-some}
 
 -- A name's number is small enough for a byte.
@@ -95,7 +95,7 @@ module _ {text : Bytes} {at behind : ℕ} (e : NameEnds text at behind) where
               rw (same, written-there) (omega arith, omega arith);
         }
 
-    pub name-written : Written (meaning names) text (front (named name) (drop behind text)) 0 0 from places (set places from simple) behind (from + 1)
+    pub name-written : FrontWritten (meaning names) text (front (named name) (drop behind text)) 0 0 from places (set places from simple) behind (from + 1)
     unfolding meaning
     name-written =
         record {

@@ -12,7 +12,7 @@ use Rattle.pregroup.specs.Types.{PregroupType}
 use Rattle.format.specs.Records.{Bytes}
 use Rattle.notation.specs.Grammar.{opening, closing, slash, backslash, Tree, over, under}
 use Rattle.notation.specs.Trees.{Front, front, nameAt, closedBy, closed, unitBy, joined, secondBy, behindFirst, unitAt, typeAt}
-use Rattle.slash.specs.Parsing.{Written, Says, neither, written}
+use Rattle.slash.specs.Parsing.{FrontWritten, Says, neither, written}
 use Rattle.slash.specs.declared.Found.{Found}
 
 -- What a parser says, by what stands at the front.
@@ -20,7 +20,7 @@ module _ {sense : Tree → PregroupType} {text : Bytes} {o : Option Front} {n m 
   pub says-nothing : o ≡ none → r .end ≡ 0 → Says sense text o n m from places places′ r
   says-nothing e z = rw e (neither z)
 
-  pub says-front : {f : Front} → o ≡ some f → Written sense text f n m from places places′ (r .behind) (r .end) → Says sense text o n m from places places′ r
+  pub says-front : {f : Front} → o ≡ some f → FrontWritten sense text f n m from places places′ (r .behind) (r .end) → Says sense text o n m from places places′ r
   says-front e w = rw e (written w)
 
 pub said-nothing :
@@ -33,7 +33,7 @@ said-nothing (written w) e = absurd (omega (arith, w .filled, e))
 pub record Read (sense : Tree → PregroupType) (text : Bytes) (o : Option Front) (n m from : ℕ) (places places′ : List ℕ) (behind end : ℕ) : Type 0 where
   pub front : Front
   pub is : o ≡ some front
-  pub how : Written sense text front n m from places places′ behind end
+  pub how : FrontWritten sense text front n m from places places′ behind end
 
 pub said-front :
     {sense : Tree → PregroupType} {text : Bytes} {o : Option Front} {n m from : ℕ} {places places′ : List ℕ} {r : Found}

@@ -9,7 +9,7 @@ use Rattle.figures.specs.Limits.{maxDepth}
 use Rattle.format.specs.Records.{Bytes}
 use Rattle.notation.specs.Grammar.{slash, backslash, meaning}
 use Rattle.notation.specs.Trees.{unitAt, typeAt}
-use Rattle.notation.specs.Places.{Turned}
+use Rattle.notation.specs.Places.{StretchTurned}
 use Rattle.slash.specs.Parsing.{room, SignAt, a-slash, a-backslash, ended, no-sign, Says}
 use Rattle.slash.specs.declared.Found.{Found}
 use Rattle.slash.proofs.PlaceLaws.{room-twice}
@@ -22,7 +22,7 @@ pub data Stage (names : List Bytes) (text : Bytes) (d at from : ℕ) (places₀ 
   behind-slash : {middle : List ℕ} {behind end : ℕ} → Read (meaning names) text (unitAt d (drop at text)) d d from places₀ middle behind end
       → behind < length text → getD {A = ℕ} text behind 0 ≡ slash → Stage names text d at from places₀ middle (behind + 1) end slash
   behind-backslash : {middle turned : List ℕ} {behind end : ℕ} → Read (meaning names) text (unitAt d (drop at text)) d d from places₀ middle behind end
-      → end ≤ length middle → Turned false middle from end turned
+      → end ≤ length middle → StretchTurned false middle from end turned
       → behind < length text → getD {A = ℕ} text behind 0 ≡ backslash → Stage names text d at from places₀ turned (behind + 1) end backslash
 
 -- There is text and room for the next unit.
@@ -46,7 +46,7 @@ stage-nothing {names} (behind-backslash first k t h b) low u z = under-read name
 pub stage-over :
     {names : List Bytes} {text : Bytes} {d at from : ℕ} {places₀ places middle places′ : List ℕ} {place start sign behind end : ℕ}
     → Stage names text d at from places₀ places place start sign → sign ≡ slash → d ≤ maxDepth
-    → Read (meaning names) text (unitAt d (drop place text)) d d start places middle behind end → end ≤ length middle → Turned true middle start end places′
+    → Read (meaning names) text (unitAt d (drop place text)) d d start places middle behind end → end ≤ length middle → StretchTurned true middle start end places′
     → Says (meaning names) text (typeAt d (drop at text)) (suc d) (suc d) from places₀ places′ (record { behind = behind; end = end })
 stage-over at-first e low second k t = absurd (omega (arith, e))
 stage-over {names} (behind-slash first h b) e low second k t = over-read names _ first h b (turned-left names low k second t)
@@ -90,7 +90,7 @@ pub stage-backslash :
     {names : List Bytes} {text : Bytes} {d at from : ℕ} {places₀ places middle places′ : List ℕ} {place start sign behind end next : ℕ}
     → Stage names text d at from places₀ places place start sign → sign ≡ 0
     → Read (meaning names) text (unitAt d (drop place text)) d d start places middle behind end → SignAt text behind next → next ≡ backslash
-    → end ≤ length middle → Turned false middle start end places′ → Stage names text d at from places₀ places′ (behind + 1) end next
+    → end ≤ length middle → StretchTurned false middle start end places′ → Stage names text d at from places₀ places′ (behind + 1) end next
 stage-backslash at-first z first (a-slash h b e) n k t = absurd (omega (arith, e, n))
 stage-backslash at-first z first (a-backslash h b e) n k t = rw e (behind-backslash first k t h b)
 stage-backslash at-first z first (ended h e) n k t = absurd (omega (arith, e, n))

@@ -15,10 +15,10 @@ ghost use Rattle.format.specs.Records.{bodiesAt};
 ghost use Rattle.format.specs.Names.{Named};
 ghost use Rattle.notation.specs.Grammar.{meaning};
 ghost use Rattle.notation.specs.Trees.{nameAt, unitAt, typeAt};
-ghost use Rattle.slash.specs.Parsing.{room, Fits, SignAt, Says, TextSays};
+ghost use Rattle.slash.specs.Parsing.{room, TextFits, SignAt, Says, TextSays};
 
-// What stands at the front of a text, a unit or a type: the place behind it in the text, and the one behind its last simple type in the list;
-// the second is 0 where neither stands there, and then the first means nothing.
+// A unit or a type at the front of a text: its end in the text, and the end of its simple types in the list. Where neither stands there, `end` is 0
+// and `behind` means nothing.
 pub struct Found {
     pub behind: usize,
     pub end: usize,
@@ -43,7 +43,7 @@ fn sign_at(text: &[u8], at: usize) -> u8
     }
 }
 
-// Reads a name: its simple type is plain. One that is not declared has the number of declared ones.
+// Reads a name: its simple type is plain. The number of a name that is not declared is how many are.
 fn read_name(
     text: &[u8],
     at: usize,
@@ -53,7 +53,7 @@ fn read_name(
     places: &mut [u16],
     from: usize,
 ) -> Found
-    requires { ⌜ Fits (now book) (now names) types (now text) at 0 0 from (now places) × (at < length (now text)) ⌝ }
+    requires { ⌜ TextFits (now book) (now names) types (now text) at 0 0 from (now places) × (at < length (now text)) ⌝ }
     ensures { λ r. ⌜ Says (meaning (bodiesAt (now (book .entry)) (now (names .entry)) types)) (now (text .entry))
         (nameAt (drop at (now (text .entry)))) 0 0 from (now (places .entry)) (now (places .exit)) r ⌝ }
 {
@@ -84,7 +84,7 @@ fn read_unit(
     places: &mut [u16],
     from: usize,
 ) -> Found
-    requires { ⌜ Fits (now book) (now names) types (now text) at depth depth from (now places) ⌝ }
+    requires { ⌜ TextFits (now book) (now names) types (now text) at depth depth from (now places) ⌝ }
     ensures { λ r. ⌜ Says (meaning (bodiesAt (now (book .entry)) (now (names .entry)) types)) (now (text .entry))
         (unitAt depth (drop at (now (text .entry)))) depth depth from (now (places .entry)) (now (places .exit)) r ⌝ }
 {
@@ -135,7 +135,7 @@ fn read_type(
     places: &mut [u16],
     from: usize,
 ) -> Found
-    requires { ⌜ Fits (now book) (now names) types (now text) at depth (suc depth) from (now places) ⌝ }
+    requires { ⌜ TextFits (now book) (now names) types (now text) at depth (suc depth) from (now places) ⌝ }
     ensures { λ r. ⌜ Says (meaning (bodiesAt (now (book .entry)) (now (names .entry)) types)) (now (text .entry))
         (typeAt depth (drop at (now (text .entry)))) (suc depth) (suc depth) from (now (places .entry)) (now (places .exit)) r ⌝ }
 {
@@ -168,7 +168,8 @@ fn read_type(
     }
 }
 
-// Reads a whole text: the number of its simple types, which stand at the first places; or 0 where its brackets are too deep or it is no type.
+// Reads a whole text. It gives the number of its simple types, which stand at the first places, or 0 where the brackets are too deep or the text is
+// no type.
 pub fn read_text(text: &[u8], book: &[u8], names: &[u16], types: usize, places: &mut [u16]) -> usize
     requires { ⌜ Named (now book) (now names) types × (room (suc maxDepth) ≤ length (now places)) ⌝ }
     ensures { λ r. ⌜ TextSays (bodiesAt (now (book .entry)) (now (names .entry)) types) (now (text .entry)) (now (places .exit)) r ⌝ }

@@ -11,7 +11,7 @@ use Rattle.pregroup.specs.Held.{held}
 use Rattle.book.specs.declared.EntryType.{EntryType}
 use Rattle.book.specs.Kept.{HeldType}
 use Rattle.graph.specs.Layout.{hasNone}
-use Rattle.slots.specs.Cells.{heldFrom, typeHeld}
+use Rattle.slots.specs.Laying.{heldFrom, typeHeld}
 
 pub held-length : (n i : ℕ) (l : List ℕ) → length (heldFrom n i l) ≡ n
 unfolding heldFrom

@@ -1,2 +1,2 @@
 -- What the code writes for the entries of a word.
-pub mod Cells
+pub mod Laying

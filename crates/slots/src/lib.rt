@@ -2,12 +2,14 @@
 use book::EntryType;
 use book::entries::entry_type;
 use bytewise::widths::wide_number;
+use graph::simple_node;
+use graph::slot_of;
 ghost use mathlib.Core.List.{List, [], _∷_};
-ghost use Prim.Native.Nat.{_+_};
 ghost use Rattle.format.specs.Records.{bodiesAt};
 ghost use Rattle.linking.specs.Reading.{NumberedEntry};
 ghost use Rattle.lookup.specs.Threads.{Thread};
-ghost use Rattle.slots.specs.Cells.{cells, nodes, typeHeld, TypeFits, Typed, SlotFits, Lays, EntriesFit};
+ghost use Rattle.graph.specs.Graph.{graph};
+ghost use Rattle.slots.specs.Laying.{typeHeld, TypeFits, Typed, SlotFits, Lays, EntriesFit};
 
 // How far the lists are filled: the next node, the next slot, and whether the word at hand has a slot with an empty type.
 pub struct Place {
@@ -18,16 +20,9 @@ pub struct Place {
 
 // Lays the simple types of an entry from `node` on, from the last to the first, each leading to the one behind it and the last to the
 // boundary. The node where the type begins is returned: for an empty one the boundary.
-fn lay_type(
-    t: EntryType,
-    node: usize,
-    boundary: usize,
-    simples: &mut [u16],
-    nexts: &mut [u16],
-) -> usize
-    requires { ⌜ TypeFits t node boundary (nodes (now simples) (now nexts)) ⌝ }
-    ensures { λ r. ⌜ Typed t node boundary (nodes (now (simples .entry)) (now (nexts .entry)))
-        (nodes (now (simples .exit)) (now (nexts .exit))) r ⌝ }
+fn lay_type(t: EntryType, node: usize, boundary: usize, nodes: &mut [u64]) -> usize
+    requires { ⌜ TypeFits t node boundary (now nodes) ⌝ }
+    ensures { λ r. ⌜ Typed t node boundary (now (nodes .entry)) (now (nodes .exit)) r ⌝ }
 {
     let held = t.simples;
     let mut first = boundary;
@@ -35,8 +30,7 @@ fn lay_type(
     while 0 < i {
         i -= 1;
         let at = node + i;
-        simples[at] = held[i];
-        nexts[at] = first as u16;
+        nodes[at] = simple_node(held[i], first);
         first = at;
     }
     first
@@ -48,16 +42,12 @@ fn lay_slot(
     number: usize,
     boundary: usize,
     p: Place,
-    simples: &mut [u16],
-    nexts: &mut [u16],
-    enters: &mut [u16],
-    numbers: &mut [u16],
+    nodes: &mut [u64],
+    slots: &mut [u64],
 ) -> Place
-    requires { ⌜ SlotFits t number boundary p (cells (now simples) (now nexts) (now enters) (now numbers)) ⌝ }
-    ensures { λ r. ⌜ ((rest : List NumberedEntry) → Lays boundary p
-        (cells (now (simples .entry)) (now (nexts .entry)) (now (enters .entry)) (now (numbers .entry))) r
-        (cells (now (simples .exit)) (now (nexts .exit)) (now (enters .exit)) (now (numbers .exit)))
-        (record { number = number; type = typeHeld t } ∷ rest) rest) ⌝ }
+    requires { ⌜ SlotFits t number boundary p (graph (now nodes) (now slots)) ⌝ }
+    ensures { λ r. ⌜ ((rest : List NumberedEntry) → Lays boundary p (graph (now (nodes .entry)) (now (slots .entry))) r
+        (graph (now (nodes .exit)) (now (slots .exit))) (record { number = number; type = typeHeld t } ∷ rest) rest) ⌝ }
 {
     let node = p.node;
     let slot = p.slot;
@@ -68,9 +58,8 @@ fn lay_slot(
         return p;
     }
     let behind = node + count;
-    let first = lay_type(t, node, boundary, simples, nexts);
-    enters[slot] = first as u16;
-    numbers[slot] = number as u16;
+    let first = lay_type(t, node, boundary, nodes);
+    slots[slot] = slot_of(first, number);
     Place {
         node: behind,
         slot: slot + 1,
@@ -83,28 +72,23 @@ pub fn lay_entries(
     book: &[u8],
     names: &[u16],
     types: usize,
-    offsets: &[u16],
-    count: usize,
+    entries: &[u16],
     same: &[u16],
     first: usize,
     boundary: usize,
     p: Place,
-    simples: &mut [u16],
-    nexts: &mut [u16],
-    enters: &mut [u16],
-    numbers: &mut [u16],
+    nodes: &mut [u64],
+    slots: &mut [u64],
 ) -> Place
-    requires { ⌜ EntriesFit (now book) (now names) types (now offsets) count (now same) first boundary p
-        (cells (now simples) (now nexts) (now enters) (now numbers)) ⌝ }
-    ensures { λ r. ⌜ ((es : List NumberedEntry) → Thread (now (book .entry)) (bodiesAt (now (book .entry)) (now (names .entry)) types) (now (offsets .entry)) count (now (same .entry)) first es
-        → Lays boundary p (cells (now (simples .entry)) (now (nexts .entry)) (now (enters .entry)) (now (numbers .entry))) r
-        (cells (now (simples .exit)) (now (nexts .exit)) (now (enters .exit)) (now (numbers .exit))) es []) ⌝ }
+    requires { ⌜ EntriesFit (now book) (now names) types (now entries) (now same) first boundary p (graph (now nodes) (now slots)) ⌝ }
+    ensures { λ r. ⌜ ((es : List NumberedEntry) → Thread (now (book .entry)) (bodiesAt (now (book .entry)) (now (names .entry)) types) (now (entries .entry)) (now (same .entry)) first es
+        → Lays boundary p (graph (now (nodes .entry)) (now (slots .entry))) r (graph (now (nodes .exit)) (now (slots .exit))) es []) ⌝ }
 {
     let mut place = p;
     let mut i = first;
-    while i < count {
-        let t = entry_type(book, names, types, wide_number(offsets[i]));
-        place = lay_slot(t, i, boundary, place, simples, nexts, enters, numbers);
+    while i < entries.len() {
+        let t = entry_type(book, names, types, wide_number(entries[i]));
+        place = lay_slot(t, i, boundary, place, nodes, slots);
         i = wide_number(same[i]);
     }
     place

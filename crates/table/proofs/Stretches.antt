@@ -53,6 +53,10 @@ string-agrees string string′ zero same = refl
 string-agrees string string′ (suc n) same = rw (string-agrees string string′ n (λ i h. same i (omega arith)), same n (omega arith))
 
 -- A simple type stored behind the string, and the string with it.
+-- The front of a list has the same string.
+pub string-front : (string : List ℕ) (n : ℕ) → stringOf (take n string) n ≡ stringOf string n
+string-front string n = string-agrees (take n string) string n (λ i h. ap held (getD-take n string i 0 h))
+
 module _ (string : List ℕ) (n x : ℕ) where
   pub string-kept : stringOf (set string n x) n ≡ stringOf string n
   string-kept = string-agrees (set string n x) string n (λ i h. ap held (getD-set-other string n i x 0 (λ e. omega arith)))

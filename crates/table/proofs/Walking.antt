@@ -9,11 +9,11 @@ use Rattle.bits.proofs.Walking.{PutPart, Putting, putting-ends}
 use Rattle.table.specs.Table.{FitsBefore}
 
 -- The walk has come to j, and the row has the places before the members below j that fit.
-abbrev pub Placing : (ℕ → Type 0) → List ℕ → ℕ → List ℕ → ℕ → Type 0
-Placing Fits table k = Putting table k 1 (λ j. j - 1) (λ j. Fits (j - 1))
+abbrev pub PutFitting : (ℕ → Type 0) → List ℕ → ℕ → List ℕ → ℕ → Type 0
+PutFitting Fits table k = Putting table k 1 (λ j. j - 1) (λ j. Fits (j - 1))
 
-pub placing-ends : (Fits : ℕ → Type 0) (table : List ℕ) (k : ℕ) (row : List ℕ) (j : ℕ) → Placing Fits table k row j → rowBits ≤ j → RowSays row 0 (FitsBefore Fits table k)
-placing-ends Fits table k row j placing h = putting-ends table k 1 (λ i. i - 1) (λ i. Fits (i - 1)) row j placing h only every
+pub put-fitting-ends : (Fits : ℕ → Type 0) (table : List ℕ) (k : ℕ) (row : List ℕ) (j : ℕ) → PutFitting Fits table k row j → rowBits ≤ j → RowSays row 0 (FitsBefore Fits table k)
+put-fitting-ends Fits table k row j so-far h = putting-ends table k 1 (λ i. i - 1) (λ i. Fits (i - 1)) row j so-far h only every
   where
     only : (m i : ℕ) → PutPart table k 1 (λ i. i - 1) (λ i. Fits (i - 1)) m i → FitsBefore Fits table k i
     only m i p = let up : m ≡ i + 1 = omega (arith, p .put, p .from-on) in record { fits = rw (p .put) (p .passes); behind = rw up at (p .reached) }

@@ -1,10 +1,13 @@
 -- What is told where no reading is written: that there is none, or, where it is only asked for one, that there is one.
-use Prim.Native.Nat.{ℕ, _<_}
+use Prim.Native.Nat.{ℕ, _*_, _≤_, _<_}
+use native.Mathlib.Omega.{arith}
 use mathlib.Core.Path.{_≡_, refl, sym, _∙_}
 use mathlib.Core.List.{List}
 use mathlib.Core.Bool.{Bool, true, false}
 use mathlib.Core.Option.{Option, none, some}
 use lib.ListN.{length}
+use lib.Seq.{length-take-le}
+use Rattle.figures.specs.Limits.{maxNodes, rowWords}
 use Rattle.pregroup.specs.Types.{Basic}
 use Rattle.pregroup.specs.Order.{Relation}
 use Rattle.pregroup.specs.Tests.{Test}
@@ -14,6 +17,8 @@ use Rattle.answer.specs.declared.LineAnswer.{LineAnswer}
 use Rattle.answer.specs.declared.LineAnswer.the-variants.{Read, Refused}
 use Rattle.answer.specs.Answers.{given, Gives}
 use Rattle.answer.proofs.GivenLaws.{read-refused}
+use Rattle.layout.specs.LineLayout.{nodesWith, lineGraph, LaidOut}
+use Rattle.chart.specs.Chart.{Fillable}
 use Rattle.reach.specs.Charted.{Charted}
 use Rattle.first_reading.proofs.ReadingLaws.{no-first, some-first}
 use Rattle.words.specs.Readings.{asked}
@@ -37,9 +42,17 @@ module _ (before : List ℕ) where
   none-told none g e = refl
   none-told (some a) g e = read-refused (sym (g .returned) ∙ e)
 
+-- The graph of a line that is laid out can be charted.
+pub can-fill :
+    {words : Words} {targets : List Basic} {g : Graph} {last : ℕ} {chart : List ℕ} → LaidOut words targets g last → maxNodes ≤ length (g .nodes)
+    → length chart ≡ maxNodes * rowWords → Fillable (lineGraph last (length targets) g) chart
+can-fill {targets = targets} {g} {last} out room long =
+    let whole = length-take-le (nodesWith last (length targets)) (g .nodes) (omega (arith, out .few)) in
+    record { upward = out .upward; room = λ u h. omega (arith, out .few, whole) }
+
 -- Words that are charted.
-module _ {le : Test} {Le : Relation} {g : Graph} {numbers : List ℕ} {targets : List Basic} {last n : ℕ} {words : Words} {rows : List ℕ} {t : ℕ}
-    (charted : Charted le Le g numbers targets last n words rows t) where
+module _ {le : Test} {Le : Relation} {g : Graph} {targets : List Basic} {last : ℕ} {words : Words} {chart : List ℕ} {t : ℕ}
+    (charted : Charted le Le g targets last words chart t) where
   -- 15: there is no reading for any target.
   pub answers-none : t ≡ length targets → (whole : Bool) (before : List ℕ) → Gives (asked whole (firstReading le targets words) before) (Refused 15 0) before
   answers-none all whole before = gives-none before (no-first charted all) whole

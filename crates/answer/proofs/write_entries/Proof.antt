@@ -1,17 +1,21 @@
 -- `answer::write_entries` meets its contract: each turn writes the number of one slot more.
 use native.Mathlib.Omega.{arith}
 use Prim.Native.Nat.{_-_}
-use mathlib.Core.Path.{_∙_}
-use lib.ListN.{length-set}
-use Rattle.answer.proofs.ValueLaws.{Entering, headed-length, entering-start, entering-next, entering-end}
+use mathlib.Core.Path.{_≡_, _∙_}
+use lib.ListN.{length, length-set}
+use Rattle.answer.proofs.ValueLaws.{EntriesWritten, headed-length, entries-start, entries-next, entries-end}
 use Rattle.answer.proofs.write_entries.Statement.{statement}
 use Rattle.answer.proofs.write_entries.Tie as tie
 
 abbrev Inv-loop : tie.InvT-loop
-Inv-loop t numbers slots n answer₀ i₀ answer i = Entering t numbers slots answer₀ answer n i
+Inv-loop t slots chosen answer₀ i₀ answer i = EntriesWritten t slots chosen answer₀ answer i
 
 abbrev μ-loop : tie.MeasureT-loop
-μ-loop t numbers slots n answer₀ i₀ answer i = n - i
+μ-loop t slots chosen answer₀ i₀ answer i = length chosen - i
+
+-- The start, from a turn of the loop.
+abbrev entry : tie.At-loop Inv-loop μ-loop → tie.Start Inv-loop μ-loop
+entry c = c .before .before .before .before
 
 cast-answer : tie.Need-cast-answer Inv-loop μ-loop
 cast-answer c = omega arith
@@ -23,36 +27,38 @@ cast-answer-2 : tie.Need-cast-answer-2 Inv-loop μ-loop
 cast-answer-2 c = omega arith
 
 slice-write-answer-2 : tie.Need-slice-write-answer-2 Inv-loop μ-loop
-slice-write-answer-2 c = omega (arith, length-set (c .args .answer .now) 0 (c .args .t))
+slice-write-answer-2 c = let a = c .before .before .before .args in omega (arith, length-set (a .answer .now) 0 (a .t))
 
 loop-holds : tie.Need-loop-holds Inv-loop μ-loop
-loop-holds c = entering-start (c .args .t) (c .args .numbers .now) (c .args .slots .now) (c .args .answer .now) (c .args .n) (c .pre .space)
+loop-holds c =
+    let s = c .before .before .before in
+    entries-start (s .args .t) (s .args .slots .now) (s .args .chosen .now) (s .args .answer .now) (s .pre .space)
 
-mul-answer : tie.Need-mul-answer Inv-loop μ-loop
-mul-answer c = omega arith
+-- The buffer keeps its length.
+module _ (c : tie.At-loop Inv-loop μ-loop) where
+  size : length (c .loop .answer) ≡ length (entry c .args .answer .now)
+  size = let a = entry c .args in c .loop .inv .size ∙ headed-length (a .answer .now) (a .t) (length (a .chosen .now))
 
-shared-slice-read-answer : tie.Need-shared-slice-read-answer Inv-loop μ-loop
-shared-slice-read-answer c = omega arith
+mul-number-at : tie.Need-mul-number-at Inv-loop μ-loop
+mul-number-at c = omega arith
 
-cast-answer-3 : tie.Need-cast-answer-3 Inv-loop μ-loop
-cast-answer-3 c = omega (arith, c .shared-slice-known .given (c .before .before .loop .i))
+shared-slice-read-number-at : tie.Need-shared-slice-read-number-at Inv-loop μ-loop
+shared-slice-read-number-at c = omega arith
 
-mul-answer-2 : tie.Need-mul-answer-2 Inv-loop μ-loop
-mul-answer-2 c = omega (arith, c .shared-slice-known .given (c .before .before .loop .i))
+cast-number-at : tie.Need-cast-number-at Inv-loop μ-loop
+cast-number-at c = omega (arith, c .shared-slice-known3 .given (c .before .before .loop .i))
 
-shared-slice-read-answer-2 : tie.Need-shared-slice-read-answer-2 Inv-loop μ-loop
-shared-slice-read-answer-2 c = omega (arith, c .before .before .before .before .pre .numbered (c .before .before .before .loop .i) (omega arith))
+number-at-requires : tie.Need-number-at-requires Inv-loop μ-loop
+number-at-requires c κs = let turn = c .before .before in omega (arith, entry turn .pre .numbered (turn .loop .i) (omega arith))
 
 add-answer : tie.Need-add-answer Inv-loop μ-loop
 add-answer c = omega arith
 
-mul-answer-3 : tie.Need-mul-answer-3 Inv-loop μ-loop
-mul-answer-3 c = omega arith
+mul-answer : tie.Need-mul-answer Inv-loop μ-loop
+mul-answer c = omega arith
 
 slice-write-answer-3 : tie.Need-slice-write-answer-3 Inv-loop μ-loop
-slice-write-answer-3 c =
-    let a = c .before .before .before .before .args in
-    omega (arith, c .before .before .before .loop .inv .size, headed-length (a .answer .now) (a .t) (a .n))
+slice-write-answer-3 c = omega (arith, size (c .before .before .before))
 
 add-i : tie.Need-add-i Inv-loop μ-loop
 add-i c = omega arith
@@ -62,22 +68,20 @@ loop-less c = omega arith
 
 loop-again : tie.Need-loop-again Inv-loop μ-loop
 loop-again c =
-    let a = c .before .before .before .before .args in
-    let p = c .before .before .before .before .pre in
     let l = c .before .before .before .loop in
-    entering-next (a .t) (a .numbers .now) (a .slots .now) _ (l .answer) (a .n) (l .i) (l .inv) (omega arith)
-    (omega (arith, p .space, headed-length (a .answer .now) (a .t) (a .n))) (p .there)
+    let s = entry (c .before .before .before) in
+    let a = s .args in
+    entries-next (a .t) (a .slots .now) (a .chosen .now) _ (l .answer) (l .i) (l .inv) (c .number-at .result) (omega arith)
+    (omega (arith, s .pre .space, headed-length (a .answer .now) (a .t) (length (a .chosen .now)))) (c .number-at .ensures)
 
 same-length : tie.Need-same-length Inv-loop μ-loop
-same-length c =
-    let a = c .before .before .args in
-    c .before .loop .inv .size ∙ headed-length (a .answer .now) (a .t) (a .n)
+same-length c = size (c .before)
 
 returns : tie.Need-returns Inv-loop μ-loop
 returns c =
-    let a = c .before .before .args in
     let l = c .before .loop in
-    entering-end (a .t) (a .numbers .now) (a .slots .now) (a .answer .now) (l .answer) (a .n) (l .i) (l .inv) (omega arith)
+    let a = entry (c .before) .args in
+    entries-end (a .t) (a .slots .now) (a .chosen .now) (a .answer .now) (l .answer) (l .i) (l .inv) (omega arith)
 
 pub write-entries-spec : {M : Type 1} → statement M
 write-entries-spec =
@@ -90,13 +94,12 @@ write-entries-spec =
     cast-answer-2
     slice-write-answer-2
     loop-holds
-    mul-answer
-    shared-slice-read-answer
-    cast-answer-3
-    mul-answer-2
-    shared-slice-read-answer-2
+    mul-number-at
+    shared-slice-read-number-at
+    cast-number-at
+    number-at-requires
     add-answer
-    mul-answer-3
+    mul-answer
     slice-write-answer-3
     add-i
     loop-less

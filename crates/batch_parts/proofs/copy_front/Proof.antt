@@ -1,18 +1,19 @@
--- `batch_parts::copy_front` meets its contract: the first i values are the store's, and those behind them as they were.
+-- `batch_parts::copy_front` meets its contract: the first i values are copied, and those behind them are as they were.
 use native.Mathlib.Omega.{arith}
 use Prim.Native.Nat.{ℕ, _+_, _-_, _≤_}
 use mathlib.Core.Path.{_≡_, refl, ap, _∙_}
 use mathlib.Core.List.{List, _++_}
 use lib.ListN.{length, getD, set, take, drop, length-set}
+use lib.Seq.{take-all}
 use Rattle.batch_parts.proofs.PartLaws.{copy-more}
 use Rattle.batch_parts.proofs.copy_front.Statement.{statement}
 use Rattle.batch_parts.proofs.copy_front.Tie as tie
 
 abbrev Inv-loop : tie.InvT-loop
-Inv-loop store n answers₀ i₀ answers i = (i ≤ n) × (length answers ≡ length answers₀) × (answers ≡ take i store ++ drop i answers₀)
+Inv-loop values answers₀ i₀ answers i = (i ≤ length values) × (length answers ≡ length answers₀) × (answers ≡ take i values ++ drop i answers₀)
 
 abbrev μ-loop : tie.MeasureT-loop
-μ-loop store n answers₀ i₀ answers i = n - i
+μ-loop values answers₀ i₀ answers i = length values - i
 
 loop-holds : tie.Need-loop-holds Inv-loop μ-loop
 loop-holds c = (omega arith, refl, refl)
@@ -40,10 +41,10 @@ loop-again c =
     let s = c .before .before .before in
     let inv = c .before .before .loop .inv in
     let i = c .before .before .loop .i in
-    let store = s .args .store .now in
+    let values = s .args .values .now in
     let answers = s .args .answers .now in
-    let turn = copy-more store answers i (omega arith) (omega arith) in
-    (omega arith, simp length-set (inv .1), ap (λ (l : List ℕ). set l i (getD {A = ℕ} store i 0)) (inv .2) ∙ turn)
+    let turn = copy-more values answers i (omega arith) (omega arith) in
+    (omega arith, simp length-set (inv .1), ap (λ (l : List ℕ). set l i (getD {A = ℕ} values i 0)) (inv .2) ∙ turn)
 
 same-length : tie.Need-same-length Inv-loop μ-loop
 same-length c = omega arith
@@ -51,8 +52,9 @@ same-length c = omega arith
 returns : tie.Need-returns Inv-loop μ-loop
 returns c =
     let s = c .before .before in
-    let all : c .before .loop .i ≡ s .args .n = omega arith in
-    c .before .loop .inv .2 ∙ ap (λ (n : ℕ). take n (s .args .store .now) ++ drop n (s .args .answers .now)) all
+    let values = s .args .values .now in
+    let all : c .before .loop .i ≡ length values = omega arith in
+    c .before .loop .inv .2 ∙ ap (λ (n : ℕ). take n values ++ drop n (s .args .answers .now)) all ∙ ap (λ (l : List ℕ). l ++ drop (length values) (s .args .answers .now)) (take-all (length values) values (omega arith))
 
 pub copy-front-spec : {M : Type 1} → statement M
 copy-front-spec =

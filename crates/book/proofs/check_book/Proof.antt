@@ -37,9 +37,18 @@ enum-known-scan c = search needs
 enum-known-scan-2 : tie.Need-enum-known-scan-2
 enum-known-scan-2 c = search needs
 
+-- The book, where it is scanned.
+abbrev named : tie.After-scan-book → tie.After-names
+named c = c .before .before .before .before
+
+abbrev the-book : tie.After-scan-book → Bytes
+the-book c = named c .before .before .args .book .now
+
 close-requires : tie.Need-close-requires
 close-requires c κs =
-    let o = rw (c .before .before .scan2 .given .1) at (c .before .before .before .before .before .before .before .before .scan-book .ensures) in
+    let told = c .before .before in
+    let done = told .before .before in
+    let o = rw (told .scan2 .given .1) at (done .before .before .before .before .scan-book .ensures) in
     opened-rows _ _ _ _ _ (o .0) (o .1)
 
 count-pairs-requires : tie.Need-count-pairs-requires
@@ -47,14 +56,17 @@ count-pairs-requires c κs = search needs
 
 returns : tie.Need-returns
 returns c =
-    promised (c .before .before .before .before .before .before .before .before .before .before .before .before .before .args .book .now)
-    (check-refused _ _ _ (rw (c .before .scan .given .1) at (c .before .before .before .before .before .before .before .scan-book .ensures)))
+    let done = c .before .before .before in
+    let s = done .before .before .before .before in
+    promised (the-book s) (check-refused _ _ _ (rw (c .before .scan .given .1) at (s .scan-book .ensures)))
 
 returns-2 : tie.Need-returns-2
 returns-2 c =
-    let o = rw (c .before .before .before .before .scan2 .given .1) at (c .before .before .before .before .before .before .before .before .before .before .scan-book .ensures) in
-    promised (c .before .before .before .before .before .before .before .before .before .before .before .before .before .before .before .before .args .book .now)
-    (ap (Accepted (c .before .before .before .before .scan2 .given .0 .0) (c .before .before .before .before .scan2 .given .0 .1 .0)) (c .count-pairs .ensures) ∙ check-accepted _ _ _ _ _ (o .0) (o .1) _ (c .before .close .ensures))
+    let told = c .before .before .before .before in
+    let done = told .before .before in
+    let s = done .before .before .before .before in
+    let o = rw (told .scan2 .given .1) at (s .scan-book .ensures) in
+    promised (the-book s) (ap (Accepted (told .scan2 .given .0 .0) (told .scan2 .given .0 .1 .0)) (c .count-pairs .ensures) ∙ check-accepted _ _ _ _ _ (o .0) (o .1) _ (c .before .close .ensures))
 
 pub check-book-spec : {M : Type 1} → statement M
 check-book-spec =

@@ -48,10 +48,10 @@ loop-less c = omega arith
 
 loop-again : tie.Need-loop-again Inv-loop μ-loop
 loop-again c =
-    let x = c .before .before .before .before .eight-bytes .ensures in
+    let first = c .before .before .before .before in
     let y = c .before .before .eight-bytes2 .ensures in
-    let tell = small-eights-tell x y (c .before .before .before .small-eight .ensures) (c .before .small-eight2 .ensures) in
-    (omega arith, omega arith, letters-more (c .before .before .before .before .before .before .loop .inv .2) (tell .0 (c .if1 .left)) (omega arith))
+    let tell = small-eights-tell (first .eight-bytes .ensures) y (c .before .before .before .small-eight .ensures) (c .before .small-eight2 .ensures) in
+    (omega arith, omega arith, letters-more (first .before .before .loop .inv .2) (tell .0 (c .if1 .left)) (omega arith))
 
 eight-bytes-requires-3 : tie.Need-eight-bytes-requires-3 Inv-loop μ-loop
 eight-bytes-requires-3 c κs = omega arith

@@ -6,9 +6,12 @@ use Rattle.bits.proofs.Gathering.{gathered-iff}
 use Rattle.choice.proofs.grow.Statement.{statement}
 use Rattle.choice.proofs.grow.Tie as tie
 
--- The start, from where the table is extended.
+-- The start, from where the lists are known, and from where the table is extended.
+abbrev first : tie.After-slice-known → tie.Start
+first c = c .before .before .before .before .before
+
 abbrev entry : tie.After-extend → tie.Start
-entry c = c .before .before .before .before .before .before .before .before .before .before .before
+entry c = first (c .before .before .before .before .before)
 
 partners-requires : tie.Need-partners-requires
 partners-requires c κs = search needs

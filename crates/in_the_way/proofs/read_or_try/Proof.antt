@@ -2,22 +2,37 @@
 use Prim.Native.Nat.{ℕ}
 use borrow.Author.Needs.{needs}
 use native.Mathlib.Omega.{arith}
+use mathlib.Core.Path.{sym}
 use mathlib.Core.List.{List}
-use lib.ListN.{length}
+use lib.ListN.{length, take}
+use lib.Seq.{length-take-le}
 use Rattle.order.specs.Closed.{below}
 use Rattle.book.specs.Format.{Book}
 use Rattle.line.specs.declared.CheckedLine.the-variants.{Found}
 use Rattle.line.specs.LineFaults.{entriesOfLine}
 use Rattle.line.specs.LookUp.{LineSays}
-use Rattle.answer.specs.Answers.{Gives}
-use Rattle.reader.specs.Outcome.{outcome}
-use Rattle.reach.specs.FoundWords.{FoundWords}
-use Rattle.words.specs.Readings.{ReadsWords}
+use Rattle.line.specs.FoundWords.{FoundWords}
 use Rattle.answer.specs.declared.LineAnswer.{LineAnswer}
-use Rattle.reader.proofs.OpeningLaws.{none-same, line-found, gives-outcome}
+use Rattle.answer.specs.Answers.{Gives}
+use Rattle.words.specs.Readings.{ReadsWords}
+use Rattle.opening.proofs.OpeningLaws.{none-threaded, line-found}
+use Rattle.reader.specs.Outcome.{outcome}
+use Rattle.reader.proofs.Given.{gives-outcome}
 use Rattle.in_the_way.proofs.StepLaws.{gives-read, gives-other, gives-fifteen, gives-bad-line, way-is}
 use Rattle.in_the_way.proofs.read_or_try.Statement.{statement}
 use Rattle.in_the_way.proofs.read_or_try.Tie as tie
+
+-- The start of the function, the check of the line before its words are read, and their reading before it is looked at.
+abbrev start : tie.After-slice-known → tie.Start
+start c =
+    let lent = c .before .before .before .before in
+    lent .before .before .before .before
+
+abbrev checked-at : tie.After-read-words → tie.After-checked2
+checked-at c = c .before .before .before .before .before
+
+abbrev read-at : tie.After-read → tie.After-read-words
+read-at c = c .before .before .before .before
 
 slice-aggregate-check-line : tie.Need-slice-aggregate-check-line
 slice-aggregate-check-line c = search needs
@@ -26,57 +41,65 @@ slice-aggregate-check-line-2 : tie.Need-slice-aggregate-check-line-2
 slice-aggregate-check-line-2 c = search needs
 
 check-line-requires : tie.Need-check-line-requires
-check-line-requires c κs = ((c .before .before .before .before .before .before .before .before .before .before .pre .0, c .before .before .before .before .before .before .before .before .before .before .pre .1 .kept), c .before .before .before .before .before .before .before .before .before .before .pre .1 .threaded, none-same _ _ _, omega arith)
+check-line-requires c κs =
+    let o = start (c .before .before) .pre in
+    ((o .0, o .1 .kept), o .1 .threaded, none-threaded (o .1 .kept .lexicon .kept), omega arith)
 
 enum-known-checked : tie.Need-enum-known-checked
 enum-known-checked c = search needs
 
 returns : tie.Need-returns
 returns c =
-    let o = c .before .before .before .before .before .before .before .before .before .before .before .before .before .before .before .before .pre .1 in
-    gives-bad-line _ _ _ (o .parsed) ((rw (c .before .checked .given .1) at (c .before .before .before .before .before .check-line .ensures)) (c .before .before .before .before .before .before .before .before .before .before .before .before .before .before .before .before .pre .0) (o .kept))
+    let k = c .before in
+    let l = k .before .before .before .before in
+    let o = start (l .before .before .before) .pre .1 in
+    let said = rw (k .checked .given .1) at (k .before .before .before .before .check-line .ensures .1) in
+    gives-bad-line _ _ _ (o .parsed) (said _ (o .kept))
 
 enum-known-checked-2 : tie.Need-enum-known-checked-2
 enum-known-checked-2 c = search needs
 
--- Of a line that passes its check the words are looked up, and what reading these gives is what reading the line gives.
+-- Of a line that passes its check the words are found, and what reading these gives is what reading the line gives.
 module _ (c : tie.After-checked2) where
-  abbrev start : tie.Start
-  start = c .before .before .before .before .before .before .before .before .before .before .before .before .before .before .before
-
   abbrev line-check : tie.After-check-line
   line-check = c .before .before .before .before
 
+  abbrev begin : tie.Start
+  begin = start (line-check .before .before .before)
+
   abbrev contents : Book
-  contents = start .pre .0
+  contents = begin .pre .0
 
   abbrev firsts : List ℕ
-  firsts = line-check .check-line .last .1 .1 .1 .1 .1 .0
+  firsts = line-check .check-line .last .1 .1 .1 .1 .0
 
   abbrev same : List ℕ
-  same = line-check .check-line .last .1 .1 .1 .1 .1 .1 .0
+  same = line-check .check-line .last .1 .1 .1 .1 .1 .0
 
-  abbrev count : ℕ
-  count = c .checked2 .given .0 .0
+  abbrev words : ℕ
+  words = c .checked2 .given .0 .0
 
-  says : LineSays (start .args .book .now) (start .args .offsets .now) (start .args .count) contents (start .args .line .now) firsts same (Found count)
-  says = (rw (c .checked2 .given .1) at (c .before .before .before .before .check-line .ensures)) contents (start .pre .1 .kept)
+  says : LineSays (begin .args .book .now) (begin .args .entries .now) contents (begin .args .line .now) firsts same (Found words)
+  says = (rw (c .checked2 .given .1) at (c .before .before .before .before .check-line .ensures .1)) contents (begin .pre .1 .kept)
 
-  found : FoundWords (start .args .book .now) (start .args .names .now) (start .args .types) (start .args .offsets .now) (start .args .count) same firsts count
-      (start .args .order .now) (start .args .targets .now) (below (length (contents .names)) (contents .pairs)) (entriesOfLine contents (start .args .line .now))
-  found = line-found (start .pre .1) says (omega (arith, line-check .check-line .kept .1 .1 .1 .1 .1 .1 .0)) (omega (arith, line-check .check-line .kept .1 .1 .1 .1 .1 .0))
+  found : FoundWords (begin .args .book .now) (begin .args .names .now) (begin .args .types) (begin .args .entries .now) same (take words firsts)
+      (begin .args .order .now) (begin .args .targets .now) (below (length (contents .names)) (contents .pairs)) (entriesOfLine contents (begin .args .line .now))
+  found = line-found (begin .pre .1) (line-check .check-line .ensures .0) (says .0) (says .2)
 
   reads-line : (before : List ℕ) {after : List ℕ} {answer : LineAnswer}
-      → ReadsWords (start .args .book .now) (start .args .names .now) (start .args .types) (start .args .offsets .now) (start .args .count) same firsts count
-      (start .args .order .now) (start .args .targets .now) before answer after
-      → Gives (outcome (start .args .book .now) (start .args .line .now) before) answer after
-  reads-line before r = gives-outcome _ _ _ (start .pre .1 .parsed) (says .0) (start .pre .1 .chosen) (r _ _ found)
+      → ReadsWords (begin .args .book .now) (begin .args .names .now) (begin .args .types) (begin .args .entries .now) same (take words firsts)
+      (begin .args .order .now) (begin .args .targets .now) before answer after
+      → Gives (outcome (begin .args .book .now) (begin .args .line .now) before) answer after
+  reads-line before r = gives-outcome _ _ _ (begin .pre .1 .parsed) (says .0) (begin .pre .1 .chosen) (r _ _ found)
 
 slice-aggregate-read-words : tie.Need-slice-aggregate-read-words
 slice-aggregate-read-words c = search needs
 
+array-share-prefix-firsts : tie.Need-array-share-prefix-firsts
+array-share-prefix-firsts c = omega (arith, says (c .before .before) .1)
+
 slice-aggregate-read-words-2 : tie.Need-slice-aggregate-read-words-2
-slice-aggregate-read-words-2 c = search needs
+slice-aggregate-read-words-2 c = sym (length-take-le _ _ (says (c .before .before .before) .1))
 
 read-words-requires : tie.Need-read-words-requires
 read-words-requires c κs = (_, _, found (c .before .before .before .before))
@@ -91,34 +114,42 @@ same-length : tie.Need-same-length
 same-length c = search needs
 
 returns-2 : tie.Need-returns-2
-returns-2 c = gives-read _ _ _ (reads-line (c .before .before .before .before .before .before .before .before .before) _ (c .before .before .before .before .read-words .ensures)) (c .enum-told .given .1)
+returns-2 c =
+    let r = c .before .before .before .before in
+    gives-read _ _ _ (reads-line (checked-at r) _ (r .read-words .ensures)) (c .enum-told .given .1)
 
 same-length-2 : tie.Need-same-length-2
 same-length-2 c = search needs
 
 returns-3 : tie.Need-returns-3
 returns-3 c =
-    let g = reads-line (c .before .before .before .before .before .before .before .before .before .before .before) _ (c .before .before .before .before .before .before .read-words .ensures) in
-    gives-other _ _ _ (rw (c .before .before .read .given .1) at g) (λ e. omega (arith, e, c .if1 .taken))
+    let told = c .before .before in
+    let r = read-at told in
+    gives-other _ _ _ (reads-line (checked-at r) _ (r .read-words .ensures)) (told .read .given .1) (λ e. omega (arith, e, c .if1 .taken))
 
 slice-aggregate-try-each : tie.Need-slice-aggregate-try-each
 slice-aggregate-try-each c = search needs
 
+array-borrow-prefix-firsts : tie.Need-array-borrow-prefix-firsts
+array-borrow-prefix-firsts c = omega (arith, says (checked-at (read-at (c .before .before .before))) .1)
+
 slice-aggregate-try-each-2 : tie.Need-slice-aggregate-try-each-2
-slice-aggregate-try-each-2 c = search needs
+slice-aggregate-try-each-2 c = sym (length-take-le _ _ (says (checked-at (read-at (c .before .before .before .before))) .1))
 
 try-each-requires : tie.Need-try-each-requires
-try-each-requires c κs = (_, _, found (c .before .before .before .before .before .before .before .before .before .before .before .before .before))
+try-each-requires c κs = (_, _, found (checked-at (read-at (c .before .before .before .before))))
 
 same-length-3 : tie.Need-same-length-3
 same-length-3 c = search needs
 
 returns-4 : tie.Need-returns-4
 returns-4 c =
-    let k = c .before .before .before .before .before .before .before .before .before .before .before .before .before .before .before in
-    let o = start k .pre .1 in
-    let g = reads-line k _ (c .before .before .before .before .before .before .before .before .before .before .read-words .ensures) in
-    gives-fifteen _ _ _ (rw (c .before .before .before .before .before .before .read .given .1) at g) (omega (arith, c .before .before .before .before .if1 .left))
+    let other = c .before .before .before .before in
+    let told = other .before .before in
+    let r = read-at told in
+    let k = checked-at r in
+    let o = begin k .pre .1 in
+    gives-fifteen _ _ _ (reads-line k _ (r .read-words .ensures)) (told .read .given .1) (omega (arith, other .if1 .left))
     (way-is _ _ (o .parsed) (says k .0) (o .chosen) (c .before .try-each .ensures _ _ (found k)))
 
 pub read-or-try-spec : {M : Type 1} → statement M
@@ -132,6 +163,7 @@ read-or-try-spec =
     returns
     enum-known-checked-2
     slice-aggregate-read-words
+    array-share-prefix-firsts
     slice-aggregate-read-words-2
     read-words-requires
     enum-known-read
@@ -141,6 +173,7 @@ read-or-try-spec =
     same-length-2
     returns-3
     slice-aggregate-try-each
+    array-borrow-prefix-firsts
     slice-aggregate-try-each-2
     try-each-requires
     same-length-3

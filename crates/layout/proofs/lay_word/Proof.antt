@@ -9,75 +9,81 @@ use Rattle.linking.specs.Reading.{NumberedEntry}
 use Rattle.lookup.specs.Entries.{simplesIn}
 use Rattle.format.specs.Records.{bodiesAt}
 use Rattle.lookup.specs.Threads.{Thread}
-use Rattle.slots.specs.Cells.{cells}
-use Rattle.layout.specs.Lists.{lists}
-use Rattle.layout.proofs.WordLaws.{word-placed, word-lined}
+use Rattle.layout.proofs.WordLaws.{word-place, word-lined}
 use Rattle.layout.proofs.lay_word.Statement.{statement}
 use Rattle.layout.proofs.lay_word.Tie as tie
+
+-- The start, from where the lists are known, and from where the simple types are counted.
+abbrev first : tie.After-slice-known → tie.Start
+first c = c .before .before .before .before .before
+
+abbrev entry : tie.After-tally → tie.Start
+entry c = first (c .before .before)
 
 -- The next boundary, by the word's entries.
 module _ (c : tie.After-tally) where
   abbrev boundary : ℕ
-  boundary = c .before .before .before .before .before .before .before .before .before .before .before .args .p .node + 1 + c .tally .result
+  boundary = entry c .args .p .node + 1 + c .tally .result
 
   next :
-      let a = c .before .before .before .before .before .before .before .before .before .before .before .args in
-      (es : List NumberedEntry) → Thread (a .book .now) (bodiesAt (a .book .now) (a .names .now) (a .types)) (a .offsets .now) (a .count) (a .same .now) (a .first) es → boundary ≡ a .p .node + 1 + simplesIn es
-  next es t = ap (λ (m : ℕ). c .before .before .before .before .before .before .before .before .before .before .before .args .p .node + 1 + m) (c .tally .ensures _ es (c .before .before .before .before .before .before .before .before .before .before .before .pre .vocabulary .lexicon) t .total)
+      let a = entry c .args in
+      (es : List NumberedEntry) → Thread (a .book .now) (bodiesAt (a .book .now) (a .names .now) (a .types)) (a .entries .now) (a .same .now) (a .first) es → boundary ≡ a .p .node + 1 + simplesIn es
+  next es t = ap (λ (m : ℕ). entry c .args .p .node + 1 + m) (c .tally .ensures _ es (entry c .pre .vocabulary .lexicon) t .total)
 
   low : boundary < maxNodes
-  low = omega (arith, next (c .before .before .before .before .before .before .before .before .before .before .before .pre .entries) (c .before .before .before .before .before .before .before .before .before .before .before .pre .thread), c .before .before .before .before .before .before .before .before .before .before .before .pre .fits)
+  low = omega (arith, next (entry c .pre .all) (entry c .pre .thread), entry c .pre .fits)
 
--- What is stored, and where, is below the number of nodes.
-module _ (c : tie.After-slice-known10) where
-  stored : (c .before .before .before .before .before .before .before .before .before .before .before .before .before .before .before .before .before .before .before .before .before .before .before .before .args .p .node < maxNodes) × (c .before .before .before .before .before .before .before .before .before .before .before .before .before .before .before .before .before .before .before .before .before .before .before .before .args .p .slot < maxNodes) × (c .before .before .before .before .before .before .before .before .lay-entries .result .slot < maxNodes)
+-- The entries are laid.
+module _ (c : tie.After-lay-entries) where
+  abbrev counted : tie.After-tally
+  counted = c .before .before .before
+
+  abbrev start : tie.Start
+  start = entry counted
+
+  -- What is stored, and where, is below the number of nodes.
+  stored : (start .args .p .node < maxNodes) × (start .args .p .slot < maxNodes) × (c .lay-entries .result .slot < maxNodes)
   stored =
-      let l = c .before .before .before .before .before .before .before .before .lay-entries .ensures (c .before .before .before .before .before .before .before .before .before .before .before .before .before .before .before .before .before .before .before .before .before .before .before .before .pre .entries) (c .before .before .before .before .before .before .before .before .before .before .before .before .before .before .before .before .before .before .before .before .before .before .before .before .pre .thread) in
-      (omega (arith, low (c .before .before .before .before .before .before .before .before .before .before .before .before .before)), omega (arith, low (c .before .before .before .before .before .before .before .before .before .before .before .before .before), c .before .before .before .before .before .before .before .before .before .before .before .before .before .before .before .before .before .before .before .before .before .before .before .before .pre .standing .few), omega (arith, l .placed .few, l .placed .inside, l .placed .small))
+      let l = c .lay-entries .ensures (start .pre .all) (start .pre .thread) in
+      (omega (arith, low counted), omega (arith, low counted, start .pre .standing .few), omega (arith, l .place .few, l .place .inside, l .place .small))
 
 add-boundary : tie.Need-add-boundary
-add-boundary c = omega (arith, c .before .before .before .before .before .before .before .before .before .before .pre .fits)
+add-boundary c = omega (arith, first (c .before) .pre .fits)
 
 tally-requires : tie.Need-tally-requires
-tally-requires c κs = (c .before .before .before .before .before .before .before .before .before .before .pre .same-room, (_, c .before .before .before .before .before .before .before .before .before .before .pre .vocabulary .lexicon, (c .before .before .before .before .before .before .before .before .before .before .pre .entries, c .before .before .before .before .before .before .before .before .before .before .pre .thread)))
+tally-requires c κs =
+    let n = first (c .before) .pre in
+    (n .same-room, (_, n .vocabulary .lexicon, (n .all, n .thread)))
 
 add-boundary-2 : tie.Need-add-boundary-2
 add-boundary-2 c = omega (arith, low c)
 
-add-tos : tie.Need-add-tos
-add-tos c = omega (arith, low c)
+add-t16 : tie.Need-add-t16
+add-t16 c = omega (arith, low c)
 
 lay-entries-requires : tie.Need-lay-entries-requires
 lay-entries-requires c κs =
-    let a = c .before .before .before .before .before .before .before .before .before .before .before .before .before .before .before .args in
-    let n = c .before .before .before .before .before .before .before .before .before .before .before .before .before .before .before .pre in
-    let b = next (c .before .before .before .before) (n .entries) (n .thread) in
+    let n = entry (c .before .before) .pre in
+    let b = next (c .before .before) (n .all) (n .thread) in
     record {
       vocabulary = n .vocabulary;
       same-room = n .same-room;
-      entries = n .entries;
+      all = n .all;
       thread = n .thread;
-      placed = word-placed (a .p) (lists (a .simples .now) (a .nexts .now) (a .froms .now) (a .tos .now) (a .enters .now) (a .numbers .now)) (n .standing) (n .numbers-room) (n .entries) (boundary (c .before .before .before .before)) b (low (c .before .before .before .before));
+      place = word-place (n .standing) (n .all) b (low (c .before .before));
       fits = omega (arith, b);
     }
 
-cast-froms : tie.Need-cast-froms
-cast-froms c = omega (arith, stored c .1)
+boundary-node-requires : tie.Need-boundary-node-requires
+boundary-node-requires c κs = let at = stored (c .before .before .before .before) in (omega (arith, at .1), omega (arith, at .2))
 
-mul-froms : tie.Need-mul-froms
-mul-froms c = omega (arith, stored c .0)
+mul-nodes : tie.Need-mul-nodes
+mul-nodes c = omega (arith, stored (c .before .before .before .before .before) .0)
 
-slice-write-froms : tie.Need-slice-write-froms
-slice-write-froms c = omega (arith, stored c .0, c .before .before .before .before .before .before .before .before .before .before .before .before .before .before .before .before .before .before .before .before .before .before .before .before .pre .standing .room .froms)
-
-cast-tos : tie.Need-cast-tos
-cast-tos c = omega (arith, stored c .2)
-
-mul-tos : tie.Need-mul-tos
-mul-tos c = omega (arith, stored c .0)
-
-slice-write-tos : tie.Need-slice-write-tos
-slice-write-tos c = omega (arith, stored c .0, c .before .before .before .before .before .before .before .before .before .before .before .before .before .before .before .before .before .before .before .before .before .before .before .before .pre .standing .room .tos)
+slice-write-nodes : tie.Need-slice-write-nodes
+slice-write-nodes c =
+    let laid = c .before .before .before .before .before in
+    omega (arith, stored laid .0, laid .lay-entries .kept .1 .1 .1 .1 .1 .1 .1 .1 .0, start laid .pre .standing .room .nodes)
 
 same-length : tie.Need-same-length
 same-length c = search needs
@@ -85,24 +91,11 @@ same-length c = search needs
 same-length-2 : tie.Need-same-length-2
 same-length-2 c = search needs
 
-same-length-3 : tie.Need-same-length-3
-same-length-3 c = search needs
-
-same-length-4 : tie.Need-same-length-4
-same-length-4 c = search needs
-
-same-length-5 : tie.Need-same-length-5
-same-length-5 c = search needs
-
-same-length-6 : tie.Need-same-length-6
-same-length-6 c = search needs
-
 returns : tie.Need-returns
-returns c =
-    let a = c .before .before .before .before .before .before .before .before .before .before .before .before .before .before .before .before .before .before .before .before .before .before .before .before .args in
-    let n = c .before .before .before .before .before .before .before .before .before .before .before .before .before .before .before .before .before .before .before .before .before .before .before .before .pre in
-    let m = c .before .before .before .before .before .before .before .before .lay-entries .last .1 .1 .1 .1 .1 .1 .1 .1 .1 in
-    λ es t. word-lined (a .p) (lists (a .simples .now) (a .nexts .now) (a .froms .now) (a .tos .now) (a .enters .now) (a .numbers .now)) (n .standing) (n .numbers-room) es (boundary (c .before .before .before .before .before .before .before .before .before .before .before .before .before)) (next (c .before .before .before .before .before .before .before .before .before .before .before .before .before) es t) (low (c .before .before .before .before .before .before .before .before .before .before .before .before .before)) (c .before .before .before .before .before .before .before .before .lay-entries .result) (cells (m .0) (m .1 .0) (m .1 .1 .0) (m .1 .1 .1 .0)) (c .before .before .before .before .before .before .before .before .lay-entries .ensures es t)
+returns c = λ es t rest.
+    let laid = c .before .before .before .before .before in
+    let made = c .boundary-node .ensures in
+    word-lined (start laid .pre .standing) es (next (counted laid) es t) (low (counted laid)) (laid .lay-entries .ensures es t) _ (made .0) (made .1) (made .2) rest
 
 pub lay-word-spec : {M : Type 1} → statement M
 lay-word-spec =
@@ -111,18 +104,11 @@ lay-word-spec =
     add-boundary
     tally-requires
     add-boundary-2
-    add-tos
+    add-t16
     lay-entries-requires
-    cast-froms
-    mul-froms
-    slice-write-froms
-    cast-tos
-    mul-tos
-    slice-write-tos
+    boundary-node-requires
+    mul-nodes
+    slice-write-nodes
     same-length
     same-length-2
-    same-length-3
-    same-length-4
-    same-length-5
-    same-length-6
     returns)

@@ -25,16 +25,17 @@ may-contract-requires c κs = search needs
 
 returns : tie.Need-returns
 returns c =
-    let a = c .before .before .before .before .before .before .args in
-    let p = c .before .before .before .before .before .before .pre in
-    asked-own (inRows (a .order .now)) (a .target) (a .string .now) (a .i) (a .k) (p .0) (p .1) _ (c .before .hold .ensures) (c .before .before .before .if1 .taken)
-    (c .may-contract .ensures)
+    let own = c .before .before .before in
+    let start = own .before .before .before in
+    let a = start .args in
+    let p = start .pre in
+    asked-own (inRows (a .order .now)) (a .target) (a .string .now) (a .i) (a .k) (p .0) (p .1) _ (c .before .hold .ensures) (own .if1 .taken) (c .may-contract .ensures)
 
 returns-2 : tie.Need-returns-2
 returns-2 c =
-    let a = c .before .before .before .before .args in
-    let p = c .before .before .before .before .pre in
-    asked-nowhere (inRows (a .order .now)) (a .target) (a .string .now) (a .i) (a .k) (p .0) (p .1) (c .before .if1 .left) (c .if2 .taken)
+    let start = c .before .before .before .before in
+    let a = start .args in
+    asked-nowhere (inRows (a .order .now)) (a .target) (a .string .now) (a .i) (a .k) (start .pre .0) (start .pre .1) (c .before .if1 .left) (c .if2 .taken)
 
 sub-may-contract-2 : tie.Need-sub-may-contract-2
 sub-may-contract-2 c = search needs
@@ -59,10 +60,11 @@ may-contract-requires-2 c κs = search needs
 
 returns-3 : tie.Need-returns-3
 returns-3 c =
-    let a = c .before .before .before .before .before .before .before .args in
-    let p = c .before .before .before .before .before .before .before .pre in
-    asked-there (inRows (a .order .now)) (a .target) (a .string .now) (a .i) (a .k) (p .0) (p .1) (c .before .before .before .before .if1 .left) (p .2)
-    (c .before .before .before .if2 .left) (c .may-contract2 .ensures)
+    let there = c .before .before .before in
+    let start = there .before .before .before .before in
+    let a = start .args in
+    let p = start .pre in
+    asked-there (inRows (a .order .now)) (a .target) (a .string .now) (a .i) (a .k) (p .0) (p .1) (there .before .if1 .left) (p .2) (there .if2 .left) (c .may-contract2 .ensures)
 
 pub link-at-spec : {M : Type 1} → statement M
 link-at-spec =

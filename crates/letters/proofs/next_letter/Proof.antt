@@ -17,9 +17,10 @@ shared-slice-read-result c = search needs
 
 returns : tie.Need-returns
 returns c =
-    let a = c .before .before .before .before .before .before .before .args in
-    read-carried (inRows (a .order .now)) (a .target) (map held (a .string .now)) (a .partners .now) (a .letters .now) (a .i) _ (c .before .before .value-at .ensures)
-    (c .before .if1 .taken) (c .before .before .before .before .before .before .before .pre .2)
+    let partner = c .before .before in
+    let start = partner .before .before .before .before .before in
+    let a = start .args in
+    read-carried (inRows (a .order .now)) (a .target) (map held (a .string .now)) (a .partners .now) (a .letters .now) (a .i) _ (partner .value-at .ensures) (c .before .if1 .taken) (start .pre .2)
 
 link-at-requires : tie.Need-link-at-requires
 link-at-requires c κs = search needs
@@ -29,9 +30,10 @@ letter-of-requires c κs = search needs
 
 returns-2 : tie.Need-returns-2
 returns-2 c =
-    let a = c .before .before .before .before .before .before .before .before .args in
+    let partner = c .before .before .before in
+    let a = partner .before .before .before .before .before .args in
     asked-letter (inRows (a .order .now)) (a .target) (map held (a .string .now)) (a .partners .now) (a .letters .now) (a .i) _
-    (c .before .before .before .value-at .ensures) (c .before .before .if1 .left) (c .before .link-at .ensures) (c .letter-of .ensures)
+    (partner .value-at .ensures) (c .before .before .if1 .left) (c .before .link-at .ensures) (c .letter-of .ensures)
 
 pub next-letter-spec : {M : Type 1} → statement M
 next-letter-spec =

@@ -24,9 +24,12 @@ same-length c = search needs
 
 returns : tie.Need-returns
 returns c =
-    let a = c .before .before .before .before .before .before .before .before .before .before .before .before .args in
+    let rendered = c .before .before in
+    let read = rendered .before .before .before .before in
+    let matched = read .before in
+    let a = matched .before .before .before .before .before .args in
     with-promises (a .book .now) (a .line .now) (a .answer) (a .buffer .now)
-    (rw (c .before .before .before .before .before .before .answer2 .given .1, take-all (c .before .before .before .before .before .before .answer2 .given .0 .0) (c .before .before .before .before .before .before .before .before .before .before .before .before .args .buffer .now) (omega arith)) (c .before .before .render-answer .ensures))
+    (rw (read .answer2 .given .1, take-all (read .answer2 .given .0 .0) (a .buffer .now) (omega arith)) (rendered .render-answer .ensures))
 
 sub-render-answer : tie.Need-sub-render-answer
 sub-render-answer c = search needs
@@ -45,18 +48,22 @@ same-length-2 c = search needs
 
 returns-2 : tie.Need-returns-2
 returns-2 c =
-    let a = c .before .before .before .before .before .before .before .before .before .before .before .args in
-    with-promises (a .book .now) (a .line .now) (a .answer) (a .buffer .now)
-    (rw (c .before .before .before .before .before .answer .given .1) (c .before .before .render-refusal .ensures))
+    let rendered = c .before .before in
+    let refused = rendered .before .before .before in
+    let matched = refused .before in
+    let a = matched .before .before .before .before .before .args in
+    with-promises (a .book .now) (a .line .now) (a .answer) (a .buffer .now) (rw (refused .answer .given .1) (rendered .render-refusal .ensures))
 
 same-length-3 : tie.Need-same-length-3
 same-length-3 c = search needs
 
 returns-3 : tie.Need-returns-3
 returns-3 c =
-    let a = c .before .before .before .before .before .before .before .before .before .before .before .before .before .args in
-    with-promises (a .book .now) (a .line .now) (a .answer) (a .buffer .now)
-    (rw (c .before .before .before .before .before .before .before .answer2 .given .1) (rw sub-zero at (c .before .before .render-answer2 .ensures)))
+    let rendered = c .before .before in
+    let read = rendered .before .before .before .before .before in
+    let matched = read .before in
+    let a = matched .before .before .before .before .before .args in
+    with-promises (a .book .now) (a .line .now) (a .answer) (a .buffer .now) (rw (read .answer2 .given .1) (rw sub-zero at (rendered .render-answer2 .ensures)))
 
 pub render-spec : {M : Type 1} → statement M
 render-spec =

@@ -11,19 +11,30 @@ slice-aggregate-put-refusal-row : tie.Need-slice-aggregate-put-refusal-row
 slice-aggregate-put-refusal-row c = search needs
 
 put-refusal-row-requires : tie.Need-put-refusal-row-requires
-put-refusal-row-requires c κs = refusal-countable (c .before .before .args .number) (c .before .before .args .value) (omega arith) (omega arith)
+put-refusal-row-requires c κs = let a = c .before .before .args in refusal-countable (a .number) (a .value) (omega arith) (omega arith)
 
 returns : tie.Need-returns
-returns c = renders-short (refusalRow (c .before .before .before .before .before .args .number) (c .before .before .before .before .before .args .value)) (c .before .before .before .before .before .args .text .now) (c .before .before .put-refusal-row .ensures .next) (c .if1 .taken)
+returns c =
+    let counted = c .before .before in
+    let a = counted .before .before .before .args in
+    renders-short (refusalRow (a .number) (a .value)) (a .text .now) (counted .put-refusal-row .ensures .next) (c .if1 .taken)
 
 put-refusal-row-requires-2 : tie.Need-put-refusal-row-requires-2
-put-refusal-row-requires-2 c κs = refusal-countable (c .before .before .before .before .before .before .args .number) (c .before .before .before .before .before .before .args .value) (omega arith) (omega arith)
+put-refusal-row-requires-2 c κs =
+    let counted = c .before .before .before in
+    let a = counted .before .before .before .args in
+    refusal-countable (a .number) (a .value) (omega arith) (omega arith)
 
 same-length : tie.Need-same-length
 same-length c = search needs
 
 returns-2 : tie.Need-returns-2
-returns-2 c = renders-written (refusalRow (c .before .before .before .before .before .before .before .before .before .args .number) (c .before .before .before .before .before .before .before .before .before .args .value)) (c .before .before .before .before .before .before .before .before .before .args .text .now) (c .before .before .before .before .before .before .put-refusal-row .ensures .next) (c .before .before .before .before .if1 .left) (c .before .before .put-refusal-row2 .ensures)
+returns-2 c =
+    let put = c .before .before in
+    let room = put .before .before in
+    let counted = room .before .before in
+    let a = counted .before .before .before .args in
+    renders-written (refusalRow (a .number) (a .value)) (a .text .now) (counted .put-refusal-row .ensures .next) (room .if1 .left) (put .put-refusal-row2 .ensures)
 
 pub render-refusal-spec : {M : Type 1} → statement M
 render-refusal-spec =

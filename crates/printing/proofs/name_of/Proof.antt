@@ -9,7 +9,9 @@ slice-aggregate-result : tie.Need-slice-aggregate-result
 slice-aggregate-result c = search needs
 
 returns : tie.Need-returns
-returns c = no-name _ (c .before .before .before .before .args .names .now) (c .before .before .before .before .args .types) (c .before .before .before .before .pre) (c .before .before .before .before .args .base) (c .before .if1 .taken)
+returns c =
+    let start = c .before .before .before .before in
+    no-name _ (start .args .names .now) (start .args .types) (start .pre) (start .args .base) (c .before .if1 .taken)
 
 mul-wide-number : tie.Need-mul-wide-number
 mul-wide-number c = search needs
@@ -21,10 +23,16 @@ wide-number-requires : tie.Need-wide-number-requires
 wide-number-requires c κs = search needs
 
 body-at-requires : tie.Need-body-at-requires
-body-at-requires c κs = rw (c .wide-number .ensures) (c .before .before .before .before .before .pre .whole (c .before .before .before .before .before .args .base) (c .before .before .if1 .left))
+body-at-requires c κs =
+    let inside = c .before .before in
+    let start = inside .before .before .before in
+    rw (c .wide-number .ensures) (start .pre .whole (start .args .base) (inside .if1 .left))
 
 returns-2 : tie.Need-returns-2
-returns-2 c = rw (c .before .wide-number .ensures) at (c .body-at .ensures) ∙ name-at _ (c .before .before .before .before .before .before .args .names .now) (c .before .before .before .before .before .before .args .types) (c .before .before .before .before .before .before .pre) (c .before .before .before .before .before .before .args .base) (c .before .before .before .if1 .left)
+returns-2 c =
+    let inside = c .before .before .before in
+    let start = inside .before .before .before in
+    rw (c .before .wide-number .ensures) at (c .body-at .ensures) ∙ name-at _ (start .args .names .now) (start .args .types) (start .pre) (start .args .base) (inside .if1 .left)
 
 pub name-of-spec : {M : Type 1} → statement M
 name-of-spec =

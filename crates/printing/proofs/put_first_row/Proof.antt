@@ -1,9 +1,6 @@
 -- `printing::put_first_row` meets its contract, field by field.
 use borrow.Author.Needs.{needs}
-use mathlib.Core.List.{[], _∷_}
-use Rattle.printing.specs.Text.{decimal}
-use Rattle.printing.specs.Rows.{yes}
-use Rattle.printing.proofs.Fields.{field-countable, fields-countable, row-placed}
+use Rattle.printing.proofs.Fields.{field-countable, fields-countable, row-placed, last-countable, last-placed}
 use Rattle.printing.proofs.put_first_row.Statement.{statement}
 use Rattle.printing.proofs.put_first_row.Tie as tie
 
@@ -11,53 +8,38 @@ slice-aggregate-put-text : tie.Need-slice-aggregate-put-text
 slice-aggregate-put-text c = search needs
 
 put-text-requires : tie.Need-put-text-requires
-put-text-requires c κs =
-    let a = c .before .before .before .args in
-    let s = decimal (a .simples) in
-    let t = decimal (a .target) in
-    field-countable yes (decimal (a .words)) (s ∷ t ∷ []) (c .before .before .before .pre)
+put-text-requires c κs = field-countable _ _ _ (c .before .before .before .pre)
 
 put-number-requires : tie.Need-put-number-requires
 put-number-requires c κs =
-    let a = c .before .before .before .before .before .before .before .args in
-    let w = decimal (a .words) in
-    let s = decimal (a .simples) in
-    let t = decimal (a .target) in
-    field-countable w s (t ∷ []) (fields-countable yes w (s ∷ t ∷ []) (c .before .before .before .before .before .before .before .pre) (c .before .before .before .put-text .ensures))
+    let first = c .before .before .before in
+    field-countable _ _ _ (fields-countable _ _ _ (first .before .before .before .before .pre) (first .put-text .ensures))
 
 put-number-requires-2 : tie.Need-put-number-requires-2
 put-number-requires-2 c κs =
-    let a = c .before .before .before .before .before .before .before .before .before .before .before .args in
-    let w = decimal (a .words) in
-    let s = decimal (a .simples) in
-    let t = decimal (a .target) in
-    field-countable s t []
-    (fields-countable w s (t ∷ []) (fields-countable yes w (s ∷ t ∷ []) (c .before .before .before .before .before .before .before .before .before .before .before .pre) (c .before .before .before .before .before .before .before .put-text .ensures))
-    (c .before .before .before .put-number .ensures))
+    let words = c .before .before .before in
+    let first = words .before .before .before .before in
+    field-countable _ _ _ (fields-countable _ _ _ (fields-countable _ _ _ (first .before .before .before .before .pre) (first .put-text .ensures)) (words .put-number .ensures))
 
 put-number-requires-3 : tie.Need-put-number-requires-3
 put-number-requires-3 c κs =
-    let a = c .before .before .before .before .before .before .before .before .before .before .before .before .before .before .before .args in
-    let w = decimal (a .words) in
-    let s = decimal (a .simples) in
-    let t = decimal (a .target) in
-    fields-countable s t []
-    (fields-countable w s (t ∷ []) (fields-countable yes w (s ∷ t ∷ []) (c .before .before .before .before .before .before .before .before .before .before .before .before .before .before .before .pre) (c .before .before .before .before .before .before .before .before .before .before .before .put-text .ensures))
-    (c .before .before .before .before .before .before .before .put-number .ensures))
-    (c .before .before .before .put-number2 .ensures)
+    let simples = c .before .before .before in
+    let words = simples .before .before .before .before in
+    let first = words .before .before .before .before in
+    last-countable _
+    (fields-countable _ _ _ (fields-countable _ _ _ (fields-countable _ _ _ (first .before .before .before .before .pre) (first .put-text .ensures)) (words .put-number .ensures)) (simples .put-number2 .ensures))
 
 same-length : tie.Need-same-length
 same-length c = search needs
 
 returns : tie.Need-returns
 returns c =
-    let a = c .before .before .before .before .before .before .before .before .before .before .before .before .before .before .before .before .before .before .args in
-    let w = decimal (a .words) in
-    let s = decimal (a .simples) in
-    let t = decimal (a .target) in
-    row-placed yes w (s ∷ t ∷ []) (c .before .before .before .before .before .before .before .before .before .before .before .before .before .before .put-text .ensures)
-    (row-placed w s (t ∷ []) (c .before .before .before .before .before .before .before .before .before .before .put-number .ensures)
-    (row-placed s t [] (c .before .before .before .before .before .before .put-number2 .ensures) (c .before .before .put-number3 .ensures)))
+    let target = c .before .before in
+    let simples = target .before .before .before .before in
+    let words = simples .before .before .before .before in
+    let first = words .before .before .before .before in
+    row-placed _ _ _ (first .put-text .ensures)
+    (row-placed _ _ _ (words .put-number .ensures) (row-placed _ _ _ (simples .put-number2 .ensures) (last-placed _ (target .put-number3 .ensures))))
 
 pub put-first-row-spec : {M : Type 1} → statement M
 put-first-row-spec =

@@ -10,7 +10,7 @@ use lib.Dec.{ltb}
 use borrow.Author.Tests.{ltb-true, lt-ltb}
 use Rattle.format.proofs.Bools.{both}
 use Rattle.bits.specs.Rows.{InRow}
-use Rattle.layout.specs.Lists.{endAt}
+use Rattle.layout.specs.LineLayout.{endAt}
 use Rattle.reach.proofs.first_target.Statement.{statement}
 use Rattle.reach.proofs.first_target.Tie as tie
 
@@ -66,28 +66,23 @@ abbrev μ-loop : tie.MeasureT-loop
 loop-holds : tie.Need-loop-holds Inv-loop μ-loop
 loop-holds c = record { passed = omega arith; met = inl refl; reached = λ h. absurd (omega arith); none = λ u h. absurd (omega arith) }
 
-add-member : tie.Need-add-member Inv-loop μ-loop
-add-member c = omega (arith, c .before .before .before .pre .few, c .loop-test .taken)
-
-mul-member : tie.Need-mul-member Inv-loop μ-loop
-mul-member c = omega (arith, c .before .before .before .pre .few, c .loop-test .taken)
-
-add-member-2 : tie.Need-add-member-2 Inv-loop μ-loop
-add-member-2 c = omega (arith, c .before .before .before .pre .few, c .loop-test .taken)
+end-at-requires : tie.Need-end-at-requires Inv-loop μ-loop
+end-at-requires c κs = omega (arith, c .before .before .before .pre .few, c .loop-test .taken)
 
 member-requires : tie.Need-member-requires Inv-loop μ-loop
-member-requires c κs = c .before .before .before .pre .room
+member-requires c κs = c .before .before .before .before .pre .room
 
 add-t : tie.Need-add-t Inv-loop μ-loop
-add-t c = omega (arith, c .before .before .before .before .before .pre .few, c .before .before .loop-test .taken)
+add-t c = let l = c .before .before .before .before in omega (arith, l .before .before .pre .few, c .before .before .before .loop-test .taken)
 
 loop-less : tie.Need-loop-less Inv-loop μ-loop
-loop-less c = omega (arith, c .before .before .loop-test .taken)
+loop-less c = omega (arith, c .before .before .before .loop-test .taken)
 
 loop-again : tie.Need-loop-again Inv-loop μ-loop
 loop-again c =
-    let l = c .before .before .before .loop in
-    one-more _ _ _ (l .t) (l .first) (l .inv) (c .before .before .loop-test .taken) (c .before .member .ensures) (c .if1 .first)
+    let l = c .before .before .before .before .loop in
+    let says = rw (c .before .before .end-at .ensures) at (c .before .member .ensures) in
+    one-more _ _ _ (l .t) (l .first) (l .inv) (c .before .before .before .loop-test .taken) says (c .if1 .first)
     (⊎-elim (λ k. inl (k .0 .taken, k .1)) (λ k. inr (k .0 .left, k .1)) (c .if1 .came))
 
 returns : tie.Need-returns Inv-loop μ-loop
@@ -103,9 +98,7 @@ first-target-spec =
     Inv-loop
     μ-loop
     loop-holds
-    add-member
-    mul-member
-    add-member-2
+    end-at-requires
     member-requires
     add-t
     loop-less

@@ -29,9 +29,10 @@ wide-byte-requires c κs = omega arith
 
 returns : tie.Need-returns Inv-loop μ-loop
 returns c =
-    let l = c .before .before .before .before .loop in
-    let part = c .before .before .before .before .before .before .args .part .now in
-    let types = c .before .before .before .before .before .before .args .types in
+    let turn = c .before .before .before .before in
+    let l = turn .loop in
+    let part = turn .before .before .args .part .now in
+    let types = turn .before .before .args .types in
     let e = c .before .wide-byte .ensures .0 in
     sym (l .inv .3 ∙ simples-stop (λ (x : Simple). x .base) (declaredAmong types) part (l .i) (omega arith) (le-ltb (getD {A = ℕ} part (l .i) 0) types (omega arith)))
 
@@ -43,9 +44,10 @@ loop-less c = omega arith
 
 loop-again : tie.Need-loop-again Inv-loop μ-loop
 loop-again c =
-    let l = c .before .before .before .before .loop in
-    let part = c .before .before .before .before .before .before .args .part .now in
-    let types = c .before .before .before .before .before .before .args .types in
+    let turn = c .before .before .before .before in
+    let l = turn .loop in
+    let part = turn .before .before .args .part .now in
+    let types = turn .before .before .args .types in
     let e = c .before .wide-byte .ensures .0 in
     (omega arith, omega arith, l .inv .2, l .inv .3 ∙ simples-pass (λ (x : Simple). x .base) (declaredAmong types) part (l .i) (omega arith) (lt-ltb (getD {A = ℕ} part (l .i) 0) types (omega arith)))
 

@@ -32,8 +32,9 @@ is-exponent-requires c κs = omega arith
 
 returns : tie.Need-returns Inv-loop μ-loop
 returns c =
-    let l = c .before .before .before .before .loop in
-    let part = c .before .before .before .before .before .before .args .part .now in
+    let turn = c .before .before .before .before in
+    let l = turn .loop in
+    let part = turn .before .before .args .part .now in
     sym (l .inv .3 ∙ simples-stop (λ (x : Simple). x .exponent) exponentListed part (l .i) (omega arith) (sym (c .before .is-exponent .ensures) ∙ not-true _ (c .if1 .taken)))
 
 add-i : tie.Need-add-i Inv-loop μ-loop
@@ -44,8 +45,9 @@ loop-less c = omega arith
 
 loop-again : tie.Need-loop-again Inv-loop μ-loop
 loop-again c =
-    let l = c .before .before .before .before .loop in
-    let part = c .before .before .before .before .before .before .args .part .now in
+    let turn = c .before .before .before .before in
+    let l = turn .loop in
+    let part = turn .before .before .args .part .now in
     (omega arith, omega arith, l .inv .2, l .inv .3 ∙ simples-pass (λ (x : Simple). x .exponent) exponentListed part (l .i) (omega arith) (sym (c .before .is-exponent .ensures) ∙ not-false _ (c .if1 .left)))
 
 returns-2 : tie.Need-returns-2 Inv-loop μ-loop

@@ -28,8 +28,9 @@ wide-number-requires c κs = omega arith
 
 returns : tie.Need-returns Inv-loop μ-loop
 returns c =
-    let a = c .before .before .before .before .before .before .args in
-    let l = c .before .before .before .before .loop in
+    let turn = c .before .before .before .before in
+    let a = turn .before .before .args in
+    let l = turn .loop in
     let e = c .before .wide-number .ensures in
     λ X n h. sym (held-no (a .places .now) (a .types) X h (l .i) (omega arith) (omega arith))
 
@@ -41,8 +42,9 @@ loop-less c = omega arith
 
 loop-again : tie.Need-loop-again Inv-loop μ-loop
 loop-again c =
-    let a = c .before .before .before .before .before .before .args in
-    let l = c .before .before .before .before .loop in
+    let turn = c .before .before .before .before in
+    let a = turn .before .before .args in
+    let l = turn .loop in
     let e = c .before .wide-number .ensures in
     (omega arith, l .inv .1, none-more {P = λ j. a .types ≤ getD {A = ℕ} (a .places .now) j 0 % 256} (l .i) (l .inv .2) (omega arith))
 

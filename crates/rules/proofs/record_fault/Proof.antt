@@ -1,12 +1,18 @@
 -- `rules::record_fault` meets its contract: a cut record is 2, and any other has the fault of its body by its kind.
 use borrow.Author.Needs.{needs}
 use native.Mathlib.Omega.{arith}
-use mathlib.Core.Path.{refl, sym, _∙_}
-use Rattle.format.proofs.RecordLaws.{two-bytes-read}
-use Rattle.rules.proofs.WholeRecords.{cut-head, cut-body, kind-other, record-cut, record-whole}
-use Rattle.rules.proofs.Faults.{unlisted-faults}
+use Prim.Native.Nat.{ℕ, _≤_}
+use mathlib.Core.Path.{_≡_, sym, ap, _∙_}
+use mathlib.Core.List.{List}
+use lib.ListN.{length}
+use Rattle.format.specs.Records.{Bytes, nextAt, bodiesAt}
 use Rattle.format.proofs.NameLaws.{bodies-length}
-use Rattle.format.specs.Records.{bodiesAt}
+use Rattle.format.proofs.RecordLaws.{two-bytes-read}
+use Rattle.rules.specs.Layouts.{Kind, basic-type, order-pair, entry, target, slashed-entry, kindNumber}
+use Rattle.rules.specs.Rules.{kindRules, recordRules, firstBroken}
+use Rattle.rules.proofs.KindLaws.{unlisted}
+use Rattle.rules.proofs.WholeRecords.{cut-head, cut-body, record-cut, record-whole, kind-whole}
+use Rattle.rules.proofs.Faults.{unlisted-faults}
 use Rattle.rules.proofs.record_fault.Statement.{statement}
 use Rattle.rules.proofs.record_fault.Tie as tie
 
@@ -52,59 +58,63 @@ target-fault-requires c κs = search needs
 slashed-fault-requires : tie.Need-slashed-fault-requires
 slashed-fault-requires c κs = search needs
 
+-- The start of the function, and the names of the basic types there.
+abbrev entered : tie.Else1 → tie.Start
+entered c = c .before .before .before
+
+-- A record that is there whole, of which head and body are read.
+module _ (c : tie.After-two-bytes2) where
+  abbrev start : tie.Start
+  start = entered (c .before .before .before .before)
+
+  abbrev names : List Bytes
+  names = bodiesAt (start .args .book .now) (start .args .names .now) (start .args .types)
+
+  names-count : length names ≡ start .args .types
+  names-count = bodies-length (start .args .book .now) (start .args .names .now) (start .args .types) (start .pre .1 .whole .room)
+
+  whole : nextAt (start .args .book .now) (start .args .at) ≤ length (start .args .book .now)
+  whole = omega (arith, two-bytes-read (c .before .before .before .two-bytes .ensures))
+
+  -- The fault of the body by the rules for its kind is that of the record.
+  by-kind : (kind : Kind) {fault : ℕ} → c .two-bytes2 .result ≡ kindNumber kind
+      → fault ≡ firstBroken (kindRules kind (c .before .body-at .result .now) names (start .args .entries) (start .args .targets))
+      → fault ≡ firstBroken (recordRules (start .args .book .now) (start .args .at) names (start .args .entries) (start .args .targets))
+  by-kind kind is f =
+      f ∙ ap (λ (body : Bytes). firstBroken (kindRules kind body names (start .args .entries) (start .args .targets))) (c .before .body-at .ensures)
+      ∙ kind-whole (start .args .book .now) (start .args .at) names (start .args .entries) (start .args .targets) kind whole (sym (two-bytes-read (c .two-bytes2 .ensures)) ∙ is)
+
 returns-3 : tie.Need-returns-3
 returns-3 c =
-    let a = c .before .before .before .before .before .before .before .before .before .args in
-    let names = bodiesAt (a .book .now) (a .names .now) (a .types) in
-    let kind = sym (two-bytes-read (c .before .before .two-bytes2 .ensures)) ∙ c .before .match .keys1 in
-    (rw (c .before .before .before .body-at .ensures) at (c .name-fault .ensures (a .entries) (a .targets)))
-    ∙ record-whole (a .book .now) (a .at) names (a .entries) (a .targets) (omega (arith, two-bytes-read (c .before .before .before .before .before .two-bytes .ensures))) kind
+    let k = c .before .before in
+    by-kind k basic-type (c .before .match .keys1) (c .name-fault .ensures (start k .args .entries) (start k .args .targets))
 
 returns-4 : tie.Need-returns-4
 returns-4 c =
-    let a = c .before .before .before .before .before .before .before .before .before .args in
-    let names = bodiesAt (a .book .now) (a .names .now) (a .types) in
-    let count = bodies-length (a .book .now) (a .names .now) (a .types) (c .before .before .before .before .before .before .before .before .before .pre .1 .whole .room) in
-    let kind = sym (two-bytes-read (c .before .before .two-bytes2 .ensures)) ∙ c .before .match .keys2 in
-    (rw (c .before .before .before .body-at .ensures) at (c .pair-fault .ensures names (a .entries) (a .targets) count))
-    ∙ record-whole (a .book .now) (a .at) names (a .entries) (a .targets) (omega (arith, two-bytes-read (c .before .before .before .before .before .two-bytes .ensures))) kind
+    let k = c .before .before in
+    by-kind k order-pair (c .before .match .keys2) (c .pair-fault .ensures (names k) (start k .args .entries) (start k .args .targets) (names-count k))
 
 returns-5 : tie.Need-returns-5
 returns-5 c =
-    let a = c .before .before .before .before .before .before .before .before .before .args in
-    let names = bodiesAt (a .book .now) (a .names .now) (a .types) in
-    let count = bodies-length (a .book .now) (a .names .now) (a .types) (c .before .before .before .before .before .before .before .before .before .pre .1 .whole .room) in
-    let kind = sym (two-bytes-read (c .before .before .two-bytes2 .ensures)) ∙ c .before .match .keys3 in
-    (rw (c .before .before .before .body-at .ensures) at (c .entry-fault .ensures names (a .targets) count))
-    ∙ record-whole (a .book .now) (a .at) names (a .entries) (a .targets) (omega (arith, two-bytes-read (c .before .before .before .before .before .two-bytes .ensures))) kind
+    let k = c .before .before in
+    by-kind k entry (c .before .match .keys3) (c .entry-fault .ensures (names k) (start k .args .targets) (names-count k))
 
 returns-6 : tie.Need-returns-6
 returns-6 c =
-    let a = c .before .before .before .before .before .before .before .before .before .args in
-    let names = bodiesAt (a .book .now) (a .names .now) (a .types) in
-    let count = bodies-length (a .book .now) (a .names .now) (a .types) (c .before .before .before .before .before .before .before .before .before .pre .1 .whole .room) in
-    let kind = sym (two-bytes-read (c .before .before .two-bytes2 .ensures)) ∙ c .before .match .keys4 in
-    (rw (c .before .before .before .body-at .ensures) at (c .target-fault .ensures names (a .entries) count))
-    ∙ record-whole (a .book .now) (a .at) names (a .entries) (a .targets) (omega (arith, two-bytes-read (c .before .before .before .before .before .two-bytes .ensures))) kind
+    let k = c .before .before in
+    by-kind k target (c .before .match .keys4) (c .target-fault .ensures (names k) (start k .args .entries) (names-count k))
 
 returns-7 : tie.Need-returns-7
 returns-7 c =
-    let a = c .before .before .before .before .before .before .before .before .before .args in
-    let names = bodiesAt (a .book .now) (a .names .now) (a .types) in
-    let kind = sym (two-bytes-read (c .before .before .two-bytes2 .ensures)) ∙ c .before .match .keys5 in
-    (rw (c .before .before .before .body-at .ensures) at (c .slashed-fault .ensures (a .targets)))
-    ∙ record-whole (a .book .now) (a .at) names (a .entries) (a .targets) (omega (arith, two-bytes-read (c .before .before .before .before .before .two-bytes .ensures))) kind
+    let k = c .before .before in
+    by-kind k slashed-entry (c .before .match .keys5) (c .slashed-fault .ensures (start k .args .targets))
 
 returns-8 : tie.Need-returns-8
 returns-8 c =
-    let a = c .before .before .before .before .before .before .before .before .args in
-    let names = bodiesAt (a .book .now) (a .names .now) (a .types) in
-    let read = two-bytes-read (c .before .two-bytes2 .ensures) in
-    let none = c .match .rest in
-    let other =
-    kind-other _ (λ e. none .0 .0 .0 .0 .1 (read ∙ e)) (λ e. none .0 .0 .0 .1 (read ∙ e)) (λ e. none .0 .0 .1 (read ∙ e)) (λ e. none .0 .1 (read ∙ e)) (λ e. none .1 (read ∙ e)) in
-    sym (unlisted-faults _ names (a .entries) (a .targets) _ other)
-    ∙ record-whole (a .book .now) (a .at) names (a .entries) (a .targets) (omega (arith, two-bytes-read (c .before .before .before .before .two-bytes .ensures))) refl
+    let a = start (c .before) .args in
+    let never = c .match .rest in
+    unlisted-faults _ (names (c .before)) (a .entries) (a .targets) _ (unlisted (never .0 .0 .0 .0 .1) (never .0 .0 .0 .1) (never .0 .0 .1) (never .0 .1) (never .1))
+    ∙ record-whole (a .book .now) (a .at) (names (c .before)) (a .entries) (a .targets) (whole (c .before)) (sym (two-bytes-read (c .before .two-bytes2 .ensures)))
 
 pub record-fault-spec : {M : Type 1} → statement M
 record-fault-spec =

@@ -8,15 +8,19 @@ use Rattle.bits.proofs.RowLaws.{empty-says}
 use Rattle.bits.proofs.Walking.{putting-starts, putting-turns}
 use Rattle.pregroup.specs.Held.{InRows}
 use Rattle.table.specs.Table.{ContractsAt}
-use Rattle.table.proofs.Walking.{Placing, placing-ends}
+use Rattle.table.proofs.Walking.{PutFitting, put-fitting-ends}
 use Rattle.table.proofs.closed_by.Statement.{statement}
 use Rattle.table.proofs.closed_by.Tie as tie
 
 abbrev Inv-loop : tie.InvT-loop
-Inv-loop order string table k words₀ j₀ words j = (length words ≡ rowWords) × Placing (ContractsAt (InRows order) string k) table k words j
+Inv-loop order string table k words₀ j₀ words j = (length words ≡ rowWords) × PutFitting (ContractsAt (InRows order) string k) table k words j
 
 abbrev μ-loop : tie.MeasureT-loop
 μ-loop order string table k words₀ j₀ words j = rowBits - j
+
+-- The start, from a turn of the loop.
+abbrev entry : tie.At-loop Inv-loop μ-loop → tie.Start Inv-loop μ-loop
+entry c = c .before .before .before .before .before
 
 next-member-requires : tie.Need-next-member-requires Inv-loop μ-loop
 next-member-requires c κs = omega arith
@@ -35,7 +39,7 @@ sub-fits c = omega arith
 
 fits-requires : tie.Need-fits-requires Inv-loop μ-loop
 fits-requires c κs =
-    let s = c .before .before .before .before .before .before .before in
+    let s = entry (c .before .before) in
     let l = c .before .before .loop in
     (omega (arith, s .pre .1 .1 (l .j) (l .inv .1 .member (c .before .loop-test .taken))), s .pre .0)
 
@@ -62,7 +66,7 @@ loop-again c =
     )
 
 returns : tie.Need-returns Inv-loop μ-loop
-returns c = let l = c .before .loop in placing-ends _ _ _ (l .words) (l .j) (l .inv .1) (c .loop-test .left)
+returns c = let l = c .before .loop in put-fitting-ends _ _ _ (l .words) (l .j) (l .inv .1) (c .loop-test .left)
 
 pub closed-by-spec : {M : Type 1} → statement M
 closed-by-spec =

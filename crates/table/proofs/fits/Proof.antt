@@ -6,6 +6,10 @@ use Rattle.bits.proofs.Cases.{false-iff}
 use Rattle.table.proofs.fits.Statement.{statement}
 use Rattle.table.proofs.fits.Tie as tie
 
+-- The start, from where both simple types are known.
+abbrev entry : tie.After-shared-slice-known4 → tie.Start
+entry c = c .before .before .before .before
+
 mul-may-contract : tie.Need-mul-may-contract
 mul-may-contract c = search needs
 
@@ -26,12 +30,12 @@ enum-told c = search needs
 
 returns : tie.Need-returns
 returns c =
-    let a = c .before .before .before .before .before .before .before .args in
+    let a = entry (c .before .before .before) .args in
     false-iff (told-apart (a .order .now) _ _ (c .before .before .may-contract .ensures) (c .enum-told .given .1))
 
 returns-2 : tie.Need-returns-2
 returns-2 c =
-    let a = c .before .before .before .before .before .before .args in
+    let a = entry (c .before .before) .args in
     (λ h. told-contracts (a .order .now) _ _ (c .before .may-contract .ensures) (c .match .keys2), λ t. refl)
 
 pub fits-spec : {M : Type 1} → statement M

@@ -16,7 +16,7 @@ entry c = c .before .before .before .before .before
 staying-requires : tie.Need-staying-requires
 staying-requires c κs =
     let s = c .before .before .before .before in
-    (s .pre .0 .string-there, (s .pre .0 .room, λ j h. s .pre .0 .right (s .args .m) (omega arith) j .0 h .ordered))
+    (s .pre .0 .string-there, (s .pre .0 .room, λ j h. s .pre .0 .right (length (s .args .string .now)) (omega arith) j .0 h .ordered))
 
 empty-requires : tie.Need-empty-requires
 empty-requires c κs = search needs
@@ -24,7 +24,7 @@ empty-requires c κs = search needs
 unite-all-requires : tie.Need-unite-all-requires
 unite-all-requires c κs = λ i h.
     let s = entry (c .before) in
-    omega (arith, s .pre .0 .room, s .pre .0 .right (s .args .m) (omega arith) (i + 1) .0 (c .before .staying .ensures i .0 h .behind) .ordered)
+    omega (arith, s .pre .0 .room, s .pre .0 .right (length (s .args .string .now)) (omega arith) (i + 1) .0 (c .before .staying .ensures i .0 h .behind) .ordered)
 
 slice-aggregate-link-from : tie.Need-slice-aggregate-link-from
 slice-aggregate-link-from c = search needs
@@ -45,8 +45,9 @@ same-length c = search needs
 returns : tie.Need-returns
 returns c =
     let linked = c .before .before in
-    let s = entry (linked .before .before .before .before .before .before) in
-    first-linked (s .args .string .now) (s .args .answer .now) _ (s .args .at) (s .args .m) (linked .link-from .kept .1 .1 .1 .1 .1 .1 .1 .0) (s .pre .0 .space) (linked .link-from .ensures)
+    let united = linked .before .before .before .before in
+    let s = entry (united .before .before) in
+    first-linked (s .args .string .now) (s .args .answer .now) _ (s .args .at) (length (s .args .string .now)) (linked .link-from .kept .1 .1 .1 .1 .1 .1 .0) (s .pre .0 .space) (linked .link-from .ensures)
 
 pub first-linking-spec : {M : Type 1} → statement M
 first-linking-spec =

@@ -5,6 +5,10 @@ use Rattle.bits.proofs.Cases.{false-iff}
 use Rattle.answer.proofs.links.may_close.Statement.{statement}
 use Rattle.answer.proofs.links.may_close.Tie as tie
 
+-- The start, from where it is told whether they could contract.
+abbrev entry : tie.After-shared-slice-known5 → tie.Start
+entry c = c .before .before .before .before .before
+
 mul-may-contract : tie.Need-mul-may-contract
 mul-may-contract c = search needs
 
@@ -31,12 +35,12 @@ member-requires c κs = search needs
 
 returns : tie.Need-returns
 returns c =
-    let a = c .before .before .before .before .before .before .before .before .args in
+    let a = entry (c .before .before .before) .args in
     false-iff (λ h. told-apart (a .order .now) _ _ (c .before .before .may-contract .ensures) (c .enum-told .given .1) (h .fits))
 
 returns-2 : tie.Need-returns-2
 returns-2 c =
-    let a = c .before .before .before .before .before .before .before .before .args in
+    let a = entry (c .before .before .before) .args in
     let may = told-contracts (a .order .now) _ _ (c .before .before .may-contract .ensures) (c .before .match .keys2) in
     let member = c .member .ensures in
     (λ h. record { fits = may; behind = member .0 h }, λ h. member .1 (h .behind))

@@ -1,4 +1,4 @@
--- `answer::links::staying` meets its contract: its loop is the walk of the table's proofs/Walking.antt over row m.
+-- `answer::links::staying` meets its contract: its loop is the walk of the table's proofs/Walking.antt over the row of the whole string.
 use Prim.Native.Nat.{_-_}
 use native.Mathlib.Omega.{arith}
 use mathlib.Core.Path.{_≡_, refl, _∙_}
@@ -7,16 +7,16 @@ use Rattle.figures.specs.Limits.{rowBits, rowWords}
 use Rattle.bits.proofs.RowLaws.{empty-says}
 use Rattle.bits.proofs.Walking.{putting-starts, putting-turns}
 use Rattle.pregroup.specs.Held.{InRows}
-use Rattle.table.proofs.Walking.{Placing, placing-ends}
+use Rattle.table.proofs.Walking.{PutFitting, put-fitting-ends}
 use Rattle.answer.specs.Links.{RemainsAt}
 use Rattle.answer.proofs.links.staying.Statement.{statement}
 use Rattle.answer.proofs.links.staying.Tie as tie
 
 abbrev Inv-loop : tie.InvT-loop
-Inv-loop order string target table m words₀ j₀ words j = (length words ≡ rowWords) × Placing (RemainsAt (InRows order) target string) table m words j
+Inv-loop order string target table words₀ j₀ words j = (length words ≡ rowWords) × PutFitting (RemainsAt (InRows order) target string) table (length string) words j
 
 abbrev μ-loop : tie.MeasureT-loop
-μ-loop order string target table m words₀ j₀ words j = rowBits - j
+μ-loop order string target table words₀ j₀ words j = rowBits - j
 
 -- The start, from a turn of the loop.
 abbrev entry : tie.At-loop Inv-loop μ-loop → tie.Start Inv-loop μ-loop
@@ -73,7 +73,7 @@ loop-again c =
     )
 
 returns : tie.Need-returns Inv-loop μ-loop
-returns c = let l = c .before .loop in placing-ends _ _ _ (l .words) (l .j) (l .inv .1) (c .loop-test .left)
+returns c = let l = c .before .loop in put-fitting-ends _ _ _ (l .words) (l .j) (l .inv .1) (c .loop-test .left)
 
 pub staying-spec : {M : Type 1} → statement M
 staying-spec =

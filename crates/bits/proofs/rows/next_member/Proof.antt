@@ -45,8 +45,9 @@ add-result c = omega arith
 
 returns : tie.Need-returns Inv-loop μ-loop
 returns c =
-    let a = c .before .before .before .before .before .before .before .args in
-    let l = c .before .before .before .before .before .loop in
+    let turn = c .before .before .before .before .before in
+    let a = turn .before .before .args in
+    let l = turn .loop in
     walk-finds (a .rows .now) (a .u) (a .from) (l .at) _ (l .inv) (omega arith) (c .before .before .above .ensures) (c .lowest .result) (omega (arith, c .before .before .before .shared-slice-known2 .given (9 * a .u + l .at / 64))) (c .lowest .ensures)
 
 add-at : tie.Need-add-at Inv-loop μ-loop

@@ -13,7 +13,10 @@ same-length : tie.Need-same-length
 same-length c = search needs
 
 returns : tie.Need-returns
-returns c = let flag = c .before .before .before .before .if1 .taken in part-says _ (c .before .before .put-in .ensures) (λ v. (λ e. (e, flag), λ p. p .0))
+returns c =
+    let put = c .before .before in
+    let flag = put .before .before .if1 .taken in
+    part-says _ (put .put-in .ensures) (λ v. (λ e. (e, flag), λ p. p .0))
 
 returns-2 : tie.Need-returns-2
 returns-2 c = none-says _ (λ v p. false≢true (sym (c .if1 .left) ∙ p .1))

@@ -1,7 +1,7 @@
 -- `book::entries::entry_length` meets its contract: the signs of a text are counted, and the bytes of pairs halved.
 use borrow.Author.Needs.{needs}
-use mathlib.Core.Path.{sym, ap, _∙_}
-use Rattle.format.specs.Records.{Bytes}
+use mathlib.Core.Path.{_≡_, sym, ap, _∙_}
+use Rattle.format.specs.Records.{Bytes, kindAt, bodyAt}
 use Rattle.format.proofs.RecordLaws.{two-bytes-read}
 use Rattle.rules.specs.Layouts.{typePart}
 use Rattle.book.proofs.EntryTypes.{text-entry-length, pairs-entry-length}
@@ -23,19 +23,28 @@ two-bytes-requires c κs = search needs
 count-simples-requires : tie.Need-count-simples-requires
 count-simples-requires c κs = search needs
 
+-- The record's kind is read, and the part of its body that holds the type.
+module _ (c : tie.After-two-bytes) where
+  abbrev entry : tie.Start
+  entry = c .before .before .before .before
+
+  part-is : c .before .type-part .result .now ≡ typePart (bodyAt (entry .args .book .now) (entry .args .at))
+  part-is = c .before .type-part .ensures ∙ ap (λ (b : Bytes). typePart b) (c .before .before .body-at .ensures)
+
+  kind-read : c .two-bytes .result ≡ kindAt (entry .args .book .now) (entry .args .at)
+  kind-read = two-bytes-read (c .two-bytes .ensures)
+
 returns : tie.Need-returns
 returns c =
-    let a = c .before .before .before .before .before .before .args in
-    let part = c .before .before .before .type-part .ensures ∙ ap (λ (b : Bytes). typePart b) (c .before .before .before .before .body-at .ensures) in
-    let kind = sym (two-bytes-read (c .before .before .two-bytes .ensures)) ∙ c .before .if1 .taken in
-    λ names formed. c .count-simples .ensures ∙ text-entry-length (a .book .now) names (a .at) _ part formed kind
+    let k = c .before .before in
+    let a = entry k .args in
+    λ names formed. c .count-simples .ensures ∙ text-entry-length (a .book .now) names (a .at) _ (part-is k) formed (sym (kind-read k) ∙ c .before .if1 .taken)
 
 returns-2 : tie.Need-returns-2
 returns-2 c =
-    let a = c .before .before .before .before .before .args in
-    let part = c .before .before .type-part .ensures ∙ ap (λ (b : Bytes). typePart b) (c .before .before .before .body-at .ensures) in
-    let read = two-bytes-read (c .before .two-bytes .ensures) in
-    λ names formed. pairs-entry-length (a .book .now) names (a .at) _ part formed (λ k. c .if1 .left (read ∙ k))
+    let k = c .before in
+    let a = entry k .args in
+    λ names formed. pairs-entry-length (a .book .now) names (a .at) _ (part-is k) formed (λ e. c .if1 .left (kind-read k ∙ e))
 
 pub entry-length-spec : {M : Type 1} → statement M
 entry-length-spec =

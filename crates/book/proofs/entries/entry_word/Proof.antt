@@ -3,6 +3,7 @@ use borrow.Author.Needs.{needs}
 use mathlib.Core.Path.{ap, _∙_}
 use Rattle.format.specs.Records.{Bytes}
 use Rattle.rules.specs.Layouts.{wordOf}
+use Rattle.rules.proofs.Layouts.{word-shape}
 use Rattle.book.proofs.entries.entry_word.Statement.{statement}
 use Rattle.book.proofs.entries.entry_word.Tie as tie
 
@@ -10,7 +11,7 @@ body-at-requires : tie.Need-body-at-requires
 body-at-requires c κs = search needs
 
 word-part-requires : tie.Need-word-part-requires
-word-part-requires c κs = rw (c .body-at .ensures) (c .before .before .pre .1)
+word-part-requires c κs = rw (c .body-at .ensures) (word-shape _ (c .before .before .pre .1) .fits)
 
 returns : tie.Need-returns
 returns c = c .word-part .ensures ∙ ap (λ (b : Bytes). wordOf b) (c .before .body-at .ensures)

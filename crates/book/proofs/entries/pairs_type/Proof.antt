@@ -38,8 +38,9 @@ shared-slice-read-hold-simple-2 c = omega arith
 
 hold-simple-requires : tie.Need-hold-simple-requires Inv-loop μ-loop
 hold-simple-requires c κs =
-    let p = c .before .before .before .before .before .pre in
-    listed-at (c .before .before .before .before .before .args .part .now) (p .0) (p .2) (c .before .before .before .loop .i) (omega arith)
+    let turn = c .before .before .before in
+    let s = turn .before .before in
+    listed-at (s .args .part .now) (s .pre .0) (s .pre .2) (turn .loop .i) (omega arith)
 
 mul-simples : tie.Need-mul-simples Inv-loop μ-loop
 mul-simples c = omega arith
@@ -55,8 +56,9 @@ loop-less c = omega arith
 
 loop-again : tie.Need-loop-again Inv-loop μ-loop
 loop-again c =
-    let l = c .before .before .before .before .loop in
-    let part = c .before .before .before .before .before .before .args .part .now in (
+    let turn = c .before .before .before .before in
+    let l = turn .loop in
+    let part = turn .before .before .args .part .now in (
       omega arith,
       length-set (l .simples) (l .i) (c .hold-simple .result) ∙ l .inv .1,
       filled-next (λ (k x : ℕ). held x ≡ simpleFrom part (2 * k)) (l .simples) (l .i) (c .hold-simple .result) (omega arith) (l .inv .2) (c .hold-simple .ensures),

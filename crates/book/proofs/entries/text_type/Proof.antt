@@ -4,7 +4,10 @@ use Prim.Native.Nat.{ℕ, _-_, _≤_, _<_}
 use mathlib.Core.Path.{_≡_, refl, _∙_}
 use lib.ListN.{length, getD, length-set}
 use Rattle.figures.specs.Limits.{maxEntrySimples}
+use Rattle.pregroup.specs.Types.{PregroupType}
 use Rattle.format.specs.Records.{bodiesAt}
+use Rattle.notation.specs.Trees.{textType}
+use Rattle.notation.specs.Places.{Holds}
 use Rattle.book.proofs.HeldTypes.{filled-next, copied-held}
 use Rattle.rules.proofs.Texts.{room-all, shallow-shown}
 use Rattle.book.proofs.entries.text_type.Statement.{statement}
@@ -23,13 +26,21 @@ slice-aggregate-read-text c = omega arith
 read-text-requires : tie.Need-read-text-requires Inv-loop μ-loop
 read-text-requires c κs = (c .before .before .before .before .pre .0, omega (arith, room-all))
 
+-- The text is read: its type stands at the first places.
+module _ (c : tie.After-read-text Inv-loop μ-loop) where
+  abbrev entry : tie.Start Inv-loop μ-loop
+  entry = c .before .before .before .before .before
+
+  abbrev meant : PregroupType
+  meant = let a = entry .args in textType (bodiesAt (a .book .now) (a .names .now) (a .types)) (a .text .now)
+
+  says : (c .read-text .result ≡ length meant) × Holds (c .read-text .last .1 .1 .1 .1 .0) 0 meant
+  says = let a = entry .args in shallow-shown (bodiesAt (a .book .now) (a .names .now) (a .types)) (a .text .now) (c .read-text .ensures) (entry .pre .1)
+
 loop-holds : tie.Need-loop-holds Inv-loop μ-loop
 loop-holds c =
-    let a = c .before .before .before .before .before .before .args in
-    let says = shallow-shown (bodiesAt (a .book .now) (a .names .now) (a .types)) (a .text .now) (c .before .read-text .ensures) (c .before .before .before .before .before .before .pre .1) in
-    let size = says .0 in
-    let short = c .before .before .before .before .before .before .pre .2 in
-    (omega arith, omega arith, c .before .read-text .kept .1 .1 .1 .1 .0, refl, λ k l. absurd (omega arith))
+    let r = c .before in
+    (omega arith, omega (arith, says r .0, entry r .pre .2), r .read-text .kept .1 .1 .1 .1 .0, refl, λ k l. absurd (omega arith))
 
 mul-simples : tie.Need-mul-simples Inv-loop μ-loop
 mul-simples c = omega arith
@@ -62,10 +73,9 @@ loop-again c =
 
 returns : tie.Need-returns Inv-loop μ-loop
 returns c =
-    let a = c .before .before .before .before .before .before .before .before .args in
+    let r = c .before .before .before in
     let l = c .before .loop in
-    let says = shallow-shown (bodiesAt (a .book .now) (a .names .now) (a .types)) (a .text .now) (c .before .before .before .read-text .ensures) (c .before .before .before .before .before .before .before .before .pre .1) in
-    copied-held _ _ _ (says .1) (c .before .before .before .before .before .before .before .before .pre .2) (says .0) (λ k h. l .inv .4 k (omega arith))
+    copied-held _ _ _ (says r .1) (entry r .pre .2) (says r .0) (λ k h. l .inv .4 k (omega arith))
 
 pub text-type-spec : {M : Type 1} → statement M
 text-type-spec =

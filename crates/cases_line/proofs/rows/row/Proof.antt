@@ -22,7 +22,8 @@ read-requires c κs = search needs
 slice-aggregate-shown : tie.Need-slice-aggregate-shown
 slice-aggregate-shown c =
     let r = c .before .before in
-    let lent = r .before .before .before .before .before .before .before .args .lent in
+    let known = r .before .before .before in
+    let lent = known .before .before .before .before .args .lent in
     sym (length-front (replicate 512 9999) (r .read .last .1 .1 .0) lent (r .read .kept .1 .1 .0))
 
 shown-requires : tie.Need-shown-requires

@@ -40,7 +40,8 @@ part-write-all-start c = search needs
 part-write-all-end : tie.Need-part-write-all-end
 part-write-all-end c =
     let r = c .before .before in
-    let rendered = r .before .before .before .before .before .before .before in
+    let lent = r .before .before .before in
+    let rendered = lent .before .before .before .before in
     let w = rw (r .result .given .1) at (rendered .render .ensures .0) in
     omega (arith, w .0, w .1)
 

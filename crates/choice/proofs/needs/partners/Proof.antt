@@ -2,7 +2,8 @@
 use native.Mathlib.Omega.{arith}
 use Prim.Native.Nat.{_-_}
 use mathlib.Core.Path.{_≡_, refl, _∙_}
-use lib.ListN.{getD, length}
+use lib.ListN.{length}
+use Rattle.graph.specs.Graph.{nextAt, simpleAt}
 use Rattle.figures.specs.Limits.{rowBits, rowWords}
 use Rattle.bits.proofs.RowLaws.{empty-says}
 use Rattle.bits.proofs.Walking.{Putting, putting-starts, putting-turns, putting-ends}
@@ -13,36 +14,30 @@ use Rattle.choice.proofs.needs.partners.Statement.{statement}
 use Rattle.choice.proofs.needs.partners.Tie as tie
 
 abbrev Inv-loop : tie.InvT-loop
-Inv-loop order simples nexts chart needs n u behind x words₀ y₀ words y =
-    (behind ≡ getD nexts u 0) × (x ≡ getD simples u 0) × (length words ≡ rowWords)
-    × Putting chart (getD nexts u 0) (getD nexts u 0) (λ v. v) (LinksTo (InRows order) simples nexts chart needs n (getD simples u 0)) words y
+Inv-loop order nodes chart needs n u behind x words₀ y₀ words y =
+    (behind ≡ nextAt nodes u) × (x ≡ simpleAt nodes u) × (length words ≡ rowWords)
+    × Putting chart (nextAt nodes u) (nextAt nodes u) (λ v. v) (LinksTo (InRows order) nodes chart needs n (simpleAt nodes u)) words y
 
 abbrev μ-loop : tie.MeasureT-loop
-μ-loop order simples nexts chart needs n u behind x words₀ y₀ words y = rowBits - y
+μ-loop order nodes chart needs n u behind x words₀ y₀ words y = rowBits - y
 
--- The start, from a turn of the loop.
+-- The start, from where the node behind is known, and from a turn of the loop.
+abbrev first : tie.After-next-at Inv-loop μ-loop → tie.Start Inv-loop μ-loop
+first c = c .before .before .before .before .before
+
 abbrev entry : tie.At-loop Inv-loop μ-loop → tie.Start Inv-loop μ-loop
-entry c = c .before .before .before .before .before .before .before .before
+entry c = first (c .before .before)
 
-mul-behind : tie.Need-mul-behind Inv-loop μ-loop
-mul-behind c = omega arith
+next-at-requires : tie.Need-next-at-requires Inv-loop μ-loop
+next-at-requires c κs = c .before .before .before .before .pre .0 .node
 
-shared-slice-read-behind : tie.Need-shared-slice-read-behind Inv-loop μ-loop
-shared-slice-read-behind c = omega arith
-
-cast-behind : tie.Need-cast-behind Inv-loop μ-loop
-cast-behind c = omega arith
-
-mul-x : tie.Need-mul-x Inv-loop μ-loop
-mul-x c = omega arith
-
-shared-slice-read-x : tie.Need-shared-slice-read-x Inv-loop μ-loop
-shared-slice-read-x c = omega arith
+simple-at-requires : tie.Need-simple-at-requires Inv-loop μ-loop
+simple-at-requires c κs = c .before .before .before .before .before .pre .0 .node
 
 loop-holds : tie.Need-loop-holds Inv-loop μ-loop
 loop-holds c =
-    let s = c .before .before .before .before .before .before .before in
-    (refl, refl, refl, putting-starts _ _ _ _ _ _ _ empty-says (first-behind (s .pre .0)))
+    let behind = c .before .next-at .ensures in
+    (behind, c .simple-at .ensures, refl, rw behind (putting-starts _ _ _ _ _ _ _ empty-says (first-behind (first (c .before) .pre .0))))
 
 slice-aggregate-put-where : tie.Need-slice-aggregate-put-where Inv-loop μ-loop
 slice-aggregate-put-where c = omega arith
@@ -60,8 +55,14 @@ put-where-requires c κs = (omega arith, c .before .before .before .loop .inv .2
 add-next-member : tie.Need-add-next-member Inv-loop μ-loop
 add-next-member c = omega arith
 
+-- The turn, from where a node is asked.
+abbrev turn : tie.After-links-to Inv-loop μ-loop → tie.In-loop Inv-loop μ-loop
+turn c = c .before .before
+
 next-member-requires : tie.Need-next-member-requires Inv-loop μ-loop
-next-member-requires c κs = omega arith
+next-member-requires c κs =
+    let at = turn (c .before .before) .before in
+    (rw (at .loop .inv .0) (entry at .pre .0 .room), omega arith)
 
 loop-less : tie.Need-loop-less Inv-loop μ-loop
 loop-less c = omega arith
@@ -69,13 +70,14 @@ loop-less c = omega arith
 loop-again : tie.Need-loop-again Inv-loop μ-loop
 loop-again c =
     let put = c .before .before .put-where in
-    let turn = c .before .before .before .before .before in
-    let l = turn .before .loop in (
-      refl,
-      refl,
+    let now = turn (c .before .before .before) in
+    let l = now .before .loop in
+    let next = rw (l .inv .0) at (c .next-member .ensures) in
+    let links = rw (l .inv .1) at (c .before .before .before .links-to .ensures) in (
+      l .inv .0,
+      l .inv .1,
       put .kept .0 ∙ l .inv .2,
-      putting-turns _ _ _ _ _ (l .words) (l .y) (l .inv .3) _ _ _ (turn .loop-test .taken) (c .before .before .before .links-to .ensures) (put .ensures)
-          (c .next-member .ensures),
+      putting-turns _ _ _ _ _ (l .words) (l .y) (l .inv .3) _ _ _ (now .loop-test .taken) links (put .ensures) next,
     )
 
 returns : tie.Need-returns Inv-loop μ-loop
@@ -90,11 +92,8 @@ partners-spec =
     (tie.spec
     Inv-loop
     μ-loop
-    mul-behind
-    shared-slice-read-behind
-    cast-behind
-    mul-x
-    shared-slice-read-x
+    next-at-requires
+    simple-at-requires
     loop-holds
     slice-aggregate-put-where
     links-to-requires

@@ -8,8 +8,8 @@ use Rattle.figures.specs.Limits.{maxTypes}
 use Rattle.format.proofs.names.keep_name.Statement.{statement}
 use Rattle.format.proofs.names.keep_name.Tie as tie
 
-key-of-requires : tie.Need-key-of-requires
-key-of-requires c κs = search needs
+name-key-requires : tie.Need-name-key-requires
+name-key-requires c κs = search needs
 
 add-place : tie.Need-add-place
 add-place c = search needs
@@ -30,19 +30,21 @@ mul-names-2 : tie.Need-mul-names-2
 mul-names-2 c = search needs
 
 slice-write-names-2 : tie.Need-slice-write-names-2
-slice-write-names-2 c = omega (arith, c .before .before .before .pre .2, c .key-of .ensures, length-set (c .before .before .before .args .names .now) (c .before .before .before .args .types) (c .before .before .before .args .at))
+slice-write-names-2 c =
+    let s = c .before .before .before in
+    omega (arith, s .pre .2, c .name-key .ensures, length-set (s .args .names .now) (s .args .types) (s .args .at))
 
 same-length : tie.Need-same-length
 same-length c = search needs
 
 returns : tie.Need-returns
-returns c = record { place = maxTypes + c .key-of .result; behind = omega arith; kept = refl }
+returns c = record { place = maxTypes + c .name-key .result; behind = omega arith; kept = refl }
 
 pub keep-name-spec : {M : Type 1} → statement M
 keep-name-spec =
     tie.close
     (tie.spec
-    key-of-requires
+    name-key-requires
     add-place
     cast-names
     mul-names

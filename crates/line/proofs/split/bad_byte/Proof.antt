@@ -17,6 +17,10 @@ Inv-loop line i₀ i = (i ≤ length line) × (byteFault 0 line ≡ byteFault i 
 abbrev μ-loop : tie.MeasureT-loop
 μ-loop line i₀ i = length line - i
 
+-- The start of the function.
+abbrev begin : tie.At-loop Inv-loop μ-loop → tie.Start Inv-loop μ-loop
+begin c = c .before .before
+
 loop-holds : tie.Need-loop-holds Inv-loop μ-loop
 loop-holds c = (omega arith, refl)
 
@@ -29,7 +33,7 @@ is-line-byte-requires c κs = omega arith
 returns : tie.Need-returns Inv-loop μ-loop
 returns c =
     let l = c .before .before .before .before .loop in
-    let line = c .before .before .before .before .before .before .args .line .now in (
+    let line = begin (c .before .before .before .before) .args .line .now in (
       omega arith,
       l .inv .1 ∙ byte-bad line (l .i) (omega arith) (sym (c .before .is-line-byte .ensures) ∙ not-true _ (c .if1 .taken))
           ∙ sym (ap (λ (t : Bool). cond t (some (l .i)) none) (lt-ltb (l .i) (length line) (omega arith))),
@@ -44,13 +48,13 @@ loop-less c = omega arith
 loop-again : tie.Need-loop-again Inv-loop μ-loop
 loop-again c =
     let l = c .before .before .before .before .loop in
-    let line = c .before .before .before .before .before .before .args .line .now in
+    let line = begin (c .before .before .before .before) .args .line .now in
     (omega arith, l .inv .1 ∙ byte-fine line (l .i) (omega arith) (sym (c .before .is-line-byte .ensures) ∙ not-false _ (c .if1 .left)))
 
 returns-2 : tie.Need-returns-2 Inv-loop μ-loop
 returns-2 c =
     let l = c .before .loop in
-    let line = c .before .before .before .args .line .now in (
+    let line = begin (c .before) .args .line .now in (
       omega arith,
       l .inv .1 ∙ bytes-end line (l .i) (omega arith) ∙ sym (ap (λ (t : Bool). cond t (some (l .i)) none) (le-ltb (l .i) (length line) (omega arith))),
     )

@@ -1,11 +1,12 @@
 -- `line::split::split` meets its contract: the words kept and the words that the rest holds are always those of the line.
 use native.Mathlib.Omega.{arith}
-use Prim.Native.Nat.{_-_}
+use Prim.Native.Nat.{_-_, _≤_}
 use mathlib.Core.Path.{ap, _∙_}
 use mathlib.Core.Bool.{Bool, cond}
 use mathlib.Core.Option.{some, none}
 use lib.ListN.{length}
 use borrow.Author.Tests.{lt-ltb, le-ltb}
+use Rattle.figures.specs.Limits.{maxWords}
 use Rattle.line.proofs.WordLaws.{Spelt, word-found}
 use Rattle.line.proofs.SplitLaws.{Splitting, splitting-start, splitting-long, splitting-many, splitting-next, splitting-end}
 use Rattle.line.specs.Split.{at-byte}
@@ -18,6 +19,14 @@ Inv-loop line starts₀ ends₀ bad count₀ at₀ starts ends count at = Splitt
 abbrev μ-loop : tie.MeasureT-loop
 μ-loop line starts₀ ends₀ bad count₀ at₀ starts ends count at = length line - at
 
+-- The start of the function.
+abbrev start : tie.After-bad-byte Inv-loop μ-loop → tie.Start Inv-loop μ-loop
+start c = c .before .before .before .before
+
+-- .. and of the loop.
+abbrev begin : tie.At-loop Inv-loop μ-loop → tie.Start Inv-loop μ-loop
+begin c = start (c .before .before .before)
+
 bad-byte-requires : tie.Need-bad-byte-requires Inv-loop μ-loop
 bad-byte-requires c κs = omega arith
 
@@ -29,7 +38,7 @@ skip-spaces-requires c κs = omega arith
 
 loop-holds : tie.Need-loop-holds Inv-loop μ-loop
 loop-holds c =
-    let a = c .before .before .before .before .before .before .args in
+    let a = start (c .before .before) .args in
     let r = c .before .before .bad-byte in
     let fine = r .ensures .1 ∙ ap (λ (t : Bool). cond t (some (r .result)) none) (le-ltb (r .result) (length (a .line .now)) (omega arith)) in
     splitting-start (a .line .now) (a .starts .now) (a .ends .now) _ fine (c .skip-spaces .ensures)
@@ -39,7 +48,7 @@ find-byte-requires c κs = omega arith
 
 -- The word that starts where the loop stands.
 module _ (c : tie.After-find-byte Inv-loop μ-loop) where
-  word : Spelt (c .before .before .before .before .before .before .before .before .before .args .line .now) (c .before .before .loop .at) (c .find-byte .result)
+  word : Spelt (begin (c .before .before) .args .line .now) (c .before .before .loop .at) (c .find-byte .result)
   word = word-found _ _ _ (c .before .loop-test .taken) (c .before .before .loop .inv .stops (c .before .loop-test .taken)) (c .find-byte .ensures)
 
 sub-if2 : tie.Need-sub-if2 Inv-loop μ-loop
@@ -53,9 +62,8 @@ same-length-2 c = c .before .before .before .loop .inv .ends-length
 
 returns-2 : tie.Need-returns-2 Inv-loop μ-loop
 returns-2 c =
-    let a = c .before .before .before .before .before .before .before .before .before .before .args in
     let l = c .before .before .before .loop in
-    splitting-long (a .line .now) (a .starts .now) (a .ends .now) (l .starts) (l .ends) (l .count) (l .at) (l .inv) _ (word (c .before)) (c .if2 .taken)
+    splitting-long _ _ _ (l .starts) (l .ends) (l .count) (l .at) (l .inv) _ (word (c .before)) (c .if2 .taken)
 
 same-length-3 : tie.Need-same-length-3 Inv-loop μ-loop
 same-length-3 c = c .before .before .before .before .loop .inv .starts-length
@@ -65,21 +73,20 @@ same-length-4 c = c .before .before .before .before .loop .inv .ends-length
 
 returns-3 : tie.Need-returns-3 Inv-loop μ-loop
 returns-3 c =
-    let a = c .before .before .before .before .before .before .before .before .before .before .before .args in
     let l = c .before .before .before .before .loop in
-    splitting-many (a .line .now) (a .starts .now) (a .ends .now) (l .starts) (l .ends) (l .count) (l .at) (l .inv) _ (word (c .before .before)) (omega arith) (c .if3 .taken)
+    splitting-many _ _ _ (l .starts) (l .ends) (l .count) (l .at) (l .inv) _ (word (c .before .before)) (omega arith) (c .if3 .taken)
 
 mul-starts : tie.Need-mul-starts Inv-loop μ-loop
 mul-starts c = omega arith
 
 slice-write-starts : tie.Need-slice-write-starts Inv-loop μ-loop
-slice-write-starts c = omega (arith, c .before .before .before .before .loop .inv .starts-length, c .before .before .before .before .before .before .before .before .before .before .before .pre .0)
+slice-write-starts c = omega (arith, c .before .before .before .before .loop .inv .starts-length, begin (c .before .before .before .before) .pre .0)
 
 mul-ends : tie.Need-mul-ends Inv-loop μ-loop
 mul-ends c = omega arith
 
 slice-write-ends : tie.Need-slice-write-ends Inv-loop μ-loop
-slice-write-ends c = omega (arith, c .before .before .before .before .loop .inv .ends-length, c .before .before .before .before .before .before .before .before .before .before .before .pre .1)
+slice-write-ends c = omega (arith, c .before .before .before .before .loop .inv .ends-length, begin (c .before .before .before .before) .pre .1)
 
 add-count : tie.Need-add-count Inv-loop μ-loop
 add-count c = omega arith
@@ -89,16 +96,14 @@ skip-spaces-requires-2 c κs = word (c .before .before) .inside
 
 loop-less : tie.Need-loop-less Inv-loop μ-loop
 loop-less c =
-    let a = c .before .before .before .before .before .before .before .before .before .before .before .before .args in
-    let l = c .before .before .before .before .before .loop in
     omega (arith, word (c .before .before .before) .some-bytes, word (c .before .before .before) .inside, c .skip-spaces2 .ensures .forth, c .skip-spaces2 .ensures .inside)
 
 loop-again : tie.Need-loop-again Inv-loop μ-loop
 loop-again c =
-    let a = c .before .before .before .before .before .before .before .before .before .before .before .before .args in
     let l = c .before .before .before .before .before .loop in
-    splitting-next (a .line .now) (a .starts .now) (a .ends .now) (l .starts) (l .ends) (l .count) (l .at) (l .inv) _ (word (c .before .before .before)) (omega arith) (omega arith) _ (c .skip-spaces2 .ensures)
-    (omega (arith, l .inv .starts-length, c .before .before .before .before .before .before .before .before .before .before .before .before .pre .0)) (omega (arith, l .inv .ends-length, c .before .before .before .before .before .before .before .before .before .before .before .before .pre .1))
+    let pre = begin (c .before .before .before .before .before) .pre in
+    splitting-next _ _ _ (l .starts) (l .ends) (l .count) (l .at) (l .inv) _ (word (c .before .before .before)) (omega arith) (omega arith) _ (c .skip-spaces2 .ensures)
+    (omega (arith, l .inv .starts-length, pre .0)) (omega (arith, l .inv .ends-length, pre .1))
 
 same-length-5 : tie.Need-same-length-5 Inv-loop μ-loop
 same-length-5 c = c .before .loop .inv .starts-length
@@ -108,9 +113,11 @@ same-length-6 c = c .before .loop .inv .ends-length
 
 returns-4 : tie.Need-returns-4 Inv-loop μ-loop
 returns-4 c =
-    let a = c .before .before .before .before .before .before .before .before .args in
     let l = c .before .loop in
-    splitting-end (a .line .now) (a .starts .now) (a .ends .now) (l .starts) (l .ends) (l .count) (l .at) (l .inv) (omega arith)
+    let pre = begin (c .before) .pre in
+    let room : maxWords ≤ length (l .starts) = omega (arith, l .inv .starts-length, pre .0) in
+    let room′ : maxWords ≤ length (l .ends) = omega (arith, l .inv .ends-length, pre .1) in
+    (splitting-end _ _ _ (l .starts) (l .ends) (l .count) (l .at) (l .inv) room room′ (omega arith), omega (arith, room, l .inv .few), omega (arith, room′, l .inv .few))
 
 pub split-spec : {M : Type 1} → statement M
 split-spec =

@@ -8,9 +8,9 @@ use Rattle.listing.proofs.parts.type_of.Tie as tie
 
 returns : tie.Need-returns
 returns c =
-    let a = c .before .before .before .before .args in
-    rw (no-type (a .book .now) (bodiesAt (a .book .now) (a .names .now) (a .types)) (a .offsets .now) (a .count) (c .before .before .before .before .pre .1 .entries) (a .entry) (c .if1 .taken))
-    (nothing-held _ refl)
+    let start = c .before .before .before .before in
+    let a = start .args in
+    rw (no-type (a .book .now) (bodiesAt (a .book .now) (a .names .now) (a .types)) (a .entries .now) (a .entry) (c .if1 .taken)) (nothing-held _ refl)
 
 mul-wide-number : tie.Need-mul-wide-number
 mul-wide-number c = search needs
@@ -23,14 +23,18 @@ wide-number-requires c κs = search needs
 
 entry-type-requires : tie.Need-entry-type-requires
 entry-type-requires c κs =
-    let i = c .before .before .before .before .before .before .args .entry in
-    let l = c .before .before .before .before .before .before .pre .1 in
-    rw (c .wide-number .ensures) (c .before .before .before .before .before .before .pre .0, l .entries .whole .whole i (c .before .before .if1 .left), l .formed i (c .before .before .if1 .left))
+    let inside = c .before .before in
+    let start = inside .before .before .before .before in
+    let i = start .args .entry in
+    let l = start .pre .1 in
+    rw (c .wide-number .ensures) (start .pre .0, l .kept .whole i (inside .if1 .left), l .formed i (inside .if1 .left))
 
 returns-2 : tie.Need-returns-2
 returns-2 c =
-    let a = c .before .before .before .before .before .before .before .args in
-    rw (type-at (a .book .now) (bodiesAt (a .book .now) (a .names .now) (a .types)) (a .offsets .now) (a .count) (c .before .before .before .before .before .before .before .pre .1 .entries) (a .entry) (c .before .before .before .if1 .left))
+    let inside = c .before .before .before in
+    let start = inside .before .before .before .before in
+    let a = start .args in
+    rw (type-at (a .book .now) (bodiesAt (a .book .now) (a .names .now) (a .types)) (a .entries .now) (a .entry) (inside .if1 .left))
     (rw (c .before .wide-number .ensures) at (c .entry-type .ensures))
 
 pub type-of-spec : {M : Type 1} → statement M

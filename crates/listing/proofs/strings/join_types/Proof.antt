@@ -2,25 +2,35 @@
 use native.Mathlib.Omega.{arith}
 use Prim.Native.Nat.{_*_, _-_, _≤_}
 use mathlib.Core.Path.{_≡_, refl}
-use mathlib.Core.List.{_++_, map}
+use mathlib.Core.List.{List, _++_, map}
 use lib.ListN.{length, take, drop}
 use Rattle.figures.specs.Limits.{maxEntrySimples}
 use Rattle.pregroup.specs.Held.{held}
 use Rattle.format.specs.Records.{bodiesAt}
-use Rattle.book.specs.Kept.{entriesAt}
+use Rattle.book.specs.Format.{Entry}
+use Rattle.book.specs.Kept.{entryFrom}
 use Rattle.listing.specs.Listing.{joined}
 use Rattle.listing.proofs.StringLaws.{joined-next, joined-all}
 use Rattle.listing.proofs.strings.join_types.Statement.{statement}
 use Rattle.listing.proofs.strings.join_types.Tie as tie
 
 abbrev Inv-loop : tie.InvT-loop
-Inv-loop book names types offsets count chosen string₀ end₀ i₀ string end i =
+Inv-loop book names types entries chosen string₀ end₀ i₀ string end i =
     (i ≤ length chosen) × (length string ≡ length string₀) × (end ≤ i * maxEntrySimples)
-    × (map held (take end string) ++ joined (entriesAt book (bodiesAt book names types) offsets count) (drop i chosen)
-    ≡ joined (entriesAt book (bodiesAt book names types) offsets count) chosen)
+    × (map held (take end string) ++ joined (map (entryFrom book (bodiesAt book names types)) entries) (drop i chosen)
+    ≡ joined (map (entryFrom book (bodiesAt book names types)) entries) chosen)
 
 abbrev μ-loop : tie.MeasureT-loop
-μ-loop book names types offsets count chosen string₀ end₀ i₀ string end i = length chosen - i
+μ-loop book names types entries chosen string₀ end₀ i₀ string end i = length chosen - i
+
+abbrev entry : tie.At-loop Inv-loop μ-loop → tie.Start Inv-loop μ-loop
+entry c =
+    let known = c .before .before .before in
+    known .before .before .before
+
+-- The entries of the book.
+abbrev all : tie.Start Inv-loop μ-loop → List Entry
+all s = let a = s .args in map (entryFrom (a .book .now) (bodiesAt (a .book .now) (a .names .now) (a .types))) (a .entries .now)
 
 loop-holds : tie.Need-loop-holds Inv-loop μ-loop
 loop-holds c = (omega arith, refl, omega arith, refl)
@@ -35,28 +45,36 @@ wide-number-requires : tie.Need-wide-number-requires Inv-loop μ-loop
 wide-number-requires c κs = omega arith
 
 type-of-requires : tie.Need-type-of-requires Inv-loop μ-loop
-type-of-requires c κs = c .before .before .before .before .before .before .before .before .before .pre .0
+type-of-requires c κs = entry (c .before .before .before) .pre .0
 
 add-i : tie.Need-add-i Inv-loop μ-loop
 add-i c = omega arith
 
 append-type-requires : tie.Need-append-type-requires Inv-loop μ-loop
-append-type-requires c κs = ((_, c .before .type-of .ensures), omega (arith, c .before .before .before .before .before .loop .inv .1, c .before .before .before .before .before .loop .inv .2, c .before .before .before .before .loop-test .taken, c .before .before .before .before .before .before .before .before .before .before .before .pre .1))
+append-type-requires c κs =
+    let turn = c .before .before .before .before in
+    let l = turn .before in
+    ((_, c .before .type-of .ensures), omega (arith, l .loop .inv .1, l .loop .inv .2, turn .loop-test .taken, entry l .pre .1))
 
 loop-less : tie.Need-loop-less Inv-loop μ-loop
 loop-less c = omega arith
 
 loop-again : tie.Need-loop-again Inv-loop μ-loop
 loop-again c =
-    let a = c .before .before .before .before .before .before .before .before .before .before .before .before .before .before .args in
-    let l = c .before .before .before .before .before .before .before .before .loop in
-    let all = entriesAt (a .book .now) (bodiesAt (a .book .now) (a .names .now) (a .types)) (a .offsets .now) (a .count) in
-    let entry = c .before .before .before .before .type-of .ensures in
-    let written = c .before .before .append-type .ensures in (
+    let put = c .before .before in
+    let found = put .before .before in
+    let number = found .before in
+    let turn = number .before .before in
+    let l = turn .before in
+    let s = entry l in
+    let now = l .loop in
+    let held-type = found .type-of .ensures in
+    let written = put .append-type .ensures in
+    let spelt = rw (number .wide-number .ensures) at (written .1 _ held-type) in (
       omega arith,
-      omega (arith, l .inv .1),
-      omega (arith, written .0, entry .count, entry .short, l .inv .2),
-      joined-next all (a .chosen .now) (l .string) (c .before .before .append-type .last .1 .0) (l .end) (c .before .before .append-type .result) (l .i) (c .before .before .before .before .before .before .before .loop-test .taken) (l .inv .3) (rw (c .before .before .before .before .before .wide-number .ensures) at (written .1 _ entry)),
+      omega (arith, now .inv .1),
+      omega (arith, written .0, held-type .count, held-type .short, now .inv .2),
+      joined-next (all s) (s .args .chosen .now) (now .string) (put .append-type .last .1 .0) (now .end) (put .append-type .result) (now .i) (turn .loop-test .taken) (now .inv .3) spelt,
     )
 
 same-length : tie.Need-same-length Inv-loop μ-loop
@@ -64,10 +82,9 @@ same-length c = omega arith
 
 returns : tie.Need-returns Inv-loop μ-loop
 returns c =
-    let a = c .before .before .before .before .before .before .before .args in
-    let l = c .before .loop in
-    let all = entriesAt (a .book .now) (bodiesAt (a .book .now) (a .names .now) (a .types)) (a .offsets .now) (a .count) in
-    (omega (arith, l .inv .1, l .inv .2, c .before .before .before .before .before .before .before .pre .1), joined-all all (a .chosen .now) (l .string) (l .end) (l .i) (omega arith) (l .inv .3))
+    let s = entry (c .before) in
+    let now = c .before .loop in
+    (omega (arith, now .inv .1, now .inv .2, s .pre .1), joined-all (all s) (s .args .chosen .now) (now .string) (now .end) (now .i) (omega arith) (now .inv .3))
 
 pub join-types-spec : {M : Type 1} → statement M
 join-types-spec =

@@ -1,7 +1,7 @@
 -- `notation::adjoint::turn` meets its contract: one place alone is moved; of more, both ends are turned, until they meet.
-use Prim.Native.Nat.{_-_}
+use Prim.Native.Nat.{_-_, _≤_}
 use native.Mathlib.Omega.{arith}
-use lib.ListN.{length-set}
+use lib.ListN.{length, length-set}
 use Rattle.notation.proofs.TurnLaws.{turned-alone, still-inside, Turning, turning-start, turning-next, turning-end, turning-movable}
 use Rattle.notation.proofs.adjoint.turn.Statement.{statement}
 use Rattle.notation.proofs.adjoint.turn.Tie as tie
@@ -31,10 +31,10 @@ slice-write-places : tie.Need-slice-write-places Inv-loop μ-loop
 slice-write-places c = omega (arith, c .before .before .before .before .pre .inside)
 
 same-length : tie.Need-same-length Inv-loop μ-loop
-same-length c = length-set (c .before .before .before .before .args .places .now) (c .before .before .before .before .args .from) (c .shift .result)
+same-length c = let s = c .before .before .before .before in length-set (s .args .places .now) (s .args .from) (c .shift .result)
 
 returns : tie.Need-returns Inv-loop μ-loop
-returns c = turned-alone (c .before .before .before .before .pre) (c .before .before .if1 .taken) (c .shift .ensures)
+returns c = let alone = c .before .before in turned-alone (alone .before .before .pre) (alone .if1 .taken) (c .shift .ensures)
 
 loop-holds : tie.Need-loop-holds Inv-loop μ-loop
 loop-holds c = turning-start _ _ _ _ (c .before .before .pre .ordered)
@@ -45,32 +45,40 @@ sub-j c = omega arith
 mul-shift-2 : tie.Need-mul-shift-2 Inv-loop μ-loop
 mul-shift-2 c = omega arith
 
+-- What is left to turn lies inside the places.
+module _ (c : tie.At-loop Inv-loop μ-loop) where
+  abbrev entry : tie.Start Inv-loop μ-loop
+  entry = c .before .before .before
+
+  end-inside : c .loop .j ≤ length (c .loop .places)
+  end-inside = omega (arith, c .loop .inv .size, c .loop .inv .sum, c .loop .inv .forth, entry .pre .inside)
+
 slice-read-shift-2 : tie.Need-slice-read-shift-2 Inv-loop μ-loop
-slice-read-shift-2 c = omega (arith, c .before .before .loop .inv .size, c .before .before .loop .inv .sum, c .before .before .loop .inv .forth, c .before .before .before .before .before .pre .inside)
+slice-read-shift-2 c = omega (arith, end-inside (c .before .before))
 
 shift-requires-2 : tie.Need-shift-requires-2 Inv-loop μ-loop
-shift-requires-2 c κs = turning-movable (c .before .before .before .before .before .pre) (c .before .before .loop .inv) (c .before .before .loop .i) (omega arith) (omega arith)
+shift-requires-2 c κs = let t = c .before .before in turning-movable (entry t .pre) (t .loop .inv) (t .loop .i) (omega arith) (omega arith)
 
 mul-shift-3 : tie.Need-mul-shift-3 Inv-loop μ-loop
 mul-shift-3 c = omega arith
 
 slice-read-shift-3 : tie.Need-slice-read-shift-3 Inv-loop μ-loop
-slice-read-shift-3 c = omega (arith, c .before .before .before .before .loop .inv .size, c .before .before .before .before .loop .inv .sum, c .before .before .before .before .loop .inv .forth, c .before .before .before .before .before .before .before .pre .inside)
+slice-read-shift-3 c = omega (arith, end-inside (c .before .before .before .before))
 
 shift-requires-3 : tie.Need-shift-requires-3 Inv-loop μ-loop
-shift-requires-3 c κs = turning-movable (c .before .before .before .before .before .before .before .pre) (c .before .before .before .before .loop .inv) (c .before .before .before .before .loop .j - 1) (omega arith) (omega arith)
+shift-requires-3 c κs = let t = c .before .before .before .before in turning-movable (entry t .pre) (t .loop .inv) (t .loop .j - 1) (omega arith) (omega arith)
 
 mul-places-2 : tie.Need-mul-places-2 Inv-loop μ-loop
 mul-places-2 c = omega arith
 
 slice-write-places-2 : tie.Need-slice-write-places-2 Inv-loop μ-loop
-slice-write-places-2 c = omega (arith, c .before .before .before .before .before .loop .inv .size, c .before .before .before .before .before .loop .inv .sum, c .before .before .before .before .before .loop .inv .forth, c .before .before .before .before .before .before .before .before .pre .inside)
+slice-write-places-2 c = omega (arith, end-inside (c .before .before .before .before .before))
 
 mul-places-3 : tie.Need-mul-places-3 Inv-loop μ-loop
 mul-places-3 c = omega arith
 
 slice-write-places-3 : tie.Need-slice-write-places-3 Inv-loop μ-loop
-slice-write-places-3 c = still-inside (c .before .before .before .before .before .loop .places) (c .before .before .before .before .before .loop .i) _ (omega (arith, c .before .before .before .before .before .loop .inv .size, c .before .before .before .before .before .loop .inv .sum, c .before .before .before .before .before .loop .inv .forth, c .before .before .before .before .before .before .before .before .pre .inside))
+slice-write-places-3 c = let t = c .before .before .before .before .before in still-inside (t .loop .places) (t .loop .i) _ (omega (arith, end-inside t))
 
 add-i : tie.Need-add-i Inv-loop μ-loop
 add-i c = omega arith
@@ -79,7 +87,9 @@ loop-less : tie.Need-loop-less Inv-loop μ-loop
 loop-less c = omega arith
 
 loop-again : tie.Need-loop-again Inv-loop μ-loop
-loop-again c = turning-next (c .before .before .before .before .before .loop .inv) (c .before .before .before .before .before .before .before .before .pre .inside) (omega arith) _ _ (c .before .before .shift2 .ensures) (c .shift3 .ensures)
+loop-again c =
+    let t = c .before .before .before .before .before in
+    turning-next (t .loop .inv) (entry t .pre .inside) (omega arith) _ _ (c .before .before .shift2 .ensures) (c .shift3 .ensures)
 
 same-length-2 : tie.Need-same-length-2 Inv-loop μ-loop
 same-length-2 c = c .before .loop .inv .size

@@ -44,8 +44,9 @@ loop-less c = omega arith
 
 loop-again : tie.Need-loop-again Inv-loop μ-loop
 loop-again c =
-    let text = c .before .before .before .before .before .before .before .args .text .now in
-    let i = c .before .before .before .before .before .loop .i in
+    let turn = c .before .before .before .before .before in
+    let text = turn .before .before .args .text .now in
+    let i = turn .loop .i in
     let small : i < length text = omega arith in
     (omega arith, omega arith, omega (arith, times-at slash text i small, times-at backslash text i small, c .before .before .one-if .ensures .0, c .one-if2 .ensures .0))
 

@@ -2,6 +2,7 @@
 use Prim.Native.Nat.{ℕ, _+_, _-_, _≤_}
 use native.Mathlib.Omega.{arith}
 use mathlib.Core.Path.{_≡_, refl, sym, ap₂, _∙_}
+use mathlib.Core.List.{List}
 use lib.ListN.{length, getD, drop}
 use borrow.Author.Tests.{lt-ltb, le-ltb}
 use Rattle.figures.specs.Limits.{maxDepth}
@@ -40,11 +41,28 @@ add-closed c = omega arith
 add-if1 : tie.Need-add-if1 Inv-loop μ-loop
 add-if1 c = omega arith
 
+-- The byte of this turn, and the brackets opened and closed with it.
+module _ (c : tie.After-one-if2 Inv-loop μ-loop) where
+  abbrev turn : tie.At-loop Inv-loop μ-loop
+  turn = c .before .before .before .before .before
+
+  abbrev text : List ℕ
+  text = turn .before .before .args .text .now
+
+  abbrev byte : ℕ
+  byte = getD {A = ℕ} text (turn .loop .i) 0
+
+  opened-is : openedWith (turn .loop .opened) byte ≡ turn .loop .opened + c .before .before .one-if .result
+  opened-is = omega (arith, c .before .before .one-if .ensures .0)
+
+  closed-is : closedWith (turn .loop .closed) byte ≡ turn .loop .closed + c .one-if2 .result
+  closed-is = omega (arith, c .one-if2 .ensures .0)
+
 returns : tie.Need-returns Inv-loop μ-loop
 returns c =
-    let l = c .before .before .before .before .before .before .loop in
-    let b = getD {A = ℕ} (c .before .before .before .before .before .before .before .before .args .text .now) (l .i) 0 in
-    sym (l .inv .3 ∙ deep-stop (l .opened) (l .closed) (c .before .before .before .before .before .before .before .before .args .text .now) (l .i) (omega arith) (lt-ltb (closedWith (l .closed) b + maxDepth) (openedWith (l .opened) b) (omega (arith, c .before .before .before .one-if .ensures .0, c .before .one-if2 .ensures .0))))
+    let k = c .before in
+    let l = turn k .loop in
+    sym (l .inv .3 ∙ deep-stop (l .opened) (l .closed) (text k) (l .i) (omega arith) (lt-ltb (closedWith (l .closed) (byte k) + maxDepth) (openedWith (l .opened) (byte k)) (omega (arith, opened-is k, closed-is k))))
 
 add-i : tie.Need-add-i Inv-loop μ-loop
 add-i c = omega arith
@@ -54,15 +72,14 @@ loop-less c = omega arith
 
 loop-again : tie.Need-loop-again Inv-loop μ-loop
 loop-again c =
-    let l = c .before .before .before .before .before .before .loop in
-    let b = getD {A = ℕ} (c .before .before .before .before .before .before .before .before .args .text .now) (l .i) 0 in
-    let text = c .before .before .before .before .before .before .before .before .args .text .now in (
+    let k = c .before in
+    let l = turn k .loop in (
       omega arith,
       omega arith,
       omega arith,
       l .inv .3
-          ∙ deep-pass (l .opened) (l .closed) text (l .i) (omega arith) (le-ltb (closedWith (l .closed) b + maxDepth) (openedWith (l .opened) b) (omega (arith, c .before .before .before .one-if .ensures .0, c .before .one-if2 .ensures .0)))
-          ∙ ap₂ (λ (o d : ℕ). deepBehind o d (drop (l .i + 1) text)) (omega (arith, c .before .before .before .one-if .ensures .0)) (omega (arith, c .before .one-if2 .ensures .0)),
+          ∙ deep-pass (l .opened) (l .closed) (text k) (l .i) (omega arith) (le-ltb (closedWith (l .closed) (byte k) + maxDepth) (openedWith (l .opened) (byte k)) (omega (arith, opened-is k, closed-is k)))
+          ∙ ap₂ (λ (o d : ℕ). deepBehind o d (drop (l .i + 1) (text k))) (opened-is k) (closed-is k),
     )
 
 returns-2 : tie.Need-returns-2 Inv-loop μ-loop

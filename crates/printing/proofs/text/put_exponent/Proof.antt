@@ -2,46 +2,55 @@
 -- the digits.
 use borrow.Author.Needs.{needs}
 use native.Mathlib.Omega.{arith}
-use Prim.Native.Nat.{_-_}
+use Prim.Native.Nat.{ℕ, suc, _-_, _≤_, _<_}
+use mathlib.Core.Path.{_≡_}
 use mathlib.Core.List.{[], _∷_, _++_}
+use lib.IntN.{pos, _-ℤ_}
+use borrow.Author.Tests.{lt-ltb, le-ltb}
 use Rattle.pregroup.specs.Held.{bias}
-use Rattle.printing.specs.Text.{decimal}
-use Rattle.printing.proofs.Placing.{placed-append, countable-front, countable-back}
-use Rattle.printing.proofs.Decimals.{exponent-plain, exponent-minus}
+use Rattle.writing.specs.Decimal.{decimal}
+use Rattle.writing.proofs.Placing.{placed-append, countable-front, countable-back}
+use Rattle.printing.specs.Text.{signed}
 use Rattle.printing.proofs.text.put_exponent.Statement.{statement}
 use Rattle.printing.proofs.text.put_exponent.Tie as tie
 
+plain : (raised : ℕ) → bias ≤ raised → signed (pos raised -ℤ pos bias) ≡ decimal (raised - bias)
+plain raised h = rw (le-ltb raised bias h)
+
+minus : (raised : ℕ) → raised < bias → signed (pos raised -ℤ pos bias) ≡ 45 ∷ decimal (bias - raised)
+minus raised h = let e : suc (bias - suc raised) ≡ bias - raised = omega arith in rw (lt-ltb raised bias h, e)
+
 put-number-requires : tie.Need-put-number-requires
-put-number-requires c κs = rw (exponent-plain (c .before .before .before .args .raised) (omega arith)) at (c .before .before .before .pre)
+put-number-requires c κs = rw (plain _ (c .before .if1 .taken)) at (c .before .before .before .pre)
 
 same-length : tie.Need-same-length
 same-length c = search needs
 
 returns : tie.Need-returns
-returns c = rw (exponent-plain (c .before .before .before .before .before .before .args .raised) (omega arith)) (c .before .before .put-number .ensures)
+returns c = let put = c .before .before in rw (plain _ (put .before .before .if1 .taken)) (put .put-number .ensures)
 
 put-byte-requires : tie.Need-put-byte-requires
 put-byte-requires c κs =
     let a = c .before .before .before .args in
-    countable-front (45 ∷ []) (decimal (bias - a .raised) ++ (a .close ∷ [])) (rw (exponent-minus (a .raised) (omega arith)) at (c .before .before .before .pre))
+    countable-front (decimal (bias - a .raised) ++ (a .close ∷ [])) (rw (minus (a .raised) (c .before .if1 .left)) at (c .before .before .before .pre))
 
 sub-put-number : tie.Need-sub-put-number
 sub-put-number c = search needs
 
 put-number-requires-2 : tie.Need-put-number-requires-2
 put-number-requires-2 c κs =
-    let a = c .before .before .before .before .before .before .before .args in
-    countable-back (45 ∷ []) (decimal (bias - a .raised) ++ (a .close ∷ [])) (rw (exponent-minus (a .raised) (omega arith)) at (c .before .before .before .before .before .before .before .pre))
-    (c .before .before .before .put-byte .ensures)
+    let sign = c .before .before .before in
+    let below = sign .before .before in
+    countable-back (rw (minus _ (below .if1 .left)) at (below .before .before .pre)) (sign .put-byte .ensures)
 
 same-length-2 : tie.Need-same-length-2
 same-length-2 c = search needs
 
 returns-2 : tie.Need-returns-2
 returns-2 c =
-    let a = c .before .before .before .before .before .before .before .before .before .before .args in
-    rw (exponent-minus (a .raised) (omega arith))
-    (placed-append (45 ∷ []) (decimal (bias - a .raised) ++ (a .close ∷ [])) (c .before .before .before .before .before .before .put-byte .ensures) (c .before .before .put-number2 .ensures))
+    let put = c .before .before in
+    let sign = put .before .before .before .before in
+    rw (minus _ (sign .before .before .if1 .left)) (placed-append (sign .put-byte .ensures) (put .put-number2 .ensures))
 
 pub put-exponent-spec : {M : Type 1} → statement M
 put-exponent-spec =

@@ -26,8 +26,9 @@ is-word-byte-requires c κs = omega arith
 
 returns : tie.Need-returns Inv-loop μ-loop
 returns c =
-    let l = c .before .before .before .before .loop in
-    let bytes = c .before .before .before .before .before .before .args .bytes .now in
+    let turn = c .before .before .before .before in
+    let l = turn .loop in
+    let bytes = turn .before .before .args .bytes .now in
     sym (l .inv .1 ∙ every-stop (between 33 126) 0 bytes (l .i) (omega arith) (sym (c .before .is-word-byte .ensures) ∙ not-true _ (c .if1 .taken)))
 
 add-i : tie.Need-add-i Inv-loop μ-loop
@@ -38,8 +39,9 @@ loop-less c = omega arith
 
 loop-again : tie.Need-loop-again Inv-loop μ-loop
 loop-again c =
-    let l = c .before .before .before .before .loop in
-    let bytes = c .before .before .before .before .before .before .args .bytes .now in (
+    let turn = c .before .before .before .before in
+    let l = turn .loop in
+    let bytes = turn .before .before .args .bytes .now in (
       omega arith,
       l .inv .1 ∙ every-pass (between 33 126) 0 bytes (l .i) (omega arith) (sym (c .before .is-word-byte .ensures) ∙ not-false _ (c .if1 .left)),
     )

@@ -1,6 +1,8 @@
 -- `rules::layout::is_worded` meets its contract: the tests come in the order of the definition.
 use borrow.Author.Needs.{needs}
 use native.Mathlib.Omega.{arith}
+use mathlib.Core.Path.{ap, _∙_}
+use Rattle.format.specs.Records.{Bytes, every, between}
 use Rattle.rules.proofs.Layouts.{worded-empty, worded-length-no, worded-past, worded-end}
 use Rattle.rules.proofs.layout.is_worded.Statement.{statement}
 use Rattle.rules.proofs.layout.is_worded.Tie as tie
@@ -23,26 +25,16 @@ returns-3 c = let e = c .before .before .wide-byte .ensures .0 in worded-length-
 returns-4 : tie.Need-returns-4
 returns-4 c = let e = c .before .before .before .wide-byte .ensures .0 in worded-past _ (omega arith) (omega arith)
 
-add-all-word-bytes : tie.Need-add-all-word-bytes
-add-all-word-bytes c = search needs
-
-sub-all-word-bytes : tie.Need-sub-all-word-bytes
-sub-all-word-bytes c = search needs
-
-part-all-word-bytes-start : tie.Need-part-all-word-bytes-start
-part-all-word-bytes-start c = search needs
-
-part-all-word-bytes-end : tie.Need-part-all-word-bytes-end
-part-all-word-bytes-end c = search needs
+word-part-requires : tie.Need-word-part-requires
+word-part-requires c κs = search needs
 
 all-word-bytes-requires : tie.Need-all-word-bytes-requires
 all-word-bytes-requires c κs = search needs
 
 returns-5 : tie.Need-returns-5
 returns-5 c =
-    let w = c .before .before .before .before .before .wide-byte in
-    let e = w .ensures .0 in
-    worded-end (c .before .before .before .before .before .before .before .before .before .args .body .now) (omega arith) (omega arith) (w .result) e _ (c .all-word-bytes .ensures)
+    let e = c .before .before .before .before .before .wide-byte .ensures .0 in
+    worded-end _ (omega arith) (omega arith) _ (c .all-word-bytes .ensures ∙ ap (λ (word : Bytes). every (between 33 126) word) (c .before .word-part .ensures))
 
 pub is-worded-spec : {M : Type 1} → statement M
 is-worded-spec =
@@ -54,9 +46,6 @@ is-worded-spec =
     returns-2
     returns-3
     returns-4
-    add-all-word-bytes
-    sub-all-word-bytes
-    part-all-word-bytes-start
-    part-all-word-bytes-end
+    word-part-requires
     all-word-bytes-requires
     returns-5)

@@ -1,15 +1,14 @@
--- `rules::layout::word_part` meets its contract: the layout of an entry leaves room for its word.
+-- `rules::layout::word_part` meets its contract: the body has room for its word.
 use borrow.Author.Needs.{needs}
 use native.Mathlib.Omega.{arith}
 use mathlib.Core.Path.{_≡_, ap, _∙_}
 use lib.ListN.{take, drop}
 use Prim.Native.Nat.{ℕ, _+_, _-_}
-use Rattle.rules.proofs.Layouts.{word-shape}
 use Rattle.rules.proofs.layout.word_part.Statement.{statement}
 use Rattle.rules.proofs.layout.word_part.Tie as tie
 
 shared-slice-read-wide-byte : tie.Need-shared-slice-read-wide-byte
-shared-slice-read-wide-byte c = let s = word-shape _ (c .before .before .pre) in omega arith
+shared-slice-read-wide-byte c = search needs
 
 wide-byte-requires : tie.Need-wide-byte-requires
 wide-byte-requires c κs = search needs
@@ -24,7 +23,7 @@ part-result-start : tie.Need-part-result-start
 part-result-start c = search needs
 
 part-result-end : tie.Need-part-result-end
-part-result-end c = let s = word-shape _ (c .before .before .before .pre) in let e = c .wide-byte .ensures .0 in omega arith
+part-result-end c = search needs
 
 returns : tie.Need-returns
 returns c =

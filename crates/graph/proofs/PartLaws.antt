@@ -1,0 +1,9 @@
+-- The parts of a node are below `valueBound`.
+use Prim.Native.Nat.{ℕ, _<_}
+use native.Mathlib.Omega.{arith}
+use Rattle.figures.specs.Limits.{valueBound}
+use Rattle.graph.specs.Graph.{toIn}
+
+pub to-small : (node : ℕ) → toIn node < valueBound
+unfolding toIn
+to-small node = omega arith

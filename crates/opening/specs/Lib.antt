@@ -1,0 +1,2 @@
+-- What opening a book gives.
+pub mod Open
