@@ -1,7 +1,7 @@
 //! Reads a batch of lines against a book: the lines are counted, the book is opened once, each line is read into a store behind the
-//! others, with one list of threads for all, and the store is copied into the lent buffer where its values fit.
+//! others, with one list of threads and one chart for all, and the store is copied into the lent buffer where its values fit.
 use super::book::Scan;
-use super::figures::limits::{MAX_BATCH, MAX_BATCH_VALUES, MAX_ENTRIES, MAX_LINES};
+use super::figures::limits::{CHART_WORDS, MAX_BATCH, MAX_BATCH_VALUES, MAX_ENTRIES, MAX_LINES};
 use super::figures::refusals::{ANSWERS_TOO_LONG, BAD_BATCH};
 use super::names::Names;
 use super::opening::open_book;
@@ -55,12 +55,13 @@ fn read_part(
     order: &[u64],
     targets: &[u8],
     same: &mut [u16],
+    chart: &mut [u64],
     line: &[u8],
     part: &mut [u16],
 ) -> usize {
     let answer = &mut part[2..];
     match read_open(
-        book, names, entries, alike, order, targets, same, line, answer,
+        book, names, entries, alike, order, targets, same, chart, line, answer,
     ) {
         Ok(values) => put_head(part, values),
         Err((number, value)) => put_refusal(part, number, value),
@@ -76,6 +77,7 @@ fn read_parts(
     order: &[u64],
     targets: &[u8],
     same: &mut [u16],
+    chart: &mut [u64],
     batch: &[u8],
     store: &mut [u16],
 ) -> usize {
@@ -91,6 +93,7 @@ fn read_parts(
             order,
             targets,
             same,
+            chart,
             &batch[at..end],
             &mut store[used..],
         );
@@ -107,18 +110,22 @@ pub fn read_batch(book: &[u8], lines: &[u8], answers: &mut [u16]) -> Answer {
     match open.scan {
         Scan::Refused { number, value } => Err((number, value)),
         Scan::Accepted {
-            entries, targets, ..
+            types,
+            entries,
+            targets,
         } => {
             let mut same = [0u16; MAX_ENTRIES];
+            let mut chart = [0u64; CHART_WORDS];
             let mut store = [0u16; MAX_BATCH_VALUES];
             let used = read_parts(
                 book,
                 &open.names,
                 &open.entries[..entries],
                 &open.alike,
-                &open.order,
+                &open.order[..types],
                 &open.targets[..targets],
                 &mut same,
+                &mut chart,
                 lines,
                 &mut store,
             );

@@ -1,6 +1,6 @@
 //! Reads a line against a book: the book is opened, the line split and its words looked up, and these are read.
 use super::book::Scan;
-use super::figures::limits::{MAX_ENTRIES, MAX_WORDS};
+use super::figures::limits::{CHART_WORDS, MAX_ENTRIES, MAX_WORDS};
 use super::line::{check_line, CheckedLine};
 use super::names::Names;
 use super::opening::open_book;
@@ -10,7 +10,8 @@ use super::words::read_words;
 /// with it; the buffer is then as it was.
 pub type Answer = Result<usize, (u32, usize)>;
 
-/// Reads a line against an open book. What `same` has is about the book, so that one list serves all lines.
+/// Reads a line against an open book. What `same` has is about the book, so that one list serves all lines, and so does one
+/// list for their charts.
 pub fn read_open(
     book: &[u8],
     names: &Names,
@@ -19,6 +20,7 @@ pub fn read_open(
     order: &[u64],
     targets: &[u8],
     same: &mut [u16],
+    chart: &mut [u64],
     line: &[u8],
     answer: &mut [u16],
 ) -> Answer {
@@ -28,7 +30,9 @@ pub fn read_open(
         CheckedLine::Found(words) => words,
     };
     let firsts = &firsts[..words];
-    read_words(book, names, entries, same, firsts, order, targets, answer)
+    read_words(
+        book, names, entries, same, firsts, order, targets, chart, answer,
+    )
 }
 
 /// Reads a line against a book: any bytes, of any length, and any lent buffer.
@@ -38,17 +42,21 @@ pub fn read_line(book: &[u8], line: &[u8], answer: &mut [u16]) -> Answer {
     match open.scan {
         Scan::Refused { number, value } => Err((number, value)),
         Scan::Accepted {
-            entries, targets, ..
+            types,
+            entries,
+            targets,
         } => {
             let mut same = [0u16; MAX_ENTRIES];
+            let mut chart = [0u64; CHART_WORDS];
             read_open(
                 book,
                 &open.names,
                 &open.entries[..entries],
                 &open.alike,
-                &open.order,
+                &open.order[..types],
                 &open.targets[..targets],
                 &mut same,
+                &mut chart,
                 line,
                 answer,
             )

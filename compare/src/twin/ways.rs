@@ -1,7 +1,7 @@
 //! Tells which words are in the way of a line without a reading: the line is read as ever, and where it gets 15 each word is left out in
 //! turn.
 use super::book::Scan;
-use super::figures::limits::{MAX_ENTRIES, MAX_WORDS};
+use super::figures::limits::{CHART_WORDS, MAX_ENTRIES, MAX_WORDS};
 use super::figures::refusals::NO_READING;
 use super::line::{check_line, CheckedLine};
 use super::names::Names;
@@ -21,6 +21,7 @@ fn try_each(
     firsts: &mut [u16],
     order: &[u64],
     targets: &[u8],
+    chart: &mut [u64],
 ) -> u32 {
     let mut number = 0;
     let mut left_out = 0;
@@ -33,7 +34,7 @@ fn try_each(
         left_out = next;
         number *= 2;
         let others = &firsts[..words - 1];
-        if has_reading(book, names, entries, same, others, order, targets) {
+        if has_reading(book, names, entries, same, others, order, targets, chart) {
             number += 1;
         }
     }
@@ -53,15 +54,20 @@ fn read_or_try(
 ) -> WayAnswer {
     let mut firsts = [0u16; MAX_WORDS];
     let mut same = [0u16; MAX_ENTRIES];
+    let mut chart = [0u64; CHART_WORDS];
     let words = match check_line(book, entries, alike, line, &mut firsts, &mut same) {
         CheckedLine::Refused { number, value } => return Err(((number, value), None)),
         CheckedLine::Found(words) => words,
     };
     let firsts = &mut firsts[..words];
-    let read = read_words(book, names, entries, &same, firsts, order, targets, answer);
+    let read = read_words(
+        book, names, entries, &same, firsts, order, targets, &mut chart, answer,
+    );
     match read {
         Err((NO_READING, value)) => {
-            let number = try_each(book, names, entries, &same, firsts, order, targets);
+            let number = try_each(
+                book, names, entries, &same, firsts, order, targets, &mut chart,
+            );
             Err(((NO_READING, value), Some(number)))
         }
         _ => read.map_err(|refusal| (refusal, None)),
@@ -76,13 +82,15 @@ pub fn words_in_the_way(book: &[u8], line: &[u8], answer: &mut [u16]) -> WayAnsw
     match open.scan {
         Scan::Refused { number, value } => Err(((number, value), None)),
         Scan::Accepted {
-            entries, targets, ..
+            types,
+            entries,
+            targets,
         } => read_or_try(
             book,
             &open.names,
             &open.entries[..entries],
             &open.alike,
-            &open.order,
+            &open.order[..types],
             &open.targets[..targets],
             line,
             answer,

@@ -1,6 +1,6 @@
 //! Words that are looked up are read, or only asked whether they have a reading.
 use super::chart::fill;
-use super::figures::limits::{CHART_WORDS, MAX_NODES};
+use super::figures::limits::MAX_NODES;
 use super::figures::refusals::NO_READING;
 use super::first_reading::write_reading;
 use super::layout::{lay_out, nodes_with};
@@ -19,23 +19,23 @@ fn read_or_ask(
     firsts: &[u16],
     order: &[u64],
     targets: &[u8],
+    chart: &mut [u64],
     whole: bool,
     answer: &mut [u16],
 ) -> Answer {
     let mut nodes = [0u64; MAX_NODES];
     let mut slots = [0u64; MAX_NODES];
-    let mut chart = [0u64; CHART_WORDS];
     let last = lay_out(
         book, names, entries, same, firsts, targets, &mut nodes, &mut slots,
     );
     let nodes = &nodes[..nodes_with(last, targets.len())];
-    fill(order, nodes, &slots, &mut chart);
-    let t = first_target(&chart, last, targets.len());
+    fill(order, nodes, &slots, chart);
+    let t = first_target(chart, last, targets.len());
     if t == targets.len() {
         return Err((NO_READING, 0));
     }
     if whole {
-        return write_reading(order, nodes, &slots, &chart, targets, last, t, answer);
+        return write_reading(order, nodes, &slots, chart, targets, last, t, answer);
     }
     Ok(0)
 }
@@ -49,10 +49,11 @@ pub fn read_words(
     firsts: &[u16],
     order: &[u64],
     targets: &[u8],
+    chart: &mut [u64],
     answer: &mut [u16],
 ) -> Answer {
     read_or_ask(
-        book, names, entries, same, firsts, order, targets, true, answer,
+        book, names, entries, same, firsts, order, targets, chart, true, answer,
     )
 }
 
@@ -65,10 +66,11 @@ pub fn has_reading(
     firsts: &[u16],
     order: &[u64],
     targets: &[u8],
+    chart: &mut [u64],
 ) -> bool {
     let nothing = &mut [];
     let asked = read_or_ask(
-        book, names, entries, same, firsts, order, targets, false, nothing,
+        book, names, entries, same, firsts, order, targets, chart, false, nothing,
     );
     asked.is_ok()
 }

@@ -6,6 +6,7 @@ use batch_lines::count_lines;
 use batch_parts::copy_front;
 use batch_parts::read_parts;
 use book::Scan;
+use figures::limits::CHART_WORDS;
 use figures::limits::MAX_BATCH_VALUES;
 use figures::limits::MAX_ENTRIES;
 use figures::refusals::ANSWERS_TOO_LONG;
@@ -51,16 +52,17 @@ pub fn read_batch(book: &[u8], lines: &[u8], answers: &mut [u16]) -> BatchAnswer
             targets: goals,
         } => {
             let mut same = [0u16; MAX_ENTRIES];
+            let mut chart = [0u64; CHART_WORDS];
             let mut store = [0u16; MAX_BATCH_VALUES];
             let used = read_parts(
                 book,
                 &names,
-                types,
                 &entries[..count],
                 &alike,
-                &order,
+                &order[..types],
                 &targets[..goals],
                 &mut same,
+                &mut chart,
                 lines,
                 &mut store,
             );

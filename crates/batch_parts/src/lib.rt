@@ -8,7 +8,7 @@ ghost use mathlib.Core.Path.{_≡_};
 ghost use mathlib.Core.List.{[], _∷_, _++_};
 ghost use lib.ListN.{length, drop};
 ghost use lib.Seq.{sets};
-ghost use Rattle.figures.specs.Limits.{maxBatch, maxPart, valueBound};
+ghost use Rattle.figures.specs.Limits.{maxBatch, maxPart, valueBound, chartWords};
 ghost use Rattle.lookup.specs.Threads.{Threaded};
 ghost use Rattle.opening.specs.Open.{IsOpen};
 ghost use Rattle.batch_parts.specs.Parts.{aloneReply, partOf};
@@ -39,16 +39,17 @@ fn put_head(part: &mut [u16], values: usize) -> usize
 fn read_part(
     book: &[u8],
     names: &[u16],
-    types: usize,
     entries: &[u16],
     alike: &[u16],
     order: &[u64],
     targets: &[u8],
     same: &mut [u16],
+    chart: &mut [u64],
     line: &[u8],
     part: &mut [u16],
 ) -> usize
-    requires { ⌜ IsOpen (now book) (now names) types (now entries) (now alike) (now order) (now targets) × Threaded (now book) (now entries) (now same) ⌝ }
+    requires { ⌜ IsOpen (now book) (now names) (now entries) (now alike) (now order) (now targets) × Threaded (now book) (now entries) (now same) ⌝ }
+    requires { ⌜ length (now chart) ≡ chartWords ⌝ }
     requires { ⌜ (length (now line) ≤ maxBatch) × (maxPart ≤ length (now part)) ⌝ }
     ensures { λ _. ⌜ Threaded (now (book .entry)) (now (entries .entry)) (now (same .exit)) ⌝ }
     ensures { λ r. ⌜ Put (partOf (aloneReply (now (book .entry)) (now (line .entry)))) r (now (part .exit)) ⌝ }
@@ -56,12 +57,12 @@ fn read_part(
     let answer = read_open(
         book,
         names,
-        types,
         entries,
         alike,
         order,
         targets,
         same,
+        chart,
         line,
         &mut part[2..],
     );
@@ -75,16 +76,17 @@ fn read_part(
 pub fn read_parts(
     book: &[u8],
     names: &[u16],
-    types: usize,
     entries: &[u16],
     alike: &[u16],
     order: &[u64],
     targets: &[u8],
     same: &mut [u16],
+    chart: &mut [u64],
     batch: &[u8],
     store: &mut [u16],
 ) -> usize
-    requires { ⌜ IsOpen (now book) (now names) types (now entries) (now alike) (now order) (now targets) × Threaded (now book) (now entries) (now same) ⌝ }
+    requires { ⌜ IsOpen (now book) (now names) (now entries) (now alike) (now order) (now targets) × Threaded (now book) (now entries) (now same) ⌝ }
+    requires { ⌜ length (now chart) ≡ chartWords ⌝ }
     requires { ⌜ Readying (now batch) (now store) ⌝ }
     ensures { λ r. ⌜ StoredParts (now (book .entry)) (now (batch .entry)) r (now (store .exit)) ⌝ }
 {
@@ -96,12 +98,12 @@ pub fn read_parts(
         used += read_part(
             book,
             names,
-            types,
             entries,
             alike,
             order,
             targets,
             same,
+            chart,
             line,
             &mut store[used..],
         );

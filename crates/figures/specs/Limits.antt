@@ -82,3 +82,7 @@ rowWords = (maxNodes + 63) / 64
 
 abbrev pub rowBits : ℕ
 rowBits = 64 * rowWords
+
+-- Words of the chart of a line: a row for each node.
+abbrev pub chartWords : ℕ
+chartWords = maxNodes * rowWords

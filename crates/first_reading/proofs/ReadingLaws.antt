@@ -6,7 +6,7 @@ use mathlib.Core.List.{List, _∷_, _++_, map}
 use mathlib.Core.Option.{Option, none, some}
 use lib.ListN.{getD, length, take, drop, length-append}
 use lib.Seq.{length-take-le, getD-take}
-use Rattle.figures.specs.Limits.{maxNodes, maxPlaces, maxWords, rowWords}
+use Rattle.figures.specs.Limits.{maxNodes, maxPlaces, maxWords, rowWords, chartWords}
 use Rattle.bits.specs.Rows.{HasRow, InRow}
 use Rattle.pregroup.specs.Types.{Basic, PregroupType}
 use Rattle.pregroup.specs.Order.{Relation}
@@ -58,7 +58,7 @@ module _ {le : Test} {Le : Relation} {g : Graph} {targets : List Basic} {last : 
   some-nodes = omega (arith, d .nodes)
 
   -- Every node has a row in a chart of the longest graph's.
-  has-rows : (chart : List ℕ) → length chart ≡ maxNodes * rowWords → (u : ℕ) → u < length (g .nodes) → HasRow chart u
+  has-rows : (chart : List ℕ) → length chart ≡ chartWords → (u : ℕ) → u < length (g .nodes) → HasRow chart u
   has-rows chart e u h = omega (arith, d .few)
 
   -- A target without a way to its end has no reading.
@@ -108,7 +108,7 @@ module _ {le : Test} {Le : Relation} {g : Graph} {targets : List Basic} {last : 
     way = charted .filled 0 (omega arith) (some-nodes d) end .0 (charted .first .reached target-there)
 
     -- What the choice asks, of a chart that is filled and reads.
-    pub can-choose : length chart ≡ maxNodes * rowWords → Choosable Le g chart end
+    pub can-choose : length chart ≡ chartWords → Choosable Le g chart end
     can-choose long = record {
       upward = d .upward;
       filled = charted .filled;

@@ -1,9 +1,9 @@
 -- What writing the first reading asks and gives: the chart of the words reaches a target.
-use Prim.Native.Nat.{ℕ, _*_, _<_}
+use Prim.Native.Nat.{ℕ, _<_}
 use mathlib.Core.Path.{_≡_}
 use mathlib.Core.List.{List}
 use lib.ListN.{length}
-use Rattle.figures.specs.Limits.{maxNodes, rowWords}
+use Rattle.figures.specs.Limits.{chartWords}
 use Rattle.pregroup.specs.Types.{Basic}
 use Rattle.pregroup.specs.Order.{Relation}
 use Rattle.pregroup.specs.Tests.{Test}
@@ -19,7 +19,7 @@ pub record IsReached (Le : Relation) (g : Graph) (targets : List Basic) (last : 
   pub words : Words
   pub charted : Charted le Le g targets last words chart t
   pub target-there : t < length targets
-  pub chart-room : length chart ≡ maxNodes * rowWords
+  pub chart-room : length chart ≡ chartWords
 
 -- What writing the reading for t gives: what the first reading of the words comes to.
 abbrev pub ReachGives : Relation → Graph → List Basic → ℕ → List ℕ → ℕ → List ℕ → LineAnswer → List ℕ → Type 0

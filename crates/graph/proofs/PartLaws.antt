@@ -1,4 +1,4 @@
--- The parts of a node are below `valueBound`.
+-- The last part of a node is below `valueBound`.
 use Prim.Native.Nat.{ℕ, _<_}
 use native.Mathlib.Omega.{arith}
 use Rattle.figures.specs.Limits.{valueBound}

@@ -10,7 +10,7 @@ use Rattle.pregroup.specs.Vanish.{Vanish}
 use Rattle.pregroup.specs.Held.{held}
 use Rattle.figures.specs.Limits.{rowBits, valueBound}
 
--- The lists that the code holds. A node is one number of four parts, and so is a slot of two; each part is below `valueBound`.
+-- The lists that the code holds. A node is one number of four parts, a slot one of two; each part is below `valueBound`.
 pub record Graph : Type 0 where
   pub nodes : List ℕ
   pub slots : List ℕ

@@ -44,7 +44,7 @@ pub fn simple_at(nodes: &[u64], u: usize) -> u16
     (nodes[u] % SECOND) as u16
 }
 
-// The node behind node u, or 0 where that is a boundary.
+// The node behind node u, or 0 where u is a boundary.
 pub fn next_at(nodes: &[u64], u: usize) -> usize
     requires { ⌜ u < length (now nodes) ⌝ }
     ensures { λ r. ⌜ r ≡ nextAt (now (nodes .entry)) u ⌝ }

@@ -2,6 +2,7 @@
 // left out in turn. What is returned for any bytes is defined in specs/Way, and what is promised of it in specs/WayDemands.
 use answer::LineAnswer;
 use book::Scan;
+use figures::limits::CHART_WORDS;
 use figures::limits::MAX_ENTRIES;
 use figures::limits::MAX_WORDS;
 use figures::refusals::NO_READING;
@@ -27,7 +28,6 @@ pub enum WayAnswer {
 fn read_or_try(
     book: &[u8],
     names: &[u16],
-    types: usize,
     entries: &[u16],
     alike: &[u16],
     order: &[u64],
@@ -35,11 +35,12 @@ fn read_or_try(
     line: &[u8],
     answer: &mut [u16],
 ) -> WayAnswer
-    requires { ⌜ IsOpen (now book) (now names) types (now entries) (now alike) (now order) (now targets) ⌝ }
+    requires { ⌜ IsOpen (now book) (now names) (now entries) (now alike) (now order) (now targets) ⌝ }
     ensures { λ r. ⌜ Gives (wayOutcome (now (book .entry)) (now (line .entry)) (now (answer .entry))) r (now (answer .exit)) ⌝ }
 {
     let mut firsts = [0u16; MAX_WORDS];
     let mut same = [0u16; MAX_ENTRIES];
+    let mut chart = [0u64; CHART_WORDS];
     let checked = check_line(book, entries, alike, line, &mut firsts, &mut same);
     let words = match checked {
         CheckedLine::Refused { number, value } => {
@@ -50,12 +51,12 @@ fn read_or_try(
     let read = read_words(
         book,
         names,
-        types,
         entries,
         &same,
         &firsts[..words],
         order,
         targets,
+        &mut chart,
         answer,
     );
     let LineAnswer::Refused { number, value: _ } = read else {
@@ -67,12 +68,12 @@ fn read_or_try(
     let number = try_each(
         book,
         names,
-        types,
         entries,
         &same,
         &mut firsts[..words],
         order,
         targets,
+        &mut chart,
     );
     WayAnswer::NoReading { words: number }
 }
@@ -102,10 +103,9 @@ pub fn words_in_the_way(book: &[u8], line: &[u8], answer: &mut [u16]) -> WayAnsw
         } => read_or_try(
             book,
             &names,
-            types,
             &entries[..count],
             &alike,
-            &order,
+            &order[..types],
             &targets[..goals],
             line,
             answer,

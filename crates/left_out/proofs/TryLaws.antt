@@ -50,14 +50,14 @@ leaving-next {all} {firsts} {held} {k} l some = record {
     go j h m (no d) = getD-set-other firsts (k - 1) j held 0 d ∙ l .behind j (omega (arith, d)) m
 
 -- The number for the words from word k + 1 on.
-abbrev pub IsWayFrom : Bytes → List ℕ → ℕ → List ℕ → List ℕ → List ℕ → List ℕ → List ℕ → ℕ → ℕ → Type 0
-IsWayFrom bytes names types entries same firsts order targets k number =
-    (le : Test) (words : Words) → FoundWords bytes names types entries same firsts order targets le words → number ≡ wayFrom le targets words k (length firsts - k)
+abbrev pub IsWayFrom : Bytes → List ℕ → List ℕ → List ℕ → List ℕ → List ℕ → List ℕ → ℕ → ℕ → Type 0
+IsWayFrom bytes names entries same firsts order targets k number =
+    (le : Test) (words : Words) → FoundWords bytes names entries same firsts order targets le words → number ≡ wayFrom le targets words k (length firsts - k)
 
-module _ {bytes : Bytes} {names : List ℕ} {types : ℕ} {entries same all order targets : List ℕ} where
+module _ {bytes : Bytes} {names entries same all order targets : List ℕ} where
   -- The words without one of them are found as well.
-  pub found-without : {le : Test} {words : Words} {firsts : List ℕ} {held k : ℕ} → FoundWords bytes names types entries same all order targets le words
-      → LeftOut all firsts held k → k < length all → FoundWords bytes names types entries same (take (length all - 1) firsts) order targets le (without k words)
+  pub found-without : {le : Test} {words : Words} {firsts : List ℕ} {held k : ℕ} → FoundWords bytes names entries same all order targets le words
+      → LeftOut all firsts held k → k < length all → FoundWords bytes names entries same (take (length all - 1) firsts) order targets le (without k words)
   found-without {words = words} {firsts} {k = k} f l h =
       let fewer : length (take (length all - 1) firsts) ≡ length all - 1 = length-take-le (length all - 1) firsts (omega (arith, l .long)) in
       let old = f .threaded in
@@ -78,20 +78,20 @@ module _ {bytes : Bytes} {names : List ℕ} {types : ℕ} {entries same all orde
         decides = f .decides;
       }
 
-  pub way-starts : IsWayFrom bytes names types entries same all order targets (length all) 0
+  pub way-starts : IsWayFrom bytes names entries same all order targets (length all) 0
   way-starts le words f = let none : length all - length all ≡ 0 = omega arith in rw none (sym (way-none le targets words (length all)))
 
   -- The number has as many bits as words have been left out.
-  pub way-fits : {le : Test} {words : Words} {k number : ℕ} → FoundWords bytes names types entries same all order targets le words
-      → IsWayFrom bytes names types entries same all order targets k number → 0 < k → number < 2 ^ 23
+  pub way-fits : {le : Test} {words : Words} {k number : ℕ} → FoundWords bytes names entries same all order targets le words
+      → IsWayFrom bytes names entries same all order targets k number → 0 < k → number < 2 ^ 23
   way-fits {le} {words} {k} {number} f w some =
       let few : length all - k ≤ 23 = omega (arith, f .threaded .few) in
       subst (λ (m : ℕ). m < 2 ^ 23) (sym (w le words f)) (lt-of-lt-of-le (way-small le targets words (length all - k) k) (pow-mono few))
 
   -- One word more is told of.
   way-next : {firsts : List ℕ} {held k number : ℕ} {b : Bool} → LeftOut all firsts held (k - 1) → 0 < k → k ≤ length all
-      → IsWayFrom bytes names types entries same all order targets k number → SaysWhether bytes names types entries same (take (length all - 1) firsts) order targets b
-      → IsWayFrom bytes names types entries same all order targets (k - 1) (bitOf b + 2 * number)
+      → IsWayFrom bytes names entries same all order targets k number → SaysWhether bytes names entries same (take (length all - 1) firsts) order targets b
+      → IsWayFrom bytes names entries same all order targets (k - 1) (bitOf b + 2 * number)
   way-next {k = k} {number} {b} l some inside w says le words f =
       let one-more : length all - (k - 1) ≡ suc (length all - k) = omega arith in
       let back : k - 1 + 1 ≡ k = omega arith in
@@ -102,21 +102,21 @@ module _ {bytes : Bytes} {names : List ℕ} {types : ℕ} {entries same all orde
       ∙ sym (way-step le targets words (length all - k) (k - 1)))
 
   pub way-yes : {firsts : List ℕ} {held k number : ℕ} {b : Bool} → LeftOut all firsts held (k - 1) → 0 < k → k ≤ length all
-      → IsWayFrom bytes names types entries same all order targets k number → SaysWhether bytes names types entries same (take (length all - 1) firsts) order targets b
-      → b ≡ true → IsWayFrom bytes names types entries same all order targets (k - 1) (2 * number + 1)
+      → IsWayFrom bytes names entries same all order targets k number → SaysWhether bytes names entries same (take (length all - 1) firsts) order targets b
+      → b ≡ true → IsWayFrom bytes names entries same all order targets (k - 1) (2 * number + 1)
   way-yes {number = number} {b} l some inside w says e le words f =
       let sum : 2 * number + 1 ≡ bitOf true + 2 * number = omega arith in
       sum ∙ ap (λ (x : Bool). bitOf x + 2 * number) (sym e) ∙ way-next l some inside w says le words f
 
   pub way-no : {firsts : List ℕ} {held k number : ℕ} {b : Bool} → LeftOut all firsts held (k - 1) → 0 < k → k ≤ length all
-      → IsWayFrom bytes names types entries same all order targets k number → SaysWhether bytes names types entries same (take (length all - 1) firsts) order targets b
-      → b ≡ false → IsWayFrom bytes names types entries same all order targets (k - 1) (2 * number)
+      → IsWayFrom bytes names entries same all order targets k number → SaysWhether bytes names entries same (take (length all - 1) firsts) order targets b
+      → b ≡ false → IsWayFrom bytes names entries same all order targets (k - 1) (2 * number)
   way-no {number = number} {b} l some inside w says e le words f =
       let sum : 2 * number ≡ bitOf false + 2 * number = omega arith in
       sum ∙ ap (λ (x : Bool). bitOf x + 2 * number) (sym e) ∙ way-next l some inside w says le words f
 
   -- All have been left out.
-  pub way-whole : {k number : ℕ} → IsWayFrom bytes names types entries same all order targets k number → k ≤ 0 → IsWay bytes names types entries same all order targets number
+  pub way-whole : {k number : ℕ} → IsWayFrom bytes names entries same all order targets k number → k ≤ 0 → IsWay bytes names entries same all order targets number
   way-whole {k} w none le words f =
       let first : k ≡ 0 = omega arith in
       let every : length all - k ≡ length words = omega (arith, f .threaded .as-many) in

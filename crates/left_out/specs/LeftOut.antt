@@ -26,6 +26,6 @@ abbrev pub wayOf : Test → List Basic → Words → ℕ
 wayOf le targets words = wayFrom le targets words 0 (length words)
 
 -- It is the number for the words that are looked up so.
-abbrev pub IsWay : Bytes → List ℕ → ℕ → List ℕ → List ℕ → List ℕ → List ℕ → List ℕ → ℕ → Type 0
-IsWay bytes names types entries same firsts order targets number =
-    (le : Test) (words : Words) → FoundWords bytes names types entries same firsts order targets le words → number ≡ wayOf le targets words
+abbrev pub IsWay : Bytes → List ℕ → List ℕ → List ℕ → List ℕ → List ℕ → List ℕ → ℕ → Type 0
+IsWay bytes names entries same firsts order targets number =
+    (le : Test) (words : Words) → FoundWords bytes names entries same firsts order targets le words → number ≡ wayOf le targets words

@@ -1,5 +1,8 @@
 // Words that are looked up, without one of them: each is left out in turn, and the others are asked for a reading.
 use words::has_reading;
+ghost use mathlib.Core.Path.{_≡_};
+ghost use lib.ListN.{length};
+ghost use Rattle.figures.specs.Limits.{chartWords};
 ghost use Rattle.line.specs.FoundWords.{AreFound};
 ghost use Rattle.left_out.specs.LeftOut.{IsWay};
 
@@ -8,15 +11,16 @@ ghost use Rattle.left_out.specs.LeftOut.{IsWay};
 pub fn try_each(
     book: &[u8],
     names: &[u16],
-    types: usize,
     entries: &[u16],
     same: &[u16],
     firsts: &mut [u16],
     order: &[u64],
     targets: &[u8],
+    chart: &mut [u64],
 ) -> u32
-    requires { ⌜ AreFound (now book) (now names) types (now entries) (now same) (now firsts) (now order) (now targets) ⌝ }
-    ensures { λ r. ⌜ IsWay (now (book .entry)) (now (names .entry)) types (now (entries .entry)) (now (same .entry)) (now (firsts .entry))
+    requires { ⌜ AreFound (now book) (now names) (now entries) (now same) (now firsts) (now order) (now targets) ⌝ }
+    requires { ⌜ length (now chart) ≡ chartWords ⌝ }
+    ensures { λ r. ⌜ IsWay (now (book .entry)) (now (names .entry)) (now (entries .entry)) (now (same .entry)) (now (firsts .entry))
         (now (order .entry)) (now (targets .entry)) r ⌝ }
 {
     let mut number: u32 = 0;
@@ -32,12 +36,12 @@ pub fn try_each(
         if has_reading(
             book,
             names,
-            types,
             entries,
             same,
             &firsts[..words - 1],
             order,
             targets,
+            chart,
         ) {
             number += 1;
         }

@@ -24,13 +24,13 @@ pub record ThreadedWords (bytes : Bytes) (names : List ℕ) (types : ℕ) (entri
   pub known-words : AllKnown words
   pub brief-words : AllBrief words
 
--- Such words against the order and the targets of a book, where the test decides the order.
-pub record FoundWords (bytes : Bytes) (names : List ℕ) (types : ℕ) (entries same firsts order targets : List ℕ) (le : Test) (words : Words) : Type 0 where
-  pub threaded : ThreadedWords bytes names types entries same firsts words
+-- Such words against the order and the targets of a book, where the test decides the order. It has a row for each basic type.
+pub record FoundWords (bytes : Bytes) (names entries same firsts order targets : List ℕ) (le : Test) (words : Words) : Type 0 where
+  pub threaded : ThreadedWords bytes names (length order) entries same firsts words
   pub few-targets : length targets ≤ maxTargets
   pub decides : Decides le (InRows order)
 
 -- Some words are found so.
-abbrev pub AreFound : Bytes → List ℕ → ℕ → List ℕ → List ℕ → List ℕ → List ℕ → List ℕ → Type 0
-AreFound bytes names types entries same firsts order targets =
-    (le : Test) × (words : Words) × FoundWords bytes names types entries same firsts order targets le words
+abbrev pub AreFound : Bytes → List ℕ → List ℕ → List ℕ → List ℕ → List ℕ → List ℕ → Type 0
+AreFound bytes names entries same firsts order targets =
+    (le : Test) × (words : Words) × FoundWords bytes names entries same firsts order targets le words

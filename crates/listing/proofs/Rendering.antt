@@ -61,22 +61,22 @@ tests-agree {le} {le′} d d′ a b = by (le a b) (le′ a b) (λ h. d′ a b .1
     by false false f g = refl
 
 -- What an open book keeps of its entries.
-module _ {book : Bytes} {names : List ℕ} {types : ℕ} {entries alike order targets : List ℕ} {B : Book} (o : Open book names types entries alike order targets B) where
-  entries-kept : B .entries ≡ map (entryFrom book (bodiesAt book names types)) entries
+module _ {book : Bytes} {names entries alike order targets : List ℕ} {B : Book} (o : Open book names entries alike order targets B) where
+  entries-kept : B .entries ≡ map (entryFrom book (bodiesAt book names (length order))) entries
   entries-kept = o .kept .all ∙ ap (λ (all : List Bytes). map (entryFrom book all) entries) (o .type-names)
 
-  pub lexicon-kept : Lexicon book (bodiesAt book names types) entries
+  pub lexicon-kept : Lexicon book (bodiesAt book names (length order)) entries
   lexicon-kept = rw (← o .type-names) (o .kept .lexicon)
 
 -- What the code makes of an open book, a split line and values: the string and its letters are those that are listed, and so are the rows.
-module _ {book : Bytes} {names : List ℕ} {types : ℕ} {entries alike order targets : List ℕ} {B : Book}
-    (o : Open book names types entries alike order targets B) {line : Bytes} {starts ends : List ℕ} (s : SplitInto line starts ends)
-    (values string letters : List ℕ) (spells : map held string ≡ joined (map (entryFrom book (bodiesAt book names types)) entries) (take (length starts) (entriesPart values))) where
+module _ {book : Bytes} {names entries alike order targets : List ℕ} {B : Book}
+    (o : Open book names entries alike order targets B) {line : Bytes} {starts ends : List ℕ} (s : SplitInto line starts ends)
+    (values string letters : List ℕ) (spells : map held string ≡ joined (map (entryFrom book (bodiesAt book names (length order))) entries) (take (length starts) (entriesPart values))) where
   string-listed : map held string ≡ listedType B (wordsOf line) (entriesPart values)
   string-listed = rw (entries-kept o, words-length line starts ends s) spells
 
   -- The values are narrow, so that the places of their rows can be counted.
-  pub kept-countable : Narrow values → Countable 0 (keptRows book names types line values string letters)
+  pub kept-countable : Narrow values → Countable 0 (keptRows book names (length order) line values string letters)
   kept-countable narrow =
       let entries = entries-narrow values narrow in
       let partners = partners-narrow values narrow in
@@ -92,5 +92,5 @@ module _ {book : Bytes} {names : List ℕ} {types : ℕ} {entries alike order ta
         rw (o .chosen, ← is, ← string-listed, ← many)
         (told ∙ letters-agree goal (map held string) (partnersPart values) (tests-agree (rows-decide order) (o .decides)) (length string))
 
-    pub kept-listed : keptRows book names types line values string letters ≡ listed book line values
+    pub kept-listed : keptRows book names (length order) line values string letters ≡ listed book line values
     kept-listed = rw (letters-listed, string-listed, ← o .type-names) (line-split book line values (o .parsed) s)

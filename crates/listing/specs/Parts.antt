@@ -5,5 +5,5 @@ use Rattle.format.specs.Records.{Bytes}
 use Rattle.opening.specs.Open.{IsOpen}
 
 -- What is kept of an accepted book: where its names and its entries stand, its order and its targets. The threads of its entries serve no listing.
-abbrev pub BookKept : Bytes → List ℕ → ℕ → List ℕ → List ℕ → List ℕ → Type 0
-BookKept book names types entries order targets = (alike : List ℕ) × IsOpen book names types entries alike order targets
+abbrev pub BookKept : Bytes → List ℕ → List ℕ → List ℕ → List ℕ → Type 0
+BookKept book names entries order targets = (alike : List ℕ) × IsOpen book names entries alike order targets

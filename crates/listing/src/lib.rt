@@ -106,7 +106,6 @@ fn render_rows(
 fn render_line(
     book: &[u8],
     names: &[u16],
-    types: usize,
     entries: &[u16],
     order: &[u64],
     targets: &[u8],
@@ -114,7 +113,7 @@ fn render_line(
     values: &[u16],
     text: &mut [u8],
 ) -> Rendered
-    requires { ⌜ BookKept (now book) (now names) types (now entries) (now order) (now targets) ⌝ }
+    requires { ⌜ BookKept (now book) (now names) (now entries) (now order) (now targets) ⌝ }
     ensures { λ r. ⌜ Renders (listed (now (book .entry)) (now (line .entry)) (now (values .entry))) (now (text .entry)) r (now (text .exit)) ⌝ }
 {
     let mut starts = [0usize; MAX_WORDS];
@@ -125,7 +124,7 @@ fn render_line(
         CheckedLine::Found(words) => {
             let mut string = [0u16; MAX_STRING];
             let shown = first_values(entries_of(values), words);
-            let simples = join_types(book, names, types, entries, shown, &mut string);
+            let simples = join_types(book, names, order.len(), entries, shown, &mut string);
             let mut letters = [0u8; LETTERS];
             let target = target_of(values);
             let goal = target_at(targets, target);
@@ -134,7 +133,7 @@ fn render_line(
             render_rows(
                 book,
                 names,
-                types,
+                order.len(),
                 line,
                 &starts[..words],
                 &ends[..words],
@@ -168,9 +167,8 @@ fn render_answer(book: &[u8], line: &[u8], values: &[u16], text: &mut [u8]) -> R
         } => render_line(
             book,
             &names,
-            types,
             &entries[..count],
-            &order,
+            &order[..types],
             &targets[..goals],
             line,
             values,

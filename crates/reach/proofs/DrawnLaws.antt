@@ -15,8 +15,8 @@ use Rattle.layout.specs.LineLayout.{nodesWith, lineGraph, LaidOut}
 use Rattle.reach.specs.Charted.{Drawn}
 
 pub found-drawn :
-    {bytes : Bytes} {names : List ℕ} {types : ℕ} {entries same firsts order targets : List ℕ} {le : Test} {words : Words} {g : Graph} {last : ℕ}
-    → FoundWords bytes names types entries same firsts order targets le words → LaidOut words targets g last → maxNodes ≤ length (g .nodes)
+    {bytes : Bytes} {names entries same firsts order targets : List ℕ} {le : Test} {words : Words} {g : Graph} {last : ℕ}
+    → FoundWords bytes names entries same firsts order targets le words → LaidOut words targets g last → maxNodes ≤ length (g .nodes)
     → Drawn le (InRows order) (lineGraph last (length targets) g) targets last words
 found-drawn {targets = targets} {g = g} {last} f out room =
     let long = length-take-le (nodesWith last (length targets)) (g .nodes) (omega (arith, out .few)) in

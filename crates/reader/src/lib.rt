@@ -3,6 +3,7 @@
 // what is promised of it in specs/Demands.
 use answer::LineAnswer;
 use book::Scan;
+use figures::limits::CHART_WORDS;
 use figures::limits::MAX_ENTRIES;
 use figures::limits::MAX_WORDS;
 use line::CheckedLine;
@@ -10,26 +11,31 @@ use line::words::check_line;
 use opening::Opening;
 use opening::open_book;
 use words::read_words;
+ghost use mathlib.Core.Path.{_≡_};
+ghost use lib.ListN.{length};
+ghost use Rattle.figures.specs.Limits.{chartWords};
 ghost use Rattle.lookup.specs.Threads.{Threaded};
 ghost use Rattle.answer.specs.Answers.{Gives};
 ghost use Rattle.opening.specs.Open.{IsOpen};
 ghost use Rattle.reader.specs.Outcome.{outcome};
 ghost use Rattle.reader.specs.Demands.{Promised};
 
-// Reads a line against an open book. What `same` has is true of the book, before and after, so that one list serves all lines.
+// Reads a line against an open book. What `same` has is true of the book, before and after, so that one list serves all lines, and so does
+// one list for their charts.
 pub fn read_open(
     book: &[u8],
     names: &[u16],
-    types: usize,
     entries: &[u16],
     alike: &[u16],
     order: &[u64],
     targets: &[u8],
     same: &mut [u16],
+    chart: &mut [u64],
     line: &[u8],
     answer: &mut [u16],
 ) -> LineAnswer
-    requires { ⌜ IsOpen (now book) (now names) types (now entries) (now alike) (now order) (now targets) × Threaded (now book) (now entries) (now same) ⌝ }
+    requires { ⌜ IsOpen (now book) (now names) (now entries) (now alike) (now order) (now targets) × Threaded (now book) (now entries) (now same) ⌝ }
+    requires { ⌜ length (now chart) ≡ chartWords ⌝ }
     ensures { λ _. ⌜ Threaded (now (book .entry)) (now (entries .entry)) (now (same .exit)) ⌝ }
     ensures { λ r. ⌜ Gives (outcome (now (book .entry)) (now (line .entry)) (now (answer .entry))) r (now (answer .exit)) ⌝ }
 {
@@ -42,12 +48,12 @@ pub fn read_open(
     read_words(
         book,
         names,
-        types,
         entries,
         same,
         &firsts[..words],
         order,
         targets,
+        chart,
         answer,
     )
 }
@@ -73,15 +79,16 @@ pub fn read_line(book: &[u8], line: &[u8], answer: &mut [u16]) -> LineAnswer
             targets: goals,
         } => {
             let mut same = [0u16; MAX_ENTRIES];
+            let mut chart = [0u64; CHART_WORDS];
             read_open(
                 book,
                 &names,
-                types,
                 &entries[..count],
                 &alike,
-                &order,
+                &order[..types],
                 &targets[..goals],
                 &mut same,
+                &mut chart,
                 line,
                 answer,
             )

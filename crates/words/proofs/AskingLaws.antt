@@ -1,5 +1,5 @@
 -- What is told where no reading is written: that there is none, or, where it is only asked for one, that there is one.
-use Prim.Native.Nat.{ℕ, _*_, _≤_, _<_}
+use Prim.Native.Nat.{ℕ, _≤_, _<_}
 use native.Mathlib.Omega.{arith}
 use mathlib.Core.Path.{_≡_, refl, sym, _∙_}
 use mathlib.Core.List.{List}
@@ -7,7 +7,7 @@ use mathlib.Core.Bool.{Bool, true, false}
 use mathlib.Core.Option.{Option, none, some}
 use lib.ListN.{length}
 use lib.Seq.{length-take-le}
-use Rattle.figures.specs.Limits.{maxNodes, rowWords}
+use Rattle.figures.specs.Limits.{maxNodes, chartWords}
 use Rattle.pregroup.specs.Types.{Basic}
 use Rattle.pregroup.specs.Order.{Relation}
 use Rattle.pregroup.specs.Tests.{Test}
@@ -45,7 +45,7 @@ module _ (before : List ℕ) where
 -- The graph of a line that is laid out can be charted.
 pub can-fill :
     {words : Words} {targets : List Basic} {g : Graph} {last : ℕ} {chart : List ℕ} → LaidOut words targets g last → maxNodes ≤ length (g .nodes)
-    → length chart ≡ maxNodes * rowWords → Fillable (lineGraph last (length targets) g) chart
+    → length chart ≡ chartWords → Fillable (lineGraph last (length targets) g) chart
 can-fill {targets = targets} {g} {last} out room long =
     let whole = length-take-le (nodesWith last (length targets)) (g .nodes) (omega (arith, out .few)) in
     record { upward = out .upward; room = λ u h. omega (arith, out .few, whole) }

@@ -19,18 +19,18 @@ asked true o buffer = given o buffer
 asked false none buffer = record { answer = Refused noReading 0; buffer = buffer }
 asked false (some a) buffer = record { answer = Read 0; buffer = buffer }
 
-abbrev pub ReadsOrAsks : Bytes → List ℕ → ℕ → List ℕ → List ℕ → List ℕ → List ℕ → List ℕ → Bool → List ℕ → LineAnswer → List ℕ → Type 0
-ReadsOrAsks bytes names types entries same firsts order targets whole before answer after =
-    (le : Test) (words : Words) → FoundWords bytes names types entries same firsts order targets le words
+abbrev pub ReadsOrAsks : Bytes → List ℕ → List ℕ → List ℕ → List ℕ → List ℕ → List ℕ → Bool → List ℕ → LineAnswer → List ℕ → Type 0
+ReadsOrAsks bytes names entries same firsts order targets whole before answer after =
+    (le : Test) (words : Words) → FoundWords bytes names entries same firsts order targets le words
     → Gives (asked whole (firstReading le targets words) before) answer after
 
 -- What reading them gives: what their first reading comes to.
-abbrev pub ReadsWords : Bytes → List ℕ → ℕ → List ℕ → List ℕ → List ℕ → List ℕ → List ℕ → List ℕ → LineAnswer → List ℕ → Type 0
-ReadsWords bytes names types entries same firsts order targets before answer after =
-    (le : Test) (words : Words) → FoundWords bytes names types entries same firsts order targets le words
+abbrev pub ReadsWords : Bytes → List ℕ → List ℕ → List ℕ → List ℕ → List ℕ → List ℕ → List ℕ → LineAnswer → List ℕ → Type 0
+ReadsWords bytes names entries same firsts order targets before answer after =
+    (le : Test) (words : Words) → FoundWords bytes names entries same firsts order targets le words
     → Gives (given (firstReading le targets words) before) answer after
 
 -- Whether they have a reading.
-abbrev pub SaysWhether : Bytes → List ℕ → ℕ → List ℕ → List ℕ → List ℕ → List ℕ → List ℕ → Bool → Type 0
-SaysWhether bytes names types entries same firsts order targets says =
-    (le : Test) (words : Words) → FoundWords bytes names types entries same firsts order targets le words → says ≡ reads le targets words
+abbrev pub SaysWhether : Bytes → List ℕ → List ℕ → List ℕ → List ℕ → List ℕ → List ℕ → Bool → Type 0
+SaysWhether bytes names entries same firsts order targets says =
+    (le : Test) (words : Words) → FoundWords bytes names entries same firsts order targets le words → says ≡ reads le targets words

@@ -1,13 +1,15 @@
 // Words that are looked up are read, or only asked whether they have a reading.
 use answer::LineAnswer;
 use chart::fill;
-use figures::limits::CHART_WORDS;
 use figures::limits::MAX_NODES;
 use figures::refusals::NO_READING;
 use first_reading::write_reading;
 use layout::lay_out;
 use layout::nodes_with;
 use reach::first_target;
+ghost use mathlib.Core.Path.{_≡_};
+ghost use lib.ListN.{length};
+ghost use Rattle.figures.specs.Limits.{chartWords};
 ghost use Rattle.line.specs.FoundWords.{AreFound};
 ghost use Rattle.words.specs.Readings.{ReadsOrAsks, ReadsWords, SaysWhether};
 
@@ -17,26 +19,26 @@ ghost use Rattle.words.specs.Readings.{ReadsOrAsks, ReadsWords, SaysWhet
 fn read_or_ask(
     book: &[u8],
     names: &[u16],
-    types: usize,
     entries: &[u16],
     same: &[u16],
     firsts: &[u16],
     order: &[u64],
     targets: &[u8],
+    chart: &mut [u64],
     whole: bool,
     answer: &mut [u16],
 ) -> LineAnswer
-    requires { ⌜ AreFound (now book) (now names) types (now entries) (now same) (now firsts) (now order) (now targets) ⌝ }
-    ensures { λ r. ⌜ ReadsOrAsks (now (book .entry)) (now (names .entry)) types (now (entries .entry)) (now (same .entry)) (now (firsts .entry)) (now (order .entry)) (now (targets .entry))
+    requires { ⌜ AreFound (now book) (now names) (now entries) (now same) (now firsts) (now order) (now targets) ⌝ }
+    requires { ⌜ length (now chart) ≡ chartWords ⌝ }
+    ensures { λ r. ⌜ ReadsOrAsks (now (book .entry)) (now (names .entry)) (now (entries .entry)) (now (same .entry)) (now (firsts .entry)) (now (order .entry)) (now (targets .entry))
         whole (now (answer .entry)) r (now (answer .exit)) ⌝ }
 {
     let mut nodes = [0u64; MAX_NODES];
     let mut slots = [0u64; MAX_NODES];
-    let mut chart = [0u64; CHART_WORDS];
     let last = lay_out(
         book,
         names,
-        types,
+        order.len(),
         entries,
         same,
         firsts,
@@ -45,8 +47,8 @@ fn read_or_ask(
         &mut slots,
     );
     let count = nodes_with(last, targets.len());
-    fill(order, &nodes[..count], &slots, &mut chart);
-    let t = first_target(&chart, last, targets.len());
+    fill(order, &nodes[..count], &slots, chart);
+    let t = first_target(chart, last, targets.len());
     if t == targets.len() {
         return LineAnswer::Refused {
             number: NO_READING,
@@ -58,7 +60,7 @@ fn read_or_ask(
             order,
             &nodes[..count],
             &slots,
-            &chart,
+            chart,
             targets,
             last,
             t,
@@ -72,27 +74,28 @@ fn read_or_ask(
 pub fn read_words(
     book: &[u8],
     names: &[u16],
-    types: usize,
     entries: &[u16],
     same: &[u16],
     firsts: &[u16],
     order: &[u64],
     targets: &[u8],
+    chart: &mut [u64],
     answer: &mut [u16],
 ) -> LineAnswer
-    requires { ⌜ AreFound (now book) (now names) types (now entries) (now same) (now firsts) (now order) (now targets) ⌝ }
-    ensures { λ r. ⌜ ReadsWords (now (book .entry)) (now (names .entry)) types (now (entries .entry)) (now (same .entry)) (now (firsts .entry)) (now (order .entry)) (now (targets .entry))
+    requires { ⌜ AreFound (now book) (now names) (now entries) (now same) (now firsts) (now order) (now targets) ⌝ }
+    requires { ⌜ length (now chart) ≡ chartWords ⌝ }
+    ensures { λ r. ⌜ ReadsWords (now (book .entry)) (now (names .entry)) (now (entries .entry)) (now (same .entry)) (now (firsts .entry)) (now (order .entry)) (now (targets .entry))
         (now (answer .entry)) r (now (answer .exit)) ⌝ }
 {
     read_or_ask(
         book,
         names,
-        types,
         entries,
         same,
         firsts,
         order,
         targets,
+        chart,
         true,
         answer,
     )
@@ -102,26 +105,27 @@ pub fn read_words(
 pub fn has_reading(
     book: &[u8],
     names: &[u16],
-    types: usize,
     entries: &[u16],
     same: &[u16],
     firsts: &[u16],
     order: &[u64],
     targets: &[u8],
+    chart: &mut [u64],
 ) -> bool
-    requires { ⌜ AreFound (now book) (now names) types (now entries) (now same) (now firsts) (now order) (now targets) ⌝ }
-    ensures { λ r. ⌜ SaysWhether (now (book .entry)) (now (names .entry)) types (now (entries .entry)) (now (same .entry)) (now (firsts .entry)) (now (order .entry)) (now (targets .entry)) r ⌝ }
+    requires { ⌜ AreFound (now book) (now names) (now entries) (now same) (now firsts) (now order) (now targets) ⌝ }
+    requires { ⌜ length (now chart) ≡ chartWords ⌝ }
+    ensures { λ r. ⌜ SaysWhether (now (book .entry)) (now (names .entry)) (now (entries .entry)) (now (same .entry)) (now (firsts .entry)) (now (order .entry)) (now (targets .entry)) r ⌝ }
 {
     let mut nothing = [0u16; 0];
     let asked = read_or_ask(
         book,
         names,
-        types,
         entries,
         same,
         firsts,
         order,
         targets,
+        chart,
         false,
         &mut nothing,
     );

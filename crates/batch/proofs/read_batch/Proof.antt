@@ -2,11 +2,13 @@
 -- definition answers.
 use borrow.Author.Needs.{needs}
 use native.Mathlib.Omega.{arith}
+use Prim.Native.Nat.{ℕ}
 use mathlib.Core.Path.{_≡_, sym}
 use mathlib.Core.List.{List}
 use mathlib.Core.Option.{some}
-use lib.ListN.{length, length-take}
+use lib.ListN.{length, length-take, length-replicate}
 use lib.Seq.{length-take-le}
+use Rattle.figures.specs.Limits.{chartWords}
 use Rattle.format.specs.Records.{Bytes}
 use Rattle.book.specs.declared.Scan.the-variants.{Accepted}
 use Rattle.opening.specs.Open.{OpeningSays}
@@ -71,31 +73,34 @@ module _ (c : tie.After-scan2) where
 
 abbrev scanned : tie.After-store → tie.After-scan2
 scanned c =
-    let k = c .before .before .before .before in
+    let k = c .before .before .before .before .before in
     k .before .before .before .before
 
 slice-aggregate-read-parts : tie.Need-slice-aggregate-read-parts
 slice-aggregate-read-parts c = search needs
 
 array-share-prefix-entries : tie.Need-array-share-prefix-entries
-array-share-prefix-entries c = omega (arith, is-open (c .before .before) .1)
+array-share-prefix-entries c = omega (arith, is-open (c .before .before) .2)
 
 slice-aggregate-read-parts-2 : tie.Need-slice-aggregate-read-parts-2
-slice-aggregate-read-parts-2 c = sym (length-take-le _ _ (is-open (c .before .before .before) .1))
+slice-aggregate-read-parts-2 c = sym (length-take-le _ _ (is-open (c .before .before .before) .2))
 
 slice-aggregate-read-parts-3 : tie.Need-slice-aggregate-read-parts-3
 slice-aggregate-read-parts-3 c = search needs
 
+array-share-prefix-order : tie.Need-array-share-prefix-order
+array-share-prefix-order c = omega (arith, is-open (c .before .before .before .before) .1)
+
 slice-aggregate-read-parts-4 : tie.Need-slice-aggregate-read-parts-4
-slice-aggregate-read-parts-4 c = search needs
+slice-aggregate-read-parts-4 c = sym (length-take-le _ _ (is-open (c .before .before .before .before .before) .1))
 
 array-share-prefix-targets : tie.Need-array-share-prefix-targets
-array-share-prefix-targets c = omega (arith, is-open (c .before .before .before .before .before) .2)
+array-share-prefix-targets c = omega (arith, is-open (c .before .before .before .before .before) .3)
 
 slice-aggregate-read-parts-5 : tie.Need-slice-aggregate-read-parts-5
 slice-aggregate-read-parts-5 c =
     let k = c .before in
-    sym (length-take-le _ _ (is-open (k .before .before .before .before .before) .2))
+    sym (length-take-le _ _ (is-open (k .before .before .before .before .before) .3))
 
 slice-aggregate-read-parts-6 : tie.Need-slice-aggregate-read-parts-6
 slice-aggregate-read-parts-6 c = search needs
@@ -103,16 +108,19 @@ slice-aggregate-read-parts-6 c = search needs
 slice-aggregate-read-parts-7 : tie.Need-slice-aggregate-read-parts-7
 slice-aggregate-read-parts-7 c = search needs
 
+slice-aggregate-read-parts-8 : tie.Need-slice-aggregate-read-parts-8
+slice-aggregate-read-parts-8 c = search needs
+
 read-parts-requires : tie.Need-read-parts-requires
 read-parts-requires c κs =
     let o = is-open (scanned c) .0 in
     let k = opened (scanned c) .before in
     let a = begin k .args in
-    ((o, none-threaded (o .1 .kept .lexicon .kept)), can-store (a .book .now) (a .lines .now) (a .answers .now) (split k .0) (split k .1))
+    ((o, none-threaded (o .1 .kept .lexicon .kept)), (length-replicate {A = ℕ} chartWords 0, can-store (a .book .now) (a .lines .now) (a .answers .now) (split k .0) (split k .1)))
 
 returns-2 : tie.Need-returns-2
 returns-2 c =
-    let read = c .before .before .before in
+    let read = c .before .before .before .before in
     let k = opened (scanned (read .before)) .before in
     let a = begin k .args in
     let parsed = is-open (scanned (read .before)) .0 .1 .parsed in
@@ -120,10 +128,10 @@ returns-2 c =
     (g, gives-batch-promised _ _ _ g)
 
 array-share-prefix-store : tie.Need-array-share-prefix-store
-array-share-prefix-store c = omega (arith, c .before .before .before .read-parts .ensures .within)
+array-share-prefix-store c = omega (arith, c .before .before .before .before .read-parts .ensures .within)
 
 slice-aggregate-copy-front : tie.Need-slice-aggregate-copy-front
-slice-aggregate-copy-front c = sym (length-take-le _ _ (c .before .before .before .before .read-parts .ensures .within))
+slice-aggregate-copy-front c = sym (length-take-le _ _ (c .before .before .before .before .before .read-parts .ensures .within))
 
 copy-front-requires : tie.Need-copy-front-requires
 copy-front-requires c κs = simp length-take (omega arith)
@@ -145,7 +153,7 @@ returns-4 : tie.Need-returns-4
 returns-4 c =
     let copied = c .before .before in
     let other = copied .before .before .before in
-    let read = other .before .before .before in
+    let read = other .before .before .before .before in
     let k = opened (scanned (read .before)) .before in
     let a = begin k .args in
     let parsed = is-open (scanned (read .before)) .0 .1 .parsed in
@@ -167,11 +175,13 @@ read-batch-spec =
     array-share-prefix-entries
     slice-aggregate-read-parts-2
     slice-aggregate-read-parts-3
+    array-share-prefix-order
     slice-aggregate-read-parts-4
     array-share-prefix-targets
     slice-aggregate-read-parts-5
     slice-aggregate-read-parts-6
     slice-aggregate-read-parts-7
+    slice-aggregate-read-parts-8
     read-parts-requires
     returns-2
     array-share-prefix-store

@@ -8,7 +8,6 @@ use Rattle.pregroup.specs.Order.{Relation}
 use Rattle.pregroup.specs.Held.{InRows}
 use Rattle.graph.specs.Graph.{Graph, graph, simpleAt, nextAt, fromAt, toAt, enteredAt}
 use Rattle.graph.proofs.PartLaws.{to-small}
-use Rattle.graph.proofs.PartLaws.{to-small}
 use Rattle.choice.specs.First.{Roomy}
 use Rattle.choice.specs.Sets.{FirstSlot}
 use Rattle.choice.proofs.Choosing.{Choosing, SameLengths, roomy-same, start-choosing, searchable, slot-found, slot-up, entered-turn, place-left, growable, simple-up, picked-by, chose}

@@ -2,10 +2,11 @@
 use Prim.Native.Nat.{ℕ}
 use borrow.Author.Needs.{needs}
 use native.Mathlib.Omega.{arith}
-use mathlib.Core.Path.{sym}
+use mathlib.Core.Path.{sym, _∙_}
 use mathlib.Core.List.{List}
-use lib.ListN.{length, take}
+use lib.ListN.{length, take, length-replicate}
 use lib.Seq.{length-take-le}
+use Rattle.figures.specs.Limits.{chartWords}
 use Rattle.order.specs.Closed.{below}
 use Rattle.book.specs.Format.{Book}
 use Rattle.line.specs.declared.CheckedLine.the-variants.{Found}
@@ -29,10 +30,12 @@ start c =
     lent .before .before .before .before
 
 abbrev checked-at : tie.After-read-words → tie.After-checked2
-checked-at c = c .before .before .before .before .before
+checked-at c =
+    let lent = c .before in
+    lent .before .before .before .before .before
 
 abbrev read-at : tie.After-read → tie.After-read-words
-read-at c = c .before .before .before .before
+read-at c = c .before .before .before .before .before
 
 slice-aggregate-check-line : tie.Need-slice-aggregate-check-line
 slice-aggregate-check-line c = search needs
@@ -82,12 +85,12 @@ module _ (c : tie.After-checked2) where
   says : LineSays (begin .args .book .now) (begin .args .entries .now) contents (begin .args .line .now) firsts same (Found words)
   says = (rw (c .checked2 .given .1) at (c .before .before .before .before .check-line .ensures .1)) contents (begin .pre .1 .kept)
 
-  found : FoundWords (begin .args .book .now) (begin .args .names .now) (begin .args .types) (begin .args .entries .now) same (take words firsts)
+  found : FoundWords (begin .args .book .now) (begin .args .names .now) (begin .args .entries .now) same (take words firsts)
       (begin .args .order .now) (begin .args .targets .now) (below (length (contents .names)) (contents .pairs)) (entriesOfLine contents (begin .args .line .now))
   found = line-found (begin .pre .1) (line-check .check-line .ensures .0) (says .0) (says .2)
 
   reads-line : (before : List ℕ) {after : List ℕ} {answer : LineAnswer}
-      → ReadsWords (begin .args .book .now) (begin .args .names .now) (begin .args .types) (begin .args .entries .now) same (take words firsts)
+      → ReadsWords (begin .args .book .now) (begin .args .names .now) (begin .args .entries .now) same (take words firsts)
       (begin .args .order .now) (begin .args .targets .now) before answer after
       → Gives (outcome (begin .args .book .now) (begin .args .line .now) before) answer after
   reads-line before r = gives-outcome _ _ _ (begin .pre .1 .parsed) (says .0) (begin .pre .1 .chosen) (r _ _ found)
@@ -101,8 +104,11 @@ array-share-prefix-firsts c = omega (arith, says (c .before .before) .1)
 slice-aggregate-read-words-2 : tie.Need-slice-aggregate-read-words-2
 slice-aggregate-read-words-2 c = sym (length-take-le _ _ (says (c .before .before .before) .1))
 
+slice-aggregate-read-words-3 : tie.Need-slice-aggregate-read-words-3
+slice-aggregate-read-words-3 c = search needs
+
 read-words-requires : tie.Need-read-words-requires
-read-words-requires c κs = (_, _, found (c .before .before .before .before))
+read-words-requires c κs = ((_, _, found (c .before .before .before .before .before)), length-replicate {A = ℕ} chartWords 0)
 
 enum-known-read : tie.Need-enum-known-read
 enum-known-read c = search needs
@@ -115,7 +121,7 @@ same-length c = search needs
 
 returns-2 : tie.Need-returns-2
 returns-2 c =
-    let r = c .before .before .before .before in
+    let r = c .before .before .before .before .before in
     gives-read _ _ _ (reads-line (checked-at r) _ (r .read-words .ensures)) (c .enum-told .given .1)
 
 same-length-2 : tie.Need-same-length-2
@@ -136,21 +142,27 @@ array-borrow-prefix-firsts c = omega (arith, says (checked-at (read-at (c .befor
 slice-aggregate-try-each-2 : tie.Need-slice-aggregate-try-each-2
 slice-aggregate-try-each-2 c = sym (length-take-le _ _ (says (checked-at (read-at (c .before .before .before .before))) .1))
 
+slice-aggregate-try-each-3 : tie.Need-slice-aggregate-try-each-3
+slice-aggregate-try-each-3 c = search needs
+
 try-each-requires : tie.Need-try-each-requires
-try-each-requires c κs = (_, _, found (checked-at (read-at (c .before .before .before .before))))
+try-each-requires c κs =
+    let r = read-at (c .before .before .before .before .before) in
+    ((_, _, found (checked-at r)), r .read-words .kept .1 .1 .1 .1 .1 .1 .1 .0 ∙ length-replicate {A = ℕ} chartWords 0)
 
 same-length-3 : tie.Need-same-length-3
 same-length-3 c = search needs
 
 returns-4 : tie.Need-returns-4
 returns-4 c =
-    let other = c .before .before .before .before in
+    let tried = c .before .before in
+    let other = tried .before .before .before .before in
     let told = other .before .before in
     let r = read-at told in
     let k = checked-at r in
     let o = begin k .pre .1 in
     gives-fifteen _ _ _ (reads-line k _ (r .read-words .ensures)) (told .read .given .1) (omega (arith, other .if1 .left))
-    (way-is _ _ (o .parsed) (says k .0) (o .chosen) (c .before .try-each .ensures _ _ (found k)))
+    (way-is _ _ (o .parsed) (says k .0) (o .chosen) (tried .try-each .ensures _ _ (found k)))
 
 pub read-or-try-spec : {M : Type 1} → statement M
 read-or-try-spec =
@@ -165,6 +177,7 @@ read-or-try-spec =
     slice-aggregate-read-words
     array-share-prefix-firsts
     slice-aggregate-read-words-2
+    slice-aggregate-read-words-3
     read-words-requires
     enum-known-read
     enum-told
@@ -175,6 +188,7 @@ read-or-try-spec =
     slice-aggregate-try-each
     array-borrow-prefix-firsts
     slice-aggregate-try-each-2
+    slice-aggregate-try-each-3
     try-each-requires
     same-length-3
     returns-4)

@@ -40,24 +40,27 @@ slice-aggregate-read-or-try : tie.Need-slice-aggregate-read-or-try
 slice-aggregate-read-or-try c = search needs
 
 array-share-prefix-entries : tie.Need-array-share-prefix-entries
-array-share-prefix-entries c = omega (arith, is-open (c .before .before) .1)
+array-share-prefix-entries c = omega (arith, is-open (c .before .before) .2)
 
 slice-aggregate-read-or-try-2 : tie.Need-slice-aggregate-read-or-try-2
-slice-aggregate-read-or-try-2 c = sym (length-take-le _ _ (is-open (c .before .before .before) .1))
+slice-aggregate-read-or-try-2 c = sym (length-take-le _ _ (is-open (c .before .before .before) .2))
 
 slice-aggregate-read-or-try-3 : tie.Need-slice-aggregate-read-or-try-3
 slice-aggregate-read-or-try-3 c = search needs
 
+array-share-prefix-order : tie.Need-array-share-prefix-order
+array-share-prefix-order c = omega (arith, is-open (c .before .before .before .before) .1)
+
 slice-aggregate-read-or-try-4 : tie.Need-slice-aggregate-read-or-try-4
-slice-aggregate-read-or-try-4 c = search needs
+slice-aggregate-read-or-try-4 c = sym (length-take-le _ _ (is-open (c .before .before .before .before .before) .1))
 
 array-share-prefix-targets : tie.Need-array-share-prefix-targets
-array-share-prefix-targets c = omega (arith, is-open (c .before .before .before .before .before) .2)
+array-share-prefix-targets c = omega (arith, is-open (c .before .before .before .before .before) .3)
 
 slice-aggregate-read-or-try-5 : tie.Need-slice-aggregate-read-or-try-5
 slice-aggregate-read-or-try-5 c =
     let k = c .before in
-    sym (length-take-le _ _ (is-open (k .before .before .before .before .before) .2))
+    sym (length-take-le _ _ (is-open (k .before .before .before .before .before) .3))
 
 read-or-try-requires : tie.Need-read-or-try-requires
 read-or-try-requires c κs =
@@ -92,6 +95,7 @@ words-in-the-way-spec =
     array-share-prefix-entries
     slice-aggregate-read-or-try-2
     slice-aggregate-read-or-try-3
+    array-share-prefix-order
     slice-aggregate-read-or-try-4
     array-share-prefix-targets
     slice-aggregate-read-or-try-5

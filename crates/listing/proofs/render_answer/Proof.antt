@@ -44,19 +44,22 @@ slice-aggregate-render-line : tie.Need-slice-aggregate-render-line
 slice-aggregate-render-line c = search needs
 
 array-share-prefix-entries : tie.Need-array-share-prefix-entries
-array-share-prefix-entries c = is-open (c .before .before) .1
+array-share-prefix-entries c = is-open (c .before .before) .2
 
 slice-aggregate-render-line-2 : tie.Need-slice-aggregate-render-line-2
-slice-aggregate-render-line-2 c = sym (length-take-le _ _ (is-open (c .before .before .before) .1))
+slice-aggregate-render-line-2 c = sym (length-take-le _ _ (is-open (c .before .before .before) .2))
+
+array-share-prefix-order : tie.Need-array-share-prefix-order
+array-share-prefix-order c = is-open (c .before .before .before) .1
 
 slice-aggregate-render-line-3 : tie.Need-slice-aggregate-render-line-3
-slice-aggregate-render-line-3 c = search needs
+slice-aggregate-render-line-3 c = sym (length-take-le _ _ (is-open (c .before .before .before .before) .1))
 
 array-share-prefix-targets : tie.Need-array-share-prefix-targets
-array-share-prefix-targets c = is-open (c .before .before .before .before) .2
+array-share-prefix-targets c = is-open (c .before .before .before .before) .3
 
 slice-aggregate-render-line-4 : tie.Need-slice-aggregate-render-line-4
-slice-aggregate-render-line-4 c = sym (length-take-le _ _ (is-open (c .before .before .before .before .before) .2))
+slice-aggregate-render-line-4 c = sym (length-take-le _ _ (is-open (c .before .before .before .before .before) .3))
 
 render-line-requires : tie.Need-render-line-requires
 render-line-requires c κs = let lent = c .before .before .before .before in (_, is-open (lent .before .before) .0)
@@ -89,6 +92,7 @@ render-answer-spec =
     slice-aggregate-render-line
     array-share-prefix-entries
     slice-aggregate-render-line-2
+    array-share-prefix-order
     slice-aggregate-render-line-3
     array-share-prefix-targets
     slice-aggregate-render-line-4

@@ -102,13 +102,13 @@ string-length c = length-take-le _ _ (c .join-types .ensures .0)
 
 spells : (c : tie.After-join-types) → let a = start (split-of (told-of c)) .args in
     map held (string c)
-    ≡ joined (map (entryFrom (a .book .now) (bodiesAt (a .book .now) (a .names .now) (a .types))) (a .entries .now))
+    ≡ joined (map (entryFrom (a .book .now) (bodiesAt (a .book .now) (a .names .now) (length (a .order .now)))) (a .entries .now))
     (take (length (take (words (told-of c)) (starts (told-of c)))) (entriesPart (a .values .now)))
 spells c =
     let shown = c .before .before in
     let a = start (split-of (told-of c)) .args in
     rw (shown .first-values .ensures, shown .before .entries-of .ensures) at (c .join-types .ensures .1)
-    ∙ ap (λ (k : ℕ). joined (map (entryFrom (a .book .now) (bodiesAt (a .book .now) (a .names .now) (a .types))) (a .entries .now)) (take k (entriesPart (a .values .now)))) (sym (starts-length (told-of c)))
+    ∙ ap (λ (k : ℕ). joined (map (entryFrom (a .book .now) (bodiesAt (a .book .now) (a .names .now) (length (a .order .now)))) (a .entries .now)) (take k (entriesPart (a .values .now)))) (sym (starts-length (told-of c)))
 
 target-of-requires : tie.Need-target-of-requires
 target-of-requires c κs = search needs
@@ -187,7 +187,7 @@ module _ (c : tie.After-letters3) where
   abbrev shown : Bytes
   shown =
       let a = start (split-of (told-of (joined-of (parts-of linked)))) .args in
-      keptRows (a .book .now) (a .names .now) (a .types) (a .line .now) (a .values .now) line-string line-letters
+      keptRows (a .book .now) (a .names .now) (length (a .order .now)) (a .line .now) (a .values .now) line-string line-letters
 
   shown-listed : let a = start (split-of (told-of (joined-of (parts-of linked)))) .args in
       shown ≡ listed (a .book .now) (a .line .now) (a .values .now)

@@ -1,7 +1,9 @@
 -- `opening::open_book` meets its contract: the book is scanned, its entries threaded and its order closed, so that it is open, or it is refused.
 use borrow.Author.Needs.{needs}
 use native.Mathlib.Omega.{arith}
-use mathlib.Core.Path.{sym}
+use Prim.Native.Nat.{ℕ, _≤_}
+use mathlib.Core.Path.{_≡_, sym, _∙_}
+use lib.ListN.{length, length-map}
 use lib.Seq.{length-take-le}
 use Rattle.book.specs.Kept.{Store, store, ScanSays}
 use Rattle.book.specs.declared.Scan.the-variants.{Accepted}
@@ -85,8 +87,12 @@ returns-2 : tie.Need-returns-2
 returns-2 c =
     let t = c .before .before .before .before in
     let s = t .before .before .before .before in
-    let o = opened s .1 in (
-      (opened s .0, is-open _ (lists s) _ _ _ (opened s .0) _ _ o (t .thread-entries .ensures) (c .before .close .ensures)),
+    let o = opened s .1 in
+    let rows = c .before .close .result .rows in
+    let whole : length rows ≡ 64 = sym (length-map rows (λ (x : ℕ). x)) ∙ c .before .close .ok .1 .1 .0 .1 .0 .1 in
+    let room : s .scan .given .0 .0 ≤ length rows = omega (arith, o .named .few, whole) in (
+      (opened s .0, is-open _ (lists s) _ _ _ (opened s .0) _ _ room o (t .thread-entries .ensures) (c .before .close .ensures)),
+      room,
       o .entries-whole .room,
       omega (arith, o .few-targets, scanned s .scan-book .kept .1 .1 .1 .1 .0),
     )

@@ -1,8 +1,11 @@
 -- `reader::read_line` meets its contract: the book is opened, and what reading with it gives is the outcome.
 use borrow.Author.Needs.{needs}
 use native.Mathlib.Omega.{arith}
+use Prim.Native.Nat.{ℕ}
 use mathlib.Core.Path.{sym}
+use lib.ListN.{length-replicate}
 use lib.Seq.{length-take-le}
+use Rattle.figures.specs.Limits.{chartWords}
 use Rattle.book.specs.declared.Scan.the-variants.{Accepted}
 use Rattle.opening.specs.Open.{OpeningSays}
 use Rattle.opening.specs.declared.Opening.{Opening}
@@ -40,33 +43,39 @@ slice-aggregate-read-open : tie.Need-slice-aggregate-read-open
 slice-aggregate-read-open c = search needs
 
 array-share-prefix-entries : tie.Need-array-share-prefix-entries
-array-share-prefix-entries c = omega (arith, is-open (c .before .before) .1)
+array-share-prefix-entries c = omega (arith, is-open (c .before .before) .2)
 
 slice-aggregate-read-open-2 : tie.Need-slice-aggregate-read-open-2
-slice-aggregate-read-open-2 c = sym (length-take-le _ _ (is-open (c .before .before .before) .1))
+slice-aggregate-read-open-2 c = sym (length-take-le _ _ (is-open (c .before .before .before) .2))
 
 slice-aggregate-read-open-3 : tie.Need-slice-aggregate-read-open-3
 slice-aggregate-read-open-3 c = search needs
 
+array-share-prefix-order : tie.Need-array-share-prefix-order
+array-share-prefix-order c = omega (arith, is-open (c .before .before .before .before) .1)
+
 slice-aggregate-read-open-4 : tie.Need-slice-aggregate-read-open-4
-slice-aggregate-read-open-4 c = search needs
+slice-aggregate-read-open-4 c = sym (length-take-le _ _ (is-open (c .before .before .before .before .before) .1))
 
 array-share-prefix-targets : tie.Need-array-share-prefix-targets
-array-share-prefix-targets c = omega (arith, is-open (c .before .before .before .before .before) .2)
+array-share-prefix-targets c = omega (arith, is-open (c .before .before .before .before .before) .3)
 
 slice-aggregate-read-open-5 : tie.Need-slice-aggregate-read-open-5
 slice-aggregate-read-open-5 c =
     let k = c .before in
-    sym (length-take-le _ _ (is-open (k .before .before .before .before .before) .2))
+    sym (length-take-le _ _ (is-open (k .before .before .before .before .before) .3))
 
 slice-aggregate-read-open-6 : tie.Need-slice-aggregate-read-open-6
 slice-aggregate-read-open-6 c = search needs
 
+slice-aggregate-read-open-7 : tie.Need-slice-aggregate-read-open-7
+slice-aggregate-read-open-7 c = search needs
+
 read-open-requires : tie.Need-read-open-requires
 read-open-requires c κs =
-    let k = c .before .before .before .before in
+    let k = c .before .before .before .before .before in
     let o = is-open (k .before .before .before .before) .0 in
-    (o, none-threaded (o .1 .kept .lexicon .kept))
+    ((o, none-threaded (o .1 .kept .lexicon .kept)), length-replicate {A = ℕ} chartWords 0)
 
 returns : tie.Need-returns
 returns c =
@@ -82,7 +91,7 @@ same-length c = search needs
 
 returns-2 : tie.Need-returns-2
 returns-2 c =
-    let g = c .before .before .before .read-open .ensures .1 in
+    let g = c .before .before .before .before .read-open .ensures .1 in
     (g, gives-promised _ _ _ g)
 
 pub read-line-spec : {M : Type 1} → statement M
@@ -96,10 +105,12 @@ read-line-spec =
     array-share-prefix-entries
     slice-aggregate-read-open-2
     slice-aggregate-read-open-3
+    array-share-prefix-order
     slice-aggregate-read-open-4
     array-share-prefix-targets
     slice-aggregate-read-open-5
     slice-aggregate-read-open-6
+    slice-aggregate-read-open-7
     read-open-requires
     returns
     same-length

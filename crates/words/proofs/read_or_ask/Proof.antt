@@ -1,12 +1,12 @@
 -- `words::read_or_ask` meets its contract: where the chart reaches no target there is no reading, and else the first one is written, where it is wanted.
 use borrow.Author.Needs.{needs}
 use native.Mathlib.Omega.{arith}
-use Prim.Native.Nat.{ℕ, _*_, _≤_}
+use Prim.Native.Nat.{ℕ, _≤_}
 use mathlib.Core.Path.{_≡_, sym, subst, _∙_}
 use mathlib.Core.List.{List}
 use lib.ListN.{length, take, replicate, length-replicate}
 use lib.Seq.{length-take-le}
-use Rattle.figures.specs.Limits.{maxNodes, rowWords}
+use Rattle.figures.specs.Limits.{maxNodes, chartWords}
 use Rattle.pregroup.specs.Tests.{Test}
 use Rattle.pregroup.specs.Held.{InRows}
 use Rattle.linking.specs.Reading.{Words}
@@ -20,12 +20,15 @@ use Rattle.words.proofs.AskingLaws.{can-fill, answers-none, answers-som
 use Rattle.words.proofs.read_or_ask.Statement.{statement}
 use Rattle.words.proofs.read_or_ask.Tie as tie
 
--- The start, from where the lists are known, and from where the line is laid out.
+-- The start, from where the lists are known and lent, and from where the line is laid out.
 abbrev known : tie.After-shared-slice-known5 → tie.Start
 known c = c .before .before .before .before .before
 
+abbrev lent : tie.After-slice-known2 → tie.Start
+lent c = known (c .before .before .before .before)
+
 abbrev first : tie.After-slots → tie.Start
-first c = known (c .before .before .before .before .before)
+first c = lent (c .before .before)
 
 abbrev entry : tie.After-lay-out → tie.Start
 entry c = first (c .before)
@@ -39,12 +42,12 @@ module _ (c : tie.After-lay-out) where
   nodes-room = omega (arith, c .lay-out .kept .1 .1 .1 .1 .1 .1 .1 .0, length-replicate {A = ℕ} maxNodes 0)
 
   laid : {le : Test} {words : Words} → let a = entry c .args in
-      FoundWords (a .book .now) (a .names .now) (a .types) (a .entries .now) (a .same .now) (a .firsts .now) (a .order .now) (a .targets .now) le words
+      FoundWords (a .book .now) (a .names .now) (a .entries .now) (a .same .now) (a .firsts .now) (a .order .now) (a .targets .now) le words
       → LaidOut words (a .targets .now) lists (c .lay-out .result)
   laid {words = words} f = c .lay-out .ensures words (f .threaded)
 
-  out : LaidOut (entry c .pre .1) (entry c .args .targets .now) lists (c .lay-out .result)
-  out = laid (entry c .pre .2)
+  out : LaidOut (entry c .pre .0 .1) (entry c .args .targets .now) lists (c .lay-out .result)
+  out = laid (entry c .pre .0 .2)
 
 -- Its nodes are counted.
 module _ (c : tie.After-nodes-with) where
@@ -65,7 +68,7 @@ slice-aggregate-lay-out-2 c = search needs
 
 lay-out-requires : tie.Need-lay-out-requires
 lay-out-requires c κs =
-    let p = first c .pre in
+    let p = first c .pre .0 in
     let long : maxNodes ≤ length (replicate {A = ℕ} maxNodes 0) = omega (arith, length-replicate {A = ℕ} maxNodes 0) in
     (record { words = p .1; found = p .2 .threaded; room = record { nodes = long; slots = long } }, p .2 .few-targets)
 
@@ -81,14 +84,11 @@ slice-aggregate-fill c = sym (length-take-le _ _ (inside (c .before)))
 slice-aggregate-fill-2 : tie.Need-slice-aggregate-fill-2
 slice-aggregate-fill-2 c = search needs
 
-slice-aggregate-fill-3 : tie.Need-slice-aggregate-fill-3
-slice-aggregate-fill-3 c = search needs
-
 fill-requires : tie.Need-fill-requires
 fill-requires c κs =
     let n = c .before .before .before in
     let l = from-lists n in
-    rw (counted n) (can-fill (out l) (nodes-room l) (length-replicate {A = ℕ} (maxNodes * rowWords) 0))
+    rw (counted n) (can-fill (out l) (nodes-room l) (entry l .pre .1))
 
 -- The chart is filled.
 module _ (c : tie.After-fill) where
@@ -98,21 +98,18 @@ module _ (c : tie.After-fill) where
   abbrev chart : List ℕ
   chart = c .fill .last .1 .1 .1 .0
 
-  chart-room : length chart ≡ maxNodes * rowWords
-  chart-room = c .fill .kept .1 .1 .1 .0 ∙ length-replicate {A = ℕ} (maxNodes * rowWords) 0
-
-slice-aggregate-first-target : tie.Need-slice-aggregate-first-target
-slice-aggregate-first-target c = search needs
+  chart-room : length chart ≡ chartWords
+  chart-room = c .fill .kept .1 .1 .1 .0 ∙ entry (from-lists from-count) .pre .1
 
 first-target-requires : tie.Need-first-target-requires
 first-target-requires c κs =
-    let filled = c .before .before in
+    let filled = c .before .before .before in
     record { room = omega (arith, chart-room filled); few = out (from-lists (from-count filled)) .few }
 
 -- The first target is known.
 module _ (c : tie.After-first-target) where
   abbrev from-fill : tie.After-fill
-  from-fill = c .before .before .before
+  from-fill = c .before .before .before .before
 
   abbrev from-start : tie.After-lay-out
   from-start = from-lists (from-count from-fill)
@@ -120,7 +117,7 @@ module _ (c : tie.After-first-target) where
   charted :
       let a = entry from-start .args in
       (le : Test) (words : Words)
-      → FoundWords (a .book .now) (a .names .now) (a .types) (a .entries .now) (a .same .now) (a .firsts .now) (a .order .now) (a .targets .now) le words
+      → FoundWords (a .book .now) (a .names .now) (a .entries .now) (a .same .now) (a .firsts .now) (a .order .now) (a .targets .now) le words
       → Charted le (InRows (a .order .now)) (lineGraph (from-start .lay-out .result) (length (a .targets .now)) (lists from-start)) (a .targets .now) (from-start .lay-out .result) words
       (chart from-fill) (c .first-target .result)
   charted le words f = record {
@@ -129,6 +126,9 @@ module _ (c : tie.After-first-target) where
         (counted (from-count from-fill)) (from-fill .fill .ensures);
     first = c .first-target .ensures;
   }
+
+same-length : tie.Need-same-length
+same-length c = search needs
 
 returns : tie.Need-returns
 returns c = λ le words f.
@@ -145,26 +145,26 @@ slice-aggregate-write-reading c = sym (length-take-le _ _ (inside (from-count (f
 slice-aggregate-write-reading-2 : tie.Need-slice-aggregate-write-reading-2
 slice-aggregate-write-reading-2 c = search needs
 
-slice-aggregate-write-reading-3 : tie.Need-slice-aggregate-write-reading-3
-slice-aggregate-write-reading-3 c = search needs
-
 write-reading-requires : tie.Need-write-reading-requires
 write-reading-requires c κs =
     let reached = c .before .before .before .before .before in
     let t = reached .before in
     let s = entry (from-start t) in
-    let known-words = charted t _ _ (s .pre .2) in
+    let known-words = charted t _ _ (s .pre .0 .2) in
     rw (counted (from-count (from-fill t)))
     (record {
-      le = s .pre .0;
-      words = s .pre .1;
+      le = s .pre .0 .0;
+      words = s .pre .0 .1;
       charted = known-words;
       target-there = omega (arith, known-words .first .within, reached .if1 .left);
       chart-room = chart-room (from-fill t);
     })
 
-same-length : tie.Need-same-length
-same-length c = search needs
+same-length-2 : tie.Need-same-length-2
+same-length-2 c = search needs
+
+same-length-3 : tie.Need-same-length-3
+same-length-3 c = search needs
 
 returns-2 : tie.Need-returns-2
 returns-2 c = λ le words f.
@@ -177,6 +177,9 @@ returns-2 c = λ le words f.
     (λ (k : ℕ). Charted le (InRows (a .order .now)) (graph (take k (lists l .nodes)) (lists l .slots)) (a .targets .now) (l .lay-out .result) words (chart (from-fill t)) (t .first-target .result))
     (sym (counted (from-count (from-fill t)))) (charted t le words f) in
     rw (asked .if2 .taken) (wrote .write-reading .ensures le words says)
+
+same-length-4 : tie.Need-same-length-4
+same-length-4 c = search needs
 
 returns-3 : tie.Need-returns-3
 returns-3 c = λ le words f.
@@ -196,16 +199,16 @@ read-or-ask-spec =
     array-share-prefix-nodes
     slice-aggregate-fill
     slice-aggregate-fill-2
-    slice-aggregate-fill-3
     fill-requires
-    slice-aggregate-first-target
     first-target-requires
+    same-length
     returns
     array-share-prefix-nodes-2
     slice-aggregate-write-reading
     slice-aggregate-write-reading-2
-    slice-aggregate-write-reading-3
     write-reading-requires
-    same-length
+    same-length-2
+    same-length-3
     returns-2
+    same-length-4
     returns-3)
