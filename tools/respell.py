@@ -4,11 +4,13 @@
 usage: python3 tools/respell.py [--check]      at the top of the repository; --check only lists names that would fall together
 
 A name that specs/ or a lemma file declares and that has a dash or a capital inside turns everywhere: in .antt files, in the clauses of .rt files, in must-fail
-edits, and in the code spans of comments and documents. Types, operators, functions of src/, strings and prose keep their names.
+edits, and in the code spans of comments and documents. Types, operators, functions of src/, strings and prose keep their names, and so does what a file
+imports from a library.
 """
 
 import collections
 import glob
+import os
 import re
 import sys
 
@@ -94,6 +96,16 @@ def fallen(rows):
                 yield path, new, sorted(old)
 
 
+def lent(text, own):
+    """The names that a file imports from a library: they stay as they are in that file."""
+    names = set()
+    for m in re.finditer(r"\buse ([^\s;{]+)\.\{([^}]*)\}", text):
+        steps = m[1].split(".")
+        if steps[0] != "Rattle" or steps[1] not in own:
+            names |= {word.split(" as ")[0].strip() for word in m[2].split(",")}
+    return names
+
+
 def respell(code, rows):
     return re.sub(WORD, lambda m: rows.get(m[0], m[0]), code)
 
@@ -119,12 +131,15 @@ def main():
         print(f"{path}: {', '.join(old)} -> {new}")
     if "--check" in sys.argv:
         return
+    own = set(os.listdir("crates"))
     kinds = [("crates/**/*.antt", "--"), ("crates/**/*.rt", "//"), ("crates/**/*.edit", "# "), ("docs/**/*.md", None), ("*.md", None)]
     for pattern, mark in kinds:
         for path in glob.glob(pattern, recursive=True):
             with open(path, encoding="utf-8") as f:
                 text = f.read()
             here = rows | APART_IN.get(path, {})
+            kept = lent(text, own)
+            here = {old: new for old, new in here.items() if old not in kept}
             new = by_comments(text, here, mark) if mark else spans(text, here)
             if new != text:
                 with open(path, "w", encoding="utf-8") as f:

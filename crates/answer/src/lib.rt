@@ -1,5 +1,7 @@
 // What reading answers, and an answer written into the lent buffer of 16-bit numbers: the target's number, the number of words, the numbers of their entries, the number
 // of simple types, and their partners, which are found and written by `links`.
+#![tactic(auto)]
+
 mod links;
 pub mod parts;
 

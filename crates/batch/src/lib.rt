@@ -1,6 +1,8 @@
 // Reads a batch: up to 32 lines in one buffer, each closed by byte 10, against one book. The book is opened once, each line is read once, into a store
 // of this call's own, and the answers are copied to the lent buffer when it is known that they fit. What reading any bytes comes to is defined in
 // specs/Batch, and what is promised of it in specs/BatchDemands.
+#![tactic(auto)]
+
 ghost use Rattle.answer.specs.Answers.{Gives};
 ghost use Rattle.batch.specs.Batch.{batch_outcome};
 ghost use Rattle.batch.specs.BatchDemands.{BatchPromised};

@@ -1,4 +1,6 @@
 // The lines of a batch: how many there are, and the byte that closes each.
+#![tactic(auto)]
+
 ghost use Rattle.std.specs.Prelude.{◌≡◌};
 ghost use Rattle.batch_lines.specs.Counts.{breaks, ClosedSays, CountSays};
 

@@ -1,4 +1,6 @@
 // The parts of a batch's answers, each a count, a number and the values of a line's answer or refusal, one behind another in a store.
+#![tactic(auto)]
+
 ghost use Rattle.std.specs.Prelude.{◌+◌, ◌≤◌, ◌<◌, ◌≡◌, [], ◌∷◌, ◌++◌, length, drop};
 ghost use Rattle.std.proofs.lemmas.List.Edits.{sets};
 ghost use Rattle.figures.specs.Limits.{max_batch, max_part, value_bound, chart_words};

@@ -1,4 +1,6 @@
 // Sets of small numbers in one 64-bit word: bit q is 1 where q is a member. The layers above hold the order, and sets of basic types, so.
+#![tactic(auto)]
+
 pub mod rows;
 
 ghost use Rattle.std.specs.Prelude.{◌+◌, ◌<◌, ◌≡◌, ◌↔◌, ◌⊎◌, true};

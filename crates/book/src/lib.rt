@@ -1,4 +1,6 @@
 // A book: any bytes at all, accepted with its contents or refused by the first rule it breaks.
+#![tactic(auto)]
+
 ghost use Rattle.std.specs.Prelude.{◌≡◌};
 ghost use Rattle.book.specs.Check.{book_check, check_reply, BookPromised};
 

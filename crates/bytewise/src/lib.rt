@@ -1,4 +1,6 @@
 // Bytes where they stand: compared eight at a time, searched, and widened to numbers.
+#![tactic(auto)]
+
 pub mod compare;
 pub mod search;
 pub mod widths;

@@ -1,5 +1,7 @@
 // Words compared where they stand, capitals as small letters. Most words differ in more than case, and eight bytes as one number tell so;
 // what may differ in case alone is compared in small letters, eight bytes at a time too.
+#![tactic(auto)]
+
 ghost use Rattle.std.specs.Prelude.{◌≡◌, true, ◌↔◌, ◌+◌, ◌≤◌, length};
 ghost use Rattle.capitals.specs.Capitals.{small, same_word};
 ghost use Rattle.capitals.specs.Letters.{SameLetters, small_number};

@@ -1,5 +1,7 @@
 // The book check on books for each rule of the format: a row for each book, with its name and what the check answers. The cases are a script on
 // standard input.
+#![tactic(auto)]
+
 mod rows;
 
 use cases::buffer::ROOM;

@@ -1,4 +1,6 @@
 // Lines read against books: a row for each, with its name and what the reader answers. The cases are a script on standard input.
+#![tactic(auto)]
+
 mod rows;
 
 use cases::buffer::ROOM;

@@ -1,5 +1,7 @@
 // Listings of lines read against books: for each case a row with its name and what rendering gave, and behind it the listing. But for refusals that are given,
 // the cases are a script on standard input.
+#![tactic(auto)]
+
 mod refusals;
 mod rooms;
 mod rows;

@@ -1,5 +1,7 @@
 // Which stretches of a line vanish. A line is a graph whose nodes are numbered from left to right; for each node the chart holds, as a row of
 // bits, the nodes to which some path spells a string that vanishes.
+#![tactic(auto)]
+
 ghost use Rattle.std.specs.Prelude.{◌⊎◌, ◌<◌, length};
 ghost use Rattle.pregroup.specs.Held.{InRows};
 ghost use Rattle.figures.specs.Limits.{row_bits};

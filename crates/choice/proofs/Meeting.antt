@@ -8,7 +8,7 @@ use mathlib.Core.List.{List}
 use lib.Dec.{eqb}
 use lib.ListN.{get_or}
 use lib.Count.{count_trailing_zeros}
-use borrow.Author.Tests.{eqb-false, not_true, ne_eqb}
+use borrow.Author.Tests.{eqb-false, not-true, ne_eqb}
 use Rattle.figures.specs.Limits.{row_words}
 use Rattle.bits.specs.Bits.{Has, Members}
 use Rattle.bits.specs.Rows.{InRow}
@@ -57,6 +57,6 @@ module _ (chart : List ℕ) (u : ℕ) (needs : List ℕ) (n : ℕ) where
 
     pub word_tells : (not (eqb word 0) ≡ true) ↔ MeetsIn chart u needs n k
     word_tells = (
-      λ h. let some = eqb-false word 0 (not_true (eqb word 0) h) in meets_of_word (omega (arith, some)),
+      λ h. let some = eqb-false word 0 (not-true (eqb word 0) h) in meets_of_word (omega (arith, some)),
       λ m. ap not (ne_eqb word 0 (word_of_meets m)),
     )

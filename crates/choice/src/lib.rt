@@ -1,5 +1,7 @@
 // The first choice of a line: entry by entry, by the rows of the chart, the table of the string that is chosen so far, and for each of its places a row
 // of the nodes that are needed there.
+#![tactic(auto)]
+
 mod needs;
 
 ghost use Rattle.pregroup.specs.Held.{InRows};

@@ -1,4 +1,6 @@
 // The first reading of words that are charted: the first choice up to the target that is reached, with its first linking, written as an answer.
+#![tactic(auto)]
+
 ghost use Rattle.pregroup.specs.Held.{InRows};
 ghost use Rattle.graph.specs.Graph.{graph};
 ghost use Rattle.first_reading.specs.Reached.{IsReached, ReachGives};

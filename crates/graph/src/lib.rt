@@ -1,4 +1,6 @@
 // The graph of a line is defined in `specs/`. Here nodes and slots are put into numbers of 64 bits, and their parts are read where they stand.
+#![tactic(auto)]
+
 ghost use Rattle.std.specs.Prelude.{◌<◌, ◌≡◌, length};
 ghost use Rattle.figures.specs.Limits.{value_bound};
 ghost use Rattle.graph.specs.Graph.{simple_in, next_in, from_in, to_in, entered_in, number_in, simple_at, next_at, from_at, to_at, entered_at, number_at};

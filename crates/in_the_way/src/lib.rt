@@ -1,5 +1,7 @@
 // Tells which words are in the way of a line without a reading: those without which it has one. The line is read as ever, and where it gets 15 each word is
 // left out in turn. What is returned for any bytes is defined in specs/Way, and what is promised of it in specs/WayDemands.
+#![tactic(auto)]
+
 ghost use Rattle.answer.specs.Answers.{Gives};
 ghost use Rattle.opening.specs.Open.{IsOpen};
 ghost use Rattle.in_the_way.specs.Way.{way_outcome};

@@ -1,4 +1,6 @@
 // Lays a line out whose words are looked up: each word a boundary, then the simple types of its entries, and behind the last word the targets.
+#![tactic(auto)]
+
 ghost use Rattle.std.specs.Prelude.{◌≡◌, List, [], ◌∷◌, length, ◌≤◌};
 ghost use Rattle.figures.specs.Limits.{max_nodes, max_targets};
 ghost use Rattle.format.specs.Records.{bodies_at};

@@ -1,4 +1,6 @@
 // Words that are looked up, without one of them: each is left out in turn, and the others are asked for a reading.
+#![tactic(auto)]
+
 ghost use Rattle.std.specs.Prelude.{◌≡◌, length};
 ghost use Rattle.figures.specs.Limits.{chart_words};
 ghost use Rattle.line.specs.FoundWords.{AreFound};

@@ -1,4 +1,6 @@
 // The letters that end the rows of simple types in a listing: `e` where a link joins the same basic type, `t` where it joins different ones.
+#![tactic(auto)]
+
 ghost use Rattle.std.specs.Prelude.{suc, ◌≤◌, ◌<◌, ◌≡◌, map, length, take};
 ghost use Rattle.pregroup.specs.Held.{held, in_rows};
 ghost use Rattle.letters.specs.Letters.{letter_of, link_at, next_letter, letters as Letters·letters};

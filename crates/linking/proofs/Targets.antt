@@ -4,7 +4,7 @@
 -- `repeated_target`: a target repeated behind the others changes nothing.
 use Prim.Native.Nat.{ℕ, zero, suc, ◌<◌}
 use native.Mathlib.Omega.{arith}
-use mathlib.Core.Path.{◌≡◌, refl, sym, ap, ◌∙◌}
+use mathlib.Core.Path.{◌≡◌, refl, sym, ap, subst, ◌∙◌}
 use mathlib.Core.Logic.{◌↔◌}
 use mathlib.Core.Option.{Option, none, some, map}
 use mathlib.Core.List.{List, [], ◌∷◌, ◌++◌}
@@ -69,10 +69,13 @@ pub record IsFirstFor (Le : Relation) (s : Basic) (words : Words) (ns P : List �
   pub least : (ns' P' : List ℕ) (X : PregroupType) → Choice words ns' X → IsLinking Le s X P' → AtMost (ns ++ P) (ns' ++ P')
 
 -- Lists that begin alike are compared by what follows.
-behind_first : {t : ℕ} {A B : List ℕ} → AtMost (t ∷ A) (t ∷ B) → AtMost A B
-behind_first equal = equal
-behind_first (first l) = absurd (omega arith)
-behind_first (later m) = m
+behind_first : {X Y A B : List ℕ} → AtMost X Y → (t : ℕ) → X ≡ t ∷ A → Y ≡ t ∷ B → AtMost A B
+behind_first {A = A} {B = B} equal t e f = let same : A ≡ B = cc in subst (λ (L : List ℕ). AtMost A L) same equal
+behind_first (first {a} {b} l) t e f = let same : a ≡ b = cc in absurd (omega arith)
+behind_first {A = A} {B = B} (later {A = C} {B = D} m) t e f =
+    let left : C ≡ A = cc in
+    let right : D ≡ B = cc in
+    rw (← left, ← right) m
 
 module _ {Le : Relation} {s : Basic} {words : Words} where
   reading_for : {ns P : List ℕ} {X : PregroupType} → Choice words ns X → IsLinking Le s X P → IsReading Le (s ∷ []) words 0 ns P
@@ -88,7 +91,7 @@ module _ {Le : Relation} {s : Basic} {words : Words} where
           type = i.reading.type;
           chosen = i.reading.chosen;
           linking = i.reading.linking;
-          least = λ ns' P' X c l. behind_first (i.least 0 ns' P' (reading_for c l));
+          least = λ ns' P' X c l. behind_first (i.least 0 ns' P' (reading_for c l)) 0 refl refl;
         },
       )
       at (suc t) i = absurd (omega (arith, i.reading.target_there))

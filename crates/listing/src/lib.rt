@@ -1,4 +1,6 @@
 // The listing of an answer or of a refusal, as text in a lent buffer: for any book, line and values. What it is, is defined in specs/Listing.
+#![tactic(auto)]
+
 mod parts;
 mod strings;
 

@@ -1,4 +1,6 @@
 // A book, opened: its records are scanned, and what reading lines takes of it is kept. Lines are then read against the open book, as many as are wanted.
+#![tactic(auto)]
+
 ghost use Rattle.opening.specs.Open.{OpeningSays};
 
 use book::Scan;

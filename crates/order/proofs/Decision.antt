@@ -56,6 +56,7 @@ module _ (types : ℕ) where
 
   -- Each pair of declared types.
   below_listed : (pairs : List Pair) (p q : ℕ) → p < types → q < types → Listed pairs p q → Below pairs p q
+  below_listed [] p q hp hq m = elim m [ ]
   below_listed (x ∷ pairs) p q hp hq (Memᴰ.head e) =
       let to : Below pairs p x.lower = rw (← e) (below_reflexive pairs p hp) in
       let from : Below pairs x.upper q = rw (← e) (below_reflexive pairs q hq) in

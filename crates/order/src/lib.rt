@@ -1,5 +1,7 @@
 // The order of a book: the reflexive and transitive closure of its pairs, computed once and held as 64 rows of 64 bits, with the number of
 // its pairs. Bit q of row p says p ≤ q.
+#![tactic(auto)]
+
 ghost use Rattle.std.specs.Prelude.{◌<◌, ◌≡◌};
 ghost use Rattle.bits.specs.Bits.{Members};
 ghost use Rattle.pregroup.specs.Held.{InRows};

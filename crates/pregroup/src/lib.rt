@@ -1,5 +1,7 @@
 // The pregroup calculus. Nearly all of this crate is specs/ and proofs/; its code are the tests how two simple types may contract and
 // whether one may be left over, over numbers as the layers above hold them: one for a simple type, a row of 64 bits for each basic type.
+#![tactic(auto)]
+
 ghost use Rattle.std.specs.Prelude.{◌≡◌, ◌↔◌, true};
 ghost use Rattle.pregroup.specs.Vanish.{Contracts, Remains};
 ghost use Rattle.pregroup.specs.Tests.{link_kind};

@@ -1,4 +1,6 @@
 // The rows of a listing, put into a lent buffer one behind another. specs/Rows says which fields a row has.
+#![tactic(auto)]
+
 mod text;
 
 ghost use Rattle.std.specs.Prelude.{◌<◌, ◌≡◌, [], map, pos, ◌-ℤ◌, length, get_or};

@@ -1,4 +1,6 @@
 // The first target that the chart of a line reaches: the first that has a reading.
+#![tactic(auto)]
+
 ghost use Rattle.reach.specs.Charted.{EndsThere, FirstEnd};
 
 use bits::rows::member;

@@ -1,6 +1,8 @@
 // Reads a line against a book: the book is opened, the line split and its words looked up, the entries found laid out as a
 // graph, its chart filled, the first choice found, and its first linking written. What reading any bytes comes to is defined in specs/Outcome, and
 // what is promised of it in specs/Demands.
+#![tactic(auto)]
+
 ghost use Rattle.std.specs.Prelude.{◌≡◌, length};
 ghost use Rattle.figures.specs.Limits.{chart_words};
 ghost use Rattle.lookup.specs.Threads.{Threaded};

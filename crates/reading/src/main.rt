@@ -1,4 +1,6 @@
 // Reads one order line from standard input against the book in the file `book.bin`, and lists its reading or says why there is none.
+#![tactic(auto)]
+
 mod input;
 
 use input::{LINE_ROOM, MAX_LINE};

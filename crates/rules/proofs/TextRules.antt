@@ -3,13 +3,13 @@
 use Prim.Native.Nat.{ℕ, ◌<◌}
 use mathlib.Core.Path.{◌≡◌, refl, sym, ap, ap₂, subst, ◌∙◌}
 use mathlib.Core.Logic.{◌↔◌, ⊎_elim}
-use mathlib.Core.Bool.{Bool, true, false, not, ◌&&◌, ◌||◌, and_assoc, and_comm, and_false, or_true, or-false, true≢false, false≢true}
+use mathlib.Core.Bool.{Bool, true, false, not, ◌&&◌, ◌||◌, and_assoc, and_comm, and-false, or-true, or-false, true≢false, false≢true}
 use mathlib.Core.Option.{Option, none, some}
 use mathlib.Core.List.Memᴰ
 use mathlib.Core.List.{List, [], ◌∷◌, ◌++◌, Memᴰ}
 use lib.Dec.{ltb, eqb}
 use lib.ListN.{length}
-use borrow.Author.Tests.{ltb-true, eqb-true, not_true, lt-ltb, eq-eqb}
+use borrow.Author.Tests.{ltb-true, eqb-true, not-true, lt-ltb, eq-eqb}
 use Rattle.figures.specs.Limits.{max_entry_simples}
 use Rattle.figures.specs.Refusals.{undeclared_type, exponent_outside, brackets_too_deep, not_aType, type_too_long}
 use Rattle.pregroup.specs.Types.{Simple, PregroupType, simple_left, simple_right, adjoint_by, left_adjoint, right_adjoint}
@@ -42,7 +42,7 @@ broken_fires (rule ∷ rules) n m =
     now k = rw (eq-eqb k k refl)
 
     later : fires rules n ≡ true → eqb n rule.0 && rule.1 || fires rules n ≡ true
-    later h = rw (h, or_true (eqb n rule.0 && rule.1))
+    later h = rw (h, or-true (eqb n rule.0 && rule.1))
 
 fires_broken : (rules : List (ℕ × Bool)) (n : ℕ) → fires rules n ≡ true → Memᴰ (n, true) rules
 unfolding fires
@@ -70,7 +70,7 @@ first_fails : (a b : Bool) → a ≡ false → a && b ≡ false
 first_fails a b e = rw e
 
 second_fails : (a b : Bool) → b ≡ false → a && b ≡ false
-second_fails a b e = rw (e, and_false a)
+second_fails a b e = rw (e, and-false a)
 
 module _ (names : List Bytes) where
   -- All basic types of a type are declared.
@@ -153,7 +153,7 @@ module _ (names : List Bytes) where
     unfolding every
     declared_test =
         let t = type_test (λ X. not (declared X)) refl in (
-          λ h. let r = t.0 h in (r.0, r.1, undeclared_name r.0 (not_true _ r.2)),
+          λ h. let r = t.0 h in (r.0, r.1, undeclared_name r.0 (not-true _ r.2)),
           λ r. t.1 (r.0, r.1, ap not (name_undeclared r.2.1 r.2.2)),
         )
 
@@ -167,7 +167,7 @@ module _ (names : List Bytes) where
       where
         go : (deep : Bool) → too_deep text ≡ deep → TooDeep text
         go true e = (deep_exactly text).0 e
-        go false e = absurd (true≢false (sym (text_exponents_listed names text e) ∙ not_true _ h))
+        go false e = absurd (true≢false (sym (text_exponents_listed names text e) ∙ not-true _ h))
 
 -- What the rules say of a slashed entry.
 pub text_ruled : (body : Bytes) (names : List Bytes) (entries targets : ℕ) → TextRuled names (type_part body) (λ n. Memᴰ (n, true) (body_rules slashed body names entries targets))

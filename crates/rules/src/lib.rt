@@ -1,5 +1,7 @@
 // The rules for one record: the number that it is refused with, that of the first rule it breaks, or 0. The functions go by the record's kind,
 // each over the record's body as a part of the book.
+#![tactic(auto)]
+
 ghost use Rattle.std.specs.Prelude.{◌≡◌, true, cond, List, ℕ, ◌+◌, ◌%◌, ◌≤◌, ◌<◌, length};
 ghost use Rattle.pregroup.specs.Types.{PregroupType};
 ghost use Rattle.format.specs.Records.{Bytes, every, bodies_at};

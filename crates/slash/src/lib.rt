@@ -1,5 +1,7 @@
 // Types written with slashes, read where they stand in a book. The parsers of types and units call each other: the unread text and the depth that is
 // left fall. What they read they write to a list of places: the simple types of a type, as they are held.
+#![tactic(auto)]
+
 ghost use Rattle.std.specs.Prelude.{suc, ◌≤◌, ◌<◌, length, drop};
 ghost use Rattle.figures.specs.Limits.{max_depth};
 ghost use Rattle.format.specs.Records.{bodies_at};

@@ -1,4 +1,6 @@
 // The entries of a word laid out: each type on nodes, each entry in a slot of the word's boundary, in lists that a caller lends.
+#![tactic(auto)]
+
 ghost use Rattle.std.specs.Prelude.{List, [], ◌∷◌};
 ghost use Rattle.format.specs.Records.{bodies_at};
 ghost use Rattle.linking.specs.Reading.{NumberedEntry};

@@ -1,5 +1,7 @@
 // Which stretches of one string vanish. The string is lent as the numbers that hold its simple types; for each j the table has, as a row of
 // bits, the places from which the stretch up to j vanishes. It grows with the string, by one simple type at a time.
+#![tactic(auto)]
+
 ghost use Rattle.std.specs.Prelude.{◌+◌, ◌<◌, ◌≡◌, ◌↔◌, true};
 ghost use Rattle.pregroup.specs.Held.{InRows};
 ghost use Rattle.bits.specs.Rows.{HasRow, RowSays};

@@ -1,5 +1,7 @@
 // The reader for callers in C and other languages: one function for each entry, with numbers in the place of its enum, and one for the
 // version. A slice is passed as a pointer and a length. What the numbers mean is defined in specs/Calls.
+#![tactic(auto)]
+
 ghost use Rattle.std.specs.Prelude.{◌≡◌, [], ◌∷◌};
 ghost use Rattle.book.specs.Check.{book_check, check_reply};
 ghost use Rattle.answer.specs.Answers.{Gives};

@@ -1,4 +1,6 @@
 // Words that are looked up are read, or only asked whether they have a reading.
+#![tactic(auto)]
+
 ghost use Rattle.std.specs.Prelude.{◌≡◌, length};
 ghost use Rattle.figures.specs.Limits.{chart_words};
 ghost use Rattle.line.specs.FoundWords.{AreFound};

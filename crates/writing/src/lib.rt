@@ -1,5 +1,7 @@
 // Bytes put into a lent buffer that may be too short. Each function takes the place where its piece is to stand and gives the place behind it;
 // bytes for which there is no room are left out, so that an empty buffer only counts.
+#![tactic(auto)]
+
 ghost use Rattle.std.specs.Prelude.{◌≡◌, [], ◌∷◌, ◌+◌, ◌%◌};
 ghost use Rattle.writing.specs.Decimal.{decimal};
 ghost use Rattle.writing.specs.Placed.{Countable, Placed};

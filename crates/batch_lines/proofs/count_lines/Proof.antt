@@ -2,7 +2,7 @@
 use borrow.Author.Rules.{rules}
 use native.Mathlib.Omega.{arith}
 use mathlib.Core.Path.{subst}
-use borrow.Author.Tests.{not_true, not-false}
+use borrow.Author.Tests.{not-true, not-false}
 use Rattle.batch_lines.specs.Counts.{ClosedSays}
 use Rattle.batch_lines.proofs.LinesLaws.{batch_long, batch_open, batch_many, batch_counted}
 use Rattle.batch_lines.proofs.count_lines.Statement.{statement}
@@ -17,7 +17,7 @@ is-closed-requires c κs = search rules
 returns-2 : tie.Need-returns-2
 returns-2 c =
     let batch = c.before.before.before.before.args.batch.now in
-    batch_open batch (omega arith) (subst (ClosedSays batch) (not_true c.before.is-closed.result c.if2.true) c.before.is-closed.ensures)
+    batch_open batch (omega arith) (subst (ClosedSays batch) (not-true c.before.is-closed.result c.if2.true) c.before.is-closed.ensures)
 
 count-breaks-requires : tie.Need-count-breaks-requires
 count-breaks-requires c κs = search rules

@@ -4,7 +4,7 @@ use Prim.Native.Nat.{◌-◌, ◌≤◌}
 use mathlib.Core.Path.{refl, sym, ◌∙◌}
 use mathlib.Core.Bool.{false≢true}
 use lib.ListN.{length}
-use borrow.Author.Tests.{not_true, not-false}
+use borrow.Author.Tests.{not-true, not-false}
 use Rattle.capitals.specs.Letters.{SameLetters}
 use Rattle.capitals.proofs.LetterLaws.{no_letters, one_letter, letters_more}
 use Rattle.capitals.proofs.same_letters.Statement.{statement}
@@ -32,7 +32,7 @@ returns : tie.Need-returns invariant-loop decreases-loop
 returns c =
     let here = c.before.same-letter.ensures in
     let i = c.before.before.before.before.before.loop.i in
-    (λ e. absurd (false≢true e), λ s. absurd (false≢true (sym (not_true _ c.if1.true) ∙ here.1 (s.alike i (omega arith) (omega arith)))))
+    (λ e. absurd (false≢true e), λ s. absurd (false≢true (sym (not-true _ c.if1.true) ∙ here.1 (s.alike i (omega arith) (omega arith)))))
 
 add-i : tie.Need-overflow-add-i invariant-loop decreases-loop
 add-i c = omega arith

@@ -1,6 +1,6 @@
 -- `pregroup::may_contract` meets its contract: the test, and then the numbers of the basic types.
 use borrow.Author.Rules.{rules}
-use borrow.Author.Tests.{not_true, not-false}
+use borrow.Author.Tests.{not-true, not-false}
 use mathlib.Core.Path.{sym, ◌∙◌}
 use mathlib.Core.Bool.{true≢false}
 use Rattle.pregroup.specs.Held.{held}
@@ -16,7 +16,7 @@ returns : tie.Need-returns
 returns c =
     let a = c.before.before.before.args in
     let asked = c.before.contracts.ensures in
-    sym ((kind_not (rows_decide a.rows.now) (held a.x) (held a.y)).1 (λ k. true≢false (sym (asked.1 k) ∙ not_true _ c.if1.true)))
+    sym ((kind_not (rows_decide a.rows.now) (held a.x) (held a.y)).1 (λ k. true≢false (sym (asked.1 k) ∙ not-true _ c.if1.true)))
 
 returns-2 : tie.Need-returns-2
 returns-2 c =

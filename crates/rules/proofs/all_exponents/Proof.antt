@@ -3,7 +3,7 @@ use native.Mathlib.Omega.{arith}
 use Prim.Native.Nat.{◌-◌, ◌%◌, ◌≤◌}
 use mathlib.Core.Path.{◌≡◌, refl, sym, ◌∙◌}
 use lib.ListN.{length, drop}
-use borrow.Author.Tests.{not_true, not-false}
+use borrow.Author.Tests.{not-true, not-false}
 use Rattle.rules.proofs.Simples.{simples_stop, simples_pass, simples_end}
 use Rattle.format.specs.Records.{every}
 use Rattle.rules.specs.Layouts.{simples_of}
@@ -35,7 +35,7 @@ returns c =
     let turn = c.before.before.before.before in
     let l = turn.loop in
     let part = turn.before.before.args.part.now in
-    sym (l.invariant.3 ∙ simples_stop (λ (x : Simple). x.exponent) exponent_listed part l.i (omega arith) (sym c.before.is-exponent.ensures ∙ not_true _ c.if1.true))
+    sym (l.invariant.3 ∙ simples_stop (λ (x : Simple). x.exponent) exponent_listed part l.i (omega arith) (sym c.before.is-exponent.ensures ∙ not-true _ c.if1.true))
 
 add-i : tie.Need-overflow-add-i invariant-loop decreases-loop
 add-i c = omega arith

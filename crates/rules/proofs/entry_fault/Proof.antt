@@ -7,7 +7,7 @@ use mathlib.Core.Bool.{Bool, true, cond, not}
 use mathlib.Core.List.{List}
 use lib.Dec.{leb}
 use lib.ListN.{length}
-use borrow.Author.Tests.{not_true, not-false, le-leb, lt-leb}
+use borrow.Author.Tests.{not-true, not-false, le-leb, lt-leb}
 use Rattle.figures.specs.Limits.{max_entries}
 use Rattle.figures.specs.Refusals.{exponent_outside, too_many_records}
 use Rattle.format.specs.Records.{Bytes, every}
@@ -28,7 +28,7 @@ entered c = c.before.before
 returns : tie.Need-returns
 returns c =
     let a = (entered c.before).args in
-    λ names targets h. sym (entry_faults a.body.now names a.entries targets (sym c.before.is-entry.ensures ∙ not_true _ c.if1.true) refl refl refl)
+    λ names targets h. sym (entry_faults a.body.now names a.entries targets (sym c.before.is-entry.ensures ∙ not-true _ c.if1.true) refl refl refl)
 
 -- A body that is an entry's.
 module _ (c : tie.Else1) where
@@ -53,7 +53,7 @@ declared c names h =
 returns-2 : tie.Need-returns-2
 returns-2 c =
     let k = c.before.before.before in
-    λ names targets h. sym (entry_faults (body k) names (entered k.before).args.entries targets (layout k) (declared c.before names h ∙ not_true _ c.if2.true) refl refl)
+    λ names targets h. sym (entry_faults (body k) names (entered k.before).args.entries targets (layout k) (declared c.before names h ∙ not-true _ c.if2.true) refl refl)
 
 all-exponents-requires : tie.Need-all-exponents-requires
 all-exponents-requires c κs = rw c.before.before.type_part_lem.ensures (entry_shape _ (layout c.before.before.before)).pairs
@@ -76,7 +76,7 @@ module _ (c : tie.After-all-exponents) where
   so_far names targets h fine full = sym (entry_faults (body here) names count targets (layout here) (declared c.before.before names h ∙ not-false _ c.before.if2.false) (listed ∙ fine) full)
 
 returns-3 : tie.Need-returns-3
-returns-3 c = λ names targets h. so_far c.before names targets h (not_true _ c.if3.true) refl
+returns-3 c = λ names targets h. so_far c.before names targets h (not-true _ c.if3.true) refl
 
 returns-4 : tie.Need-returns-4
 returns-4 c = λ names targets h. so_far c.before.before names targets h (not-false _ c.before.if3.false) (le-leb _ _ c.if4.true)

@@ -3,7 +3,7 @@ use borrow.Author.Rules.{rules}
 use mathlib.Core.Path.{◌≡◌, sym, refl, ◌∙◌}
 use mathlib.Core.Bool.{true, false}
 use mathlib.Core.List.{List}
-use borrow.Author.Tests.{not_true, not-false, lt-ltb, le-ltb, le-leb, lt-leb}
+use borrow.Author.Tests.{not-true, not-false, lt-ltb, le-ltb, le-leb, lt-leb}
 use lib.ListN.{length}
 use native.Mathlib.Omega.{arith}
 use Rattle.figures.specs.Limits.{max_types}
@@ -30,7 +30,7 @@ module _ (c : tie.After-is-name) where
 
 returns : tie.Need-returns
 returns c = λ entries targets.
-    sym (name_faults (entry c.before).args.body.now (names c.before) entries targets (sym c.before.is_name.ensures ∙ not_true _ c.if1.true) refl refl)
+    sym (name_faults (entry c.before).args.body.now (names c.before) entries targets (sym c.before.is_name.ensures ∙ not-true _ c.if1.true) refl refl)
 
 search-name-requires : tie.Need-search-name-requires
 search-name-requires c κs = (entry c.before).requires.whole

@@ -1,7 +1,7 @@
 -- `rules::slashed_fault` meets its contract: without a word in front the layout is wrong, and else the text decides.
 use borrow.Author.Rules.{rules}
 use mathlib.Core.Path.{sym, refl, ◌∙◌}
-use borrow.Author.Tests.{not_true, not-false}
+use borrow.Author.Tests.{not-true, not-false}
 use Rattle.format.specs.Records.{bodies_at}
 use Rattle.rules.proofs.Faults.{slashed_faults}
 use Rattle.rules.proofs.slashed_fault.Statement.{statement}
@@ -18,7 +18,7 @@ returns : tie.Need-returns
 returns c =
     let a = (entry c.before).args in
     let names = bodies_at a.book.now a.names.now a.types in
-    λ targets. sym (slashed_faults a.body.now names a.entries targets (sym c.before.is-worded.ensures ∙ not_true _ c.if1.true) refl refl refl refl refl refl)
+    λ targets. sym (slashed_faults a.body.now names a.entries targets (sym c.before.is-worded.ensures ∙ not-true _ c.if1.true) refl refl refl refl refl refl)
 
 type-part-requires : tie.Need-type-part-requires
 type-part-requires c κs = sym c.before.is-worded.ensures ∙ not-false _ c.if1.false

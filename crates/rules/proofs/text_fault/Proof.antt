@@ -5,7 +5,7 @@ use Prim.Native.Nat.{ℕ}
 use mathlib.Core.Path.{◌≡◌, sym, ap, ◌∙◌}
 use mathlib.Core.List.{List}
 use lib.ListN.{length}
-use borrow.Author.Tests.{not_true, not-false}
+use borrow.Author.Tests.{not-true, not-false}
 use Rattle.format.specs.Records.{Bytes, every, bodies_at}
 use Rattle.format.proofs.NameLaws.{bodies_length}
 use Rattle.notation.specs.Trees.{text_type}
@@ -68,7 +68,7 @@ returns-2 : tie.Need-returns-2
 returns-2 c =
     let d = c.before in
     λ body targets worded is.
-    text_undeclared (the-names d) (text d) body (entry (read d)).args.entries targets worded is (shown d) (declared d ∙ not_true _ c.if2.true)
+    text_undeclared (the-names d) (text d) body (entry (read d)).args.entries targets worded is (shown d) (declared d ∙ not-true _ c.if2.true)
 
 returns-3 : tie.Need-returns-3
 returns-3 c =

@@ -5,7 +5,7 @@ use Prim.Native.Nat.{ℕ}
 use mathlib.Core.Path.{◌≡◌, refl, sym, ◌∙◌}
 use mathlib.Core.Bool.{true}
 use lib.ListN.{get_or}
-use borrow.Author.Tests.{not_true, not-false}
+use borrow.Author.Tests.{not-true, not-false}
 use Rattle.format.specs.Records.{between}
 use Rattle.format.specs.Names.{NameEnds}
 use Rattle.slash.proofs.PlaceLaws.{room_some}
@@ -30,7 +30,7 @@ module _ (c : tie.After-is-letter) where
   entry = lent.before.before.before.before
 
 returns : tie.Need-returns
-returns c = says_nothing (name_other _ _ (entry c.before).pre.1 (sym c.before.is-letter.ensures ∙ not_true _ c.if1.true)) refl
+returns c = says_nothing (name_other _ _ (entry c.before).pre.1 (sym c.before.is-letter.ensures ∙ not-true _ c.if1.true)) refl
 
 add-name-end : tie.Need-overflow-add-name-end
 add-name-end c = search rules

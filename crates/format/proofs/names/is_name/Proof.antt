@@ -2,7 +2,7 @@
 use borrow.Author.Rules.{rules}
 use native.Mathlib.Omega.{arith}
 use mathlib.Core.Path.{sym, ◌∙◌}
-use borrow.Author.Tests.{not_true, not-false}
+use borrow.Author.Tests.{not-true, not-false}
 use Rattle.format.proofs.NameFronts.{name_whole}
 use Rattle.format.proofs.NameLaws.{name_length_no, name_first_no, name_rest}
 use Rattle.format.proofs.names.is_name.Statement.{statement}
@@ -21,7 +21,7 @@ is-letter-requires : tie.Need-is-letter-requires
 is-letter-requires c κs = search rules
 
 returns-3 : tie.Need-returns-3
-returns-3 c = name_first_no _ (sym c.before.is-letter.ensures ∙ not_true _ c.if3.true)
+returns-3 c = name_first_no _ (sym c.before.is-letter.ensures ∙ not-true _ c.if3.true)
 
 name-end-requires : tie.Need-name-end-requires
 name-end-requires c κs = omega arith

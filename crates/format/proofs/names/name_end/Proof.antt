@@ -4,7 +4,7 @@ use native.Mathlib.Omega.{arith}
 use mathlib.Core.Logic.{⊎_elim}
 use mathlib.Core.Path.{sym, ◌∙◌}
 use lib.ListN.{length}
-use borrow.Author.Tests.{not_true, not-false}
+use borrow.Author.Tests.{not-true, not-false}
 use Rattle.format.proofs.NameLaws.{name_below, name_letter, name_byte_no}
 use Rattle.format.proofs.NameFronts.{NamePassed, name_start, name_next, name_stop, name_end}
 use Rattle.format.proofs.names.name_end.Statement.{statement}
@@ -28,7 +28,7 @@ is-digit-requires c κs = omega arith
 returns : tie.Need-returns invariant-loop decreases-loop
 returns c =
     name_stop c.before.before.before.before.before.loop.invariant (omega arith)
-    (name_below _ (omega arith) ∙ sym c.before.is_digit.ensures ∙ not_true _ c.if2.true)
+    (name_below _ (omega arith) ∙ sym c.before.is_digit.ensures ∙ not-true _ c.if2.true)
 
 returns-2 : tie.Need-returns-2 invariant-loop decreases-loop
 returns-2 c = name_stop c.before.before.before.before.loop.invariant (omega arith) (sym (name_byte_no _ (omega arith) (omega arith)))

@@ -5,7 +5,7 @@ use mathlib.Core.Path.{◌≡◌, refl, sym, ap, ◌∙◌}
 use lib.ListN.{length, drop}
 use mathlib.Core.Bool.{Bool, cond}
 use mathlib.Core.Option.{none, some}
-use borrow.Author.Tests.{not_true, not-false, lt-ltb, le-ltb}
+use borrow.Author.Tests.{not-true, not-false, lt-ltb, le-ltb}
 use Rattle.line.specs.LineFaults.{byte_fault}
 use Rattle.line.proofs.WordLaws.{byte_fine, byte_bad, bytes_end}
 use Rattle.line.proofs.split.bad_byte.Statement.{statement}
@@ -35,7 +35,7 @@ returns c =
     let l = c.before.before.before.before.loop in
     let line = (begin c.before.before.before.before).args.line.now in (
       omega arith,
-      l.invariant.1 ∙ byte_bad line l.i (omega arith) (sym c.before.is-line-byte.ensures ∙ not_true _ c.if1.true)
+      l.invariant.1 ∙ byte_bad line l.i (omega arith) (sym c.before.is-line-byte.ensures ∙ not-true _ c.if1.true)
           ∙ sym (ap (λ (t : Bool). cond t (some l.i) none) (lt-ltb l.i (length line) (omega arith))),
     )
 

@@ -3,7 +3,7 @@ use native.Mathlib.Omega.{arith}
 use Prim.Native.Nat.{◌≤◌, ◌-◌}
 use mathlib.Core.Path.{◌≡◌, refl, sym, ◌∙◌}
 use lib.ListN.{length, drop}
-use borrow.Author.Tests.{not_true, not-false}
+use borrow.Author.Tests.{not-true, not-false}
 use Rattle.format.specs.Records.{every, between}
 use Rattle.format.proofs.Every.{every_stop, every_pass, every_end}
 use Rattle.rules.proofs.layout.all_word_bytes.Statement.{statement}
@@ -29,7 +29,7 @@ returns c =
     let turn = c.before.before.before.before in
     let l = turn.loop in
     let bytes = turn.before.before.args.bytes.now in
-    sym (l.invariant.1 ∙ every_stop (between 33 126) 0 bytes l.i (omega arith) (sym c.before.is-word-byte.ensures ∙ not_true _ c.if1.true))
+    sym (l.invariant.1 ∙ every_stop (between 33 126) 0 bytes l.i (omega arith) (sym c.before.is-word-byte.ensures ∙ not-true _ c.if1.true))
 
 add-i : tie.Need-overflow-add-i invariant-loop decreases-loop
 add-i c = omega arith

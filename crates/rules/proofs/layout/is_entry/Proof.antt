@@ -5,7 +5,7 @@ use Prim.Native.Nat.{ℕ, ◌*◌}
 use mathlib.Core.Path.{◌≡◌, sym, ap, ◌∙◌}
 use lib.Dec.{leb}
 use lib.ListN.{length}
-use borrow.Author.Tests.{not_true, not-false}
+use borrow.Author.Tests.{not-true, not-false}
 use Rattle.figures.specs.Limits.{max_entry_simples}
 use Rattle.format.specs.Records.{Bytes}
 use Rattle.rules.specs.Layouts.{type_part}
@@ -17,7 +17,7 @@ is-worded-requires : tie.Need-is-worded-requires
 is-worded-requires c κs = search rules
 
 returns : tie.Need-returns
-returns c = entry_unworded _ (sym c.before.is-worded.ensures ∙ not_true _ c.if1.true)
+returns c = entry_unworded _ (sym c.before.is-worded.ensures ∙ not-true _ c.if1.true)
 
 type-part-requires : tie.Need-type-part-requires
 type-part-requires c κs = sym c.before.is-worded.ensures ∙ not-false _ c.if1.false
