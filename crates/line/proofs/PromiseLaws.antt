@@ -29,6 +29,8 @@ each_found B [] = no-word-found
 each_found B (w ∷ words) = each (finds_all B.entries w.bytes) (each_found B words)
 
 only_found : (B : Book) (words : List Word) (other : Words) → FindsEach B words other → other ≡ map (entries_of B) words
+only_found B [] (es ∷ found) x'' = elim x'' [ ]
+only_found B (w ∷ words) [] x3 = elim x3 [ ]
 only_found B [] [] no-word-found = refl
 only_found B (w ∷ words) (es ∷ found) (each f rest) = ap₂ (λ (es : List NumberedEntry) (ws : Words). es ∷ ws) (finds_one B.entries w.bytes es f) (only_found B words found rest)
 
@@ -50,6 +52,7 @@ fault_here w words (e ∷ es) found value fault rest (behind f) = rw (ne_eqb (le
 
 first_unknown : (B : Book) (words : List Word) (value : ℕ) → FirstUnknown words (map (entries_of B) words) value → entry_fault B words ≡ some value
 unfolding entry_fault
+first_unknown B [] value f = elim f [ ]
 first_unknown B (w ∷ words) value f = fault_here w words (entries_of B w) (map (entries_of B) words) value (entry_fault B words) (first_unknown B words value) f
 
 -- .. and where all are known there is none.
@@ -60,6 +63,7 @@ known_none B (w ∷ words) h = go (entries_of B w) (known_none B words) h
   where
     go : (es : List NumberedEntry) → (AllKnown (map (entries_of B) words) → entry_fault B words ≡ none) → AllKnown (es ∷ map (entries_of B) words)
         → cond (eqb (length es) 0) (some w.at) (entry_fault B words) ≡ none
+    go [] rest x3 = elim x3 [ ]
     go (e ∷ es) rest (known k) = rw (ne_eqb (length (e ∷ es)) 0 (omega arith)) (rest k)
 
 -- A line that is stopped is stopped by a test or by what comes next.

@@ -77,6 +77,7 @@ own_from n (e ∷ entries) word f m = go (same_word e.word word) refl (λ l. is_
 all_from : (base m : ℕ) (entries : List Entry) (word : Bytes) {e : Entry} → Stands e m entries → same_word e.word word ≡ true
     → Memᴰ (record { number = base + m; type = e.type }) (entries_from base entries word)
 unfolding entries_from
+all_from base m [] word x s = elim x [ ]
 all_from base m (e ∷ entries) word first s = let none : base + 0 ≡ base = omega arith in rw (s, none) (Memᴰ.head refl)
 all_from base m (d ∷ entries) word {e} (later {n} t) s = go (same_word d.word word) (rw moved at (all_from (base + 1) n entries word t s))
   where
