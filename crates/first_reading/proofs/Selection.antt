@@ -20,7 +20,7 @@ use Rattle.linking.specs.Reading.{NumberedEntry, Words, Selection, first_entry, 
 use Rattle.linking.proofs.Reduction.{linking_iff_reduces}
 use Rattle.linking.proofs.FirstLinking.{first_linking_none}
 use Rattle.line.specs.Passing.{AllKnown, known}
-use Rattle.graph.specs.Graph.{Graph, from_at, to_at, entered_at, number_at, EntersBy, by, here, take as take-node, enter, Boundary, Spells}
+use Rattle.graph.specs.Graph.{Graph, next_at, from_at, to_at, entered_at, number_at, EntersBy, by, here, take as take-node, enter, Boundary, Spells}
 use Rattle.graph.proofs.TargetLaws.{target_adjoint}
 use Rattle.choice.specs.Completion.{Finishes, finishes, SlotChoice, done, choose, Completes, completes, Scanned, ends, takes}
 use Rattle.choice.proofs.Completion.{finishes_iff_behind}
@@ -116,10 +116,10 @@ slots_some {g} {b} {s} {to} e es slots = go (has_none e.type) slots
 
 module _ {le : Test} {Le : Relation} (decides : Decides le Le) (g : Graph) (t : Basic) (end : ℕ) (last : Boundary g end) (closed : (s w : ℕ) → EntersBy g end s w → ⊥) where
   -- From the end nothing more is spelt.
-  vanish_of_end : {P : PregroupType} → Finishes Le g P end end → Vanish Le P
-  vanish_of_end (finishes here v) = rw append-nil at v
-  vanish_of_end (finishes (take-node l p) v) = absurd (omega (arith, l.simple))
-  vanish_of_end (finishes (enter (by s e) p) v) = absurd (closed s _ e)
+  vanish_of_end : {P : PregroupType} {u : ℕ} → u ≡ end → Finishes Le g P u end → Vanish Le P
+  vanish_of_end q (finishes here v) = rw append-nil at v
+  vanish_of_end q (finishes (take-node l p) v) = absurd (omega (arith, l.simple, ap (next_at g.nodes) q))
+  vanish_of_end q (finishes (enter (by s e) p) v) = absurd (closed s _ (rw q at e))
 
   -- From any other boundary a slot is taken.
   pub record Taken (P : PregroupType) (u : ℕ) : Type 0 where
@@ -148,7 +148,7 @@ module _ {le : Test} {Le : Relation} (decides : Decides le Le) (g : Graph) (t : 
       by_slot_of : {r w : ℕ} → EntersBy g u r w → Finishes Le g P w end → Vanish Le (P ++ (t ⁽ pos 1 ⁾ ∷ []))
       by_slot_of {r} {w} k (finishes {X} p x) =
           let there : w ≡ v = k.entered ∙ ap (λ (n : ℕ). entered_at g.slots n) (only r w X k p) ∙ sym e.entered in
-          vanish_of_end ((finishes_iff_behind last entry).0 (subst (λ (n : ℕ). Finishes Le g P n end) there (finishes p x)))
+          vanish_of_end refl ((finishes_iff_behind last entry).0 (subst (λ (n : ℕ). Finishes Le g P n end) there (finishes p x)))
 
   -- The definition's answer for no more words.
   none_iff_unlinked : (P : PregroupType) → (first_behind le t [] P ≡ none) ↔ (Vanish Le (P ++ (t ⁽ pos 1 ⁾ ∷ [])) → ⊥)
