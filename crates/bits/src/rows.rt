@@ -8,7 +8,7 @@ ghost use Rattle.bits.specs.Gathered.{Gathered, RowPart};
 use figures::limits::{ROW_BITS, ROW_WORDS};
 
 // One row.
-#[derive(Drop)]
+#[derive(Clone, Copy)]
 pub struct Row {
     pub words: [u64; ROW_WORDS],
 }

@@ -19,7 +19,7 @@ pub struct RecordReader<'a> {
 }
 
 // How far a book has been read: the offset of the next record, and how many basic types, entries and targets there were.
-#[derive(Drop)]
+#[derive(Clone, Copy)]
 pub struct Progress {
     pub at: usize,
     pub types: usize,

@@ -14,7 +14,7 @@ use bytewise::widths::wide_number;
 use graph::{simple_node, slot_of};
 
 // How far the lists are filled: the next node, the next slot, and whether the word at hand has a slot with an empty type.
-#[derive(Drop)]
+#[derive(Clone, Copy)]
 pub struct Place {
     pub node: usize,
     pub slot: usize,
