@@ -1,0 +1,9 @@
+-- `take_line` is safe and ends: fewer bytes are left at each turn. Assumes nothing.
+use Rattle.std.proofs.Common.{◌≤◌}
+use Rattle.cases.proofs.script.take_line.Given as goal
+
+abbrev pub invariant-loop-left : goal.invariant-loop-left
+invariant-loop-left l = l.left ≤ 65536
+
+abbrev pub decreases-loop-left : goal.decreases-loop-left
+decreases-loop-left l = l.left
