@@ -3,6 +3,7 @@
 
 pub mod books;
 pub mod buffer;
+pub mod console;
 pub mod items;
 pub mod script;
 pub mod text;

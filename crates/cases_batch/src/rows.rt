@@ -12,6 +12,8 @@ use cases::buffer::{ROOM, Space};
 use cases::items::put_items;
 use cases::script::{byte_at, take_line};
 use cases::text::{find, number};
+use cases::console::{write, write_number};
+use std::io;
 
 // How many values there are: more than the answers of any batch take.
 const VALUES: usize = 10240;
@@ -63,71 +65,74 @@ fn sum(values: &Values, count: usize) -> usize {
 }
 
 // Writes a word and a number.
-fn counted(word: &[u8], count: usize) {
-    io::write_all(1, word);
-    io::print_decimal(1, count as u64);
+fn counted(rt: &HostRuntime, word: &[u8], count: usize) -> io::Result<()> {
+    write(rt, word)?;
+    write_number(rt, count as u64)
 }
 
 // Writes the values from one place to another.
-fn list(values: &Values, from: usize, to: usize) {
+fn list(rt: &HostRuntime, values: &Values, from: usize, to: usize) -> io::Result<()> {
     let mut i = from;
     while i < to {
         if i >= VALUES {
-            return;
+            return Ok(());
         }
-        counted(b" ", wide(values[i]));
+        counted(rt, b" ", wide(values[i]))?;
         i += 1;
     }
+    Ok(())
 }
 
 // Writes the values up to the last one that is not the mark, or that there is none. Of many it writes the first and the last, their number and their sum.
-fn show(values: &Values) {
+fn show(rt: &HostRuntime, values: &Values) -> io::Result<()> {
     let count = changed(values);
     if count == 0 {
-        io::write_all(1, b" kept");
-        return;
+        write(rt, b" kept")?;
+        return Ok(());
     }
-    io::write_all(1, b":");
+    write(rt, b":")?;
     if count <= WHOLE {
-        list(values, 0, count);
-        return;
+        list(rt, values, 0, count)?;
+        return Ok(());
     }
-    list(values, 0, FIRST);
-    io::write_all(1, b" ..");
-    list(values, count - LAST, count);
-    counted(b", values ", count);
-    counted(b", sum ", sum(values, count));
+    list(rt, values, 0, FIRST)?;
+    write(rt, b" ..")?;
+    list(rt, values, count - LAST, count)?;
+    counted(rt, b", values ", count)?;
+    counted(rt, b", sum ", sum(values, count))
 }
 
 // Writes what came back.
-fn outcome(res: BatchAnswer) {
+fn outcome(rt: &HostRuntime, res: BatchAnswer) -> io::Result<()> {
     match res {
-        BatchAnswer::Answered { lines } => counted(b" lines ", lines),
+        BatchAnswer::Answered { lines } => counted(rt, b" lines ", lines),
         BatchAnswer::Refused {
             number: cause,
             value,
         } => {
-            counted(b" no ", cause as usize);
-            counted(b" ", value);
+            counted(rt, b" no ", cause as usize)?;
+            counted(rt, b" ", value)
         }
     }
 }
 
 // Writes the row of a batch, with so many values lent.
-fn row(label: &[u8], book: &[u8], lines: &[u8], lent: usize) {
+fn row(rt: &HostRuntime, label: &[u8], book: &[u8], lines: &[u8], lent: usize) -> io::Result<()> {
     if lent <= VALUES {
         let mut values = [MARK; VALUES];
         let result = batch::read_batch(book, lines, &mut values[..lent]);
-        io::write_all(1, label);
-        counted(b" lent ", lent);
-        outcome(result);
-        show(&values);
-        io::write_all(1, b"\n");
+        write(rt, label)?;
+        counted(rt, b" lent ", lent)?;
+        outcome(rt, result)?;
+        show(rt, &values)?;
+        write(rt, b"\n")?;
     }
+    Ok(())
 }
 
 // Writes the rows of the book and the batch that the first bytes of two slices are, for each number of values lent from the first to the last.
 fn lending(
+    rt: &HostRuntime,
     label: &[u8],
     book: &[u8],
     length: usize,
@@ -135,21 +140,22 @@ fn lending(
     end: usize,
     first: usize,
     last: usize,
-) {
+) -> io::Result<()> {
     if book.len() < length {
-        return;
+        return Ok(());
     }
     if lines.len() < end {
-        return;
+        return Ok(());
     }
     let mut lent = first;
     while lent <= last {
-        row(label, &book[0..length], &lines[0..end], lent);
+        row(rt, label, &book[0..length], &lines[0..end], lent)?;
         if lent == last {
-            return;
+            return Ok(());
         }
         lent += 1;
     }
+    Ok(())
 }
 
 // The number behind a dash; the number that the text starts with, where it has no dash.
@@ -163,71 +169,75 @@ fn last_number(text: &[u8]) -> usize {
 }
 
 // Writes the rows of a batch, of which the name and what stands behind its colon are given.
-fn rows_of_batch(label: &[u8], book: &[u8], length: usize, lines: &mut Space, rest: &[u8]) {
+fn rows_of_batch(rt: &HostRuntime, label: &[u8], book: &[u8], length: usize, lines: &mut Space, rest: &[u8]) -> io::Result<()> {
     let colon = find(rest, b':');
     if colon >= rest.len() {
-        return;
+        return Ok(());
     }
     let items = colon + 1;
     let end = put_items(lines, 0, &rest[items..]);
     let last = last_number(&rest[0..colon]);
-    lending(label, book, length, lines, end, number(rest), last);
+    lending(rt, label, book, length, lines, end, number(rest), last)
 }
 
 // Writes the rows of a case.
-fn rows_of_case(book: &[u8], length: usize, lines: &mut Space, case: &[u8]) {
+fn rows_of_case(rt: &HostRuntime, book: &[u8], length: usize, lines: &mut Space, case: &[u8]) -> io::Result<()> {
     let colon = find(case, b':');
     if colon < case.len() {
-        rows_of_batch(&case[0..colon], book, length, lines, &case[colon + 1..]);
+        rows_of_batch(rt, &case[0..colon], book, length, lines, &case[colon + 1..])?;
     }
+    Ok(())
 }
 
 // Takes a line of a script, which the first bytes of a slice are: a comment, a book, or a case. Gives the length of the book.
 fn take_part(
+    rt: &HostRuntime,
     book: &mut Space,
     length: usize,
     lines: &mut Space,
     bytes: &[u8],
     end: usize,
-) -> usize {
+) -> io::Result<usize> {
     if end == 0 || bytes.len() < end {
-        return length;
+        return Ok(length);
     }
     let part = &bytes[0..end];
     match part[0] {
-        b'#' => length,
-        b'=' => put_book(book, &part[1..]),
+        b'#' => Ok(length),
+        b'=' => Ok(put_book(book, &part[1..])),
         _ => {
-            rows_of_case(book, length, lines, part);
-            length
+            rows_of_case(rt, book, length, lines, part)?;
+            Ok(length)
         }
     }
 }
 
 // The same for a buffer.
 fn take_from(
+    rt: &HostRuntime,
     book: &mut Space,
     length: usize,
     lines: &mut Space,
     part: &Space,
     end: usize,
-) -> usize {
-    take_part(book, length, lines, part, end)
+) -> io::Result<usize> {
+    take_part(rt, book, length, lines, part, end)
 }
 
 // Writes the rows of a script's cases. It has no more lines than bytes.
-pub fn rows(script: &Space, book: &mut Space, lines: &mut Space) {
+pub fn rows(rt: &HostRuntime, script: &Space, book: &mut Space, lines: &mut Space) -> io::Result<()> {
     let mut part = [0u8; ROOM];
     let mut length = 0;
     let mut at = 0;
     let mut left = ROOM;
     while 0 < left {
         if byte_at(script, at) == 0 {
-            return;
+            return Ok(());
         }
         let taken = take_line(script, at, &mut part);
-        length = take_from(book, length, lines, &part, taken.length);
+        length = take_from(rt, book, length, lines, &part, taken.length)?;
         at = taken.next;
         left -= 1;
     }
+    Ok(())
 }

@@ -5,11 +5,12 @@
 mod rows;
 
 use cases::buffer::ROOM;
-use libc::STDIN_FILENO;
+use cases::console::take_input;
+use std::io;
 
-fn main() {
+fn main(rt: HostRuntime) -> io::Result<()> {
     let mut script = [0u8; ROOM];
-    io::read_full(STDIN_FILENO, &mut script);
+    take_input(&rt, &mut script)?;
     let mut book = [0u8; ROOM];
-    rows::rows(&script, &mut book);
+    rows::rows(&rt, &script, &mut book)
 }

@@ -18,6 +18,8 @@ use cases::buffer::{ROOM, Space};
 use cases::script::{byte_at, take_line};
 use cases::text::{find, number};
 use in_the_way::WayAnswer;
+use cases::console::{write, write_number};
+use std::io;
 
 // How many values there are to lend.
 const VALUES: usize = 512;
@@ -28,7 +30,7 @@ const MARK: u16 = 9999;
 // How many values the row of a buffer shows.
 const SHOWN: usize = 10;
 
-#[derive(Drop)]
+#[derive(Clone, Copy)]
 enum Show {
     Answer,
     Whether,
@@ -38,7 +40,7 @@ enum Show {
 }
 
 // What the lines of a script before a case say: the length of the book, how many values are lent, and what rows show.
-#[derive(Drop)]
+#[derive(Clone, Copy)]
 struct Setting {
     length: usize,
     lent: usize,
@@ -46,82 +48,83 @@ struct Setting {
 }
 
 // Writes a space and a number.
-fn write_number(value: u64) {
-    io::write_all(1, b" ");
-    io::print_decimal(1, value);
+fn spaced(rt: &HostRuntime, value: u64) -> io::Result<()> {
+    write(rt, b" ")?;
+    write_number(rt, value)
 }
 
 // Writes a space and a 16-bit number.
-fn short(value: u16) {
-    write_number(value as u64);
+fn short(rt: &HostRuntime, value: u16) -> io::Result<()> {
+    spaced(rt, value as u64)
 }
 
 // Writes the first values of a list.
-fn values(list: &[u16], count: usize) {
+fn values(rt: &HostRuntime, list: &[u16], count: usize) -> io::Result<()> {
     let mut i = 0;
     while i < count {
         if i >= list.len() {
-            return;
+            return Ok(());
         }
-        short(list[i]);
+        short(rt, list[i])?;
         i += 1;
     }
+    Ok(())
 }
 
 // Writes the values of an answer, or no, a number and a value, and behind 15 the number of the words in the way.
-fn answer(res: WayAnswer, list: &[u16]) {
+fn answer(rt: &HostRuntime, res: WayAnswer, list: &[u16]) -> io::Result<()> {
     match res {
-        WayAnswer::Ordinary(ordinary) => ordinary_answer(ordinary, list),
+        WayAnswer::Ordinary(ordinary) => ordinary_answer(rt, ordinary, list),
         WayAnswer::NoReading { words } => {
-            io::write_all(1, b" no 15 0 words");
-            write_number(words as u64);
+            write(rt, b" no 15 0 words")?;
+            spaced(rt, words as u64)
         }
     }
 }
 
 // The same for an answer without that number.
-fn ordinary_answer(res: LineAnswer, list: &[u16]) {
+fn ordinary_answer(rt: &HostRuntime, res: LineAnswer, list: &[u16]) -> io::Result<()> {
     match res {
-        LineAnswer::Read { values: count } => values(list, count),
+        LineAnswer::Read { values: count } => values(rt, list, count),
         LineAnswer::Refused {
             number: cause,
             value,
         } => {
-            io::write_all(1, b" no");
-            write_number(cause as u64);
-            write_number(value as u64);
+            write(rt, b" no")?;
+            spaced(rt, cause as u64)?;
+            spaced(rt, value as u64)
         }
     }
 }
 
 // Writes yes or no.
-fn whether(res: WayAnswer) {
+fn whether(rt: &HostRuntime, res: WayAnswer) -> io::Result<()> {
     match res {
         WayAnswer::Ordinary(ordinary) => match ordinary {
             LineAnswer::Read { .. } => {
-                io::write_all(1, b" yes");
+                write(rt, b" yes")
             }
             LineAnswer::Refused { .. } => {
-                io::write_all(1, b" no");
+                write(rt, b" no")
             }
         },
         WayAnswer::NoReading { .. } => {
-            io::write_all(1, b" no");
+            write(rt, b" no")
         }
     }
 }
 
 // Writes what a row says of a result and the buffer behind it.
-fn shown(res: WayAnswer, list: &[u16], lent: usize, show: Show) {
+fn shown(rt: &HostRuntime, res: WayAnswer, list: &[u16], lent: usize, show: Show) -> io::Result<()> {
     match show {
-        Show::Answer => answer(res, list),
-        Show::Whether => whether(res),
+        Show::Answer => answer(rt, res, list),
+        Show::Whether => whether(rt, res),
         _ => {
-            io::write_all(1, b" lent");
-            write_number(lent as u64);
-            answer(res, list);
-            io::write_all(1, b" buffer");
-            values(list, SHOWN);
+            write(rt, b" lent")?;
+            spaced(rt, lent as u64)?;
+            answer(rt, res, list)?;
+            write(rt, b" buffer")?;
+            values(rt, list, SHOWN)
         }
     }
 }
@@ -135,44 +138,47 @@ fn read(book: &[u8], line: &[u8], answer: &mut [u16], show: Show) -> WayAnswer {
 }
 
 // Writes the row of a line, with so many values lent.
-fn row(book: &[u8], label: &[u8], line: &[u8], lent: usize, show: Show) {
+fn row(rt: &HostRuntime, book: &[u8], label: &[u8], line: &[u8], lent: usize, show: Show) -> io::Result<()> {
     if lent <= VALUES {
         let mut buffer = [MARK; VALUES];
-        io::write_all(1, label);
+        write(rt, label)?;
         let result = read(book, line, &mut buffer[..lent], show);
-        shown(result, &buffer, lent, show);
-        io::write_all(1, b"\n");
+        shown(rt, result, &buffer, lent, show)?;
+        write(rt, b"\n")?;
     }
+    Ok(())
 }
 
 // Writes the rows of a line for each number of values lent, from 0 to the last.
-fn lending(book: &[u8], label: &[u8], line: &[u8], last: usize) {
+fn lending(rt: &HostRuntime, book: &[u8], label: &[u8], line: &[u8], last: usize) -> io::Result<()> {
     let mut lent = 0;
     while lent < last {
-        row(book, label, line, lent, Show::Buffer);
+        row(rt, book, label, line, lent, Show::Buffer)?;
         lent += 1;
     }
-    row(book, label, line, last, Show::Buffer);
+    row(rt, book, label, line, last, Show::Buffer)
 }
 
 // Writes the rows of a case.
-fn rows_of_case(book: &[u8], case: &[u8], lent: usize, show: Show) {
+fn rows_of_case(rt: &HostRuntime, book: &[u8], case: &[u8], lent: usize, show: Show) -> io::Result<()> {
     let colon = find(case, b':');
     if colon < case.len() {
         let label = &case[0..colon];
         let line = &case[colon + 1..];
-        match show {
-            Show::Lending => lending(book, label, line, lent),
-            _ => row(book, label, line, lent, show),
-        }
+        return match show {
+            Show::Lending => lending(rt, book, label, line, lent),
+            _ => row(rt, book, label, line, lent, show),
+        };
     }
+    Ok(())
 }
 
 // Writes the rows of a case against the book that the first bytes of a slice are.
-fn rows_against(bytes: &[u8], length: usize, case: &[u8], lent: usize, show: Show) {
+fn rows_against(rt: &HostRuntime, bytes: &[u8], length: usize, case: &[u8], lent: usize, show: Show) -> io::Result<()> {
     if length <= bytes.len() {
-        rows_of_case(&bytes[0..length], case, lent, show);
+        rows_of_case(rt, &bytes[0..length], case, lent, show)?;
     }
+    Ok(())
 }
 
 // What rows show, by the first letter of its name.
@@ -199,40 +205,40 @@ fn lent_of(text: &[u8]) -> usize {
 }
 
 // Takes a line of a script, which the first bytes of a slice are: a comment, a book, what is shown, or a case.
-fn take_part(book: &mut Space, setting: Setting, bytes: &[u8], end: usize) -> Setting {
+fn take_part(rt: &HostRuntime, book: &mut Space, setting: Setting, bytes: &[u8], end: usize) -> io::Result<Setting> {
     let length = setting.length;
     let lent = setting.lent;
     let show = setting.show;
     if end == 0 || bytes.len() < end {
-        return setting;
+        return Ok(setting);
     }
     let part = &bytes[0..end];
     match part[0] {
-        b'#' => setting,
-        b'=' => Setting {
+        b'#' => Ok(setting),
+        b'=' => Ok(Setting {
             length: put_book(book, &part[1..]),
             lent,
             show,
-        },
-        b'>' => Setting {
+        }),
+        b'>' => Ok(Setting {
             length,
             lent: lent_of(part),
             show: show_of(part),
-        },
+        }),
         _ => {
-            rows_against(book, length, part, lent, show);
-            setting
+            rows_against(rt, book, length, part, lent, show)?;
+            Ok(setting)
         }
     }
 }
 
 // The same for a buffer.
-fn take_from(book: &mut Space, setting: Setting, part: &Space, end: usize) -> Setting {
-    take_part(book, setting, part, end)
+fn take_from(rt: &HostRuntime, book: &mut Space, setting: Setting, part: &Space, end: usize) -> io::Result<Setting> {
+    take_part(rt, book, setting, part, end)
 }
 
 // Writes the rows of a script's cases. It has no more lines than bytes.
-pub fn rows(script: &Space, book: &mut Space) {
+pub fn rows(rt: &HostRuntime, script: &Space, book: &mut Space) -> io::Result<()> {
     let mut part = [0u8; ROOM];
     let mut setting = Setting {
         length: 0,
@@ -243,11 +249,12 @@ pub fn rows(script: &Space, book: &mut Space) {
     let mut left = ROOM;
     while 0 < left {
         if byte_at(script, at) == 0 {
-            return;
+            return Ok(());
         }
         let taken = take_line(script, at, &mut part);
-        setting = take_from(book, setting, &part, taken.length);
+        setting = take_from(rt, book, setting, &part, taken.length)?;
         at = taken.next;
         left -= 1;
     }
+    Ok(())
 }

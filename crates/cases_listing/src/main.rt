@@ -7,12 +7,13 @@ mod rooms;
 mod rows;
 
 use cases::buffer::ROOM;
-use libc::STDIN_FILENO;
+use cases::console::take_input;
+use std::io;
 
-fn main() {
-    refusals::rows();
+fn main(rt: HostRuntime) -> io::Result<()> {
+    refusals::rows(&rt)?;
     let mut script = [0u8; ROOM];
-    io::read_full(STDIN_FILENO, &mut script);
+    take_input(&rt, &mut script)?;
     let mut book = [0u8; ROOM];
-    rows::rows(&script, &mut book);
+    rows::rows(&rt, &script, &mut book)
 }

@@ -1,6 +1,8 @@
 // One listing in buffers of every length, with a row for each: a label and the length, what rendering gave, and the bytes of the buffer and
 // of what stands behind it.
 use crate::rows::{VALUES, counted, outcome};
+use cases::console::write;
+use std::io;
 
 // The longest buffer that is lent.
 const LAST: usize = 28;
@@ -25,32 +27,34 @@ fn show_ends(text: &mut [u8; SHOWN]) {
 }
 
 // Writes the bytes that end a row.
-fn show(text: &[u8; SHOWN]) {
-    io::write_all(1, b" ");
-    io::write_all(1, text);
-    io::write_all(1, b"\n");
+fn show(rt: &HostRuntime, text: &[u8; SHOWN]) -> io::Result<()> {
+    write(rt, b" ")?;
+    write(rt, text)?;
+    write(rt, b"\n")
 }
 
 // Writes the row of a length.
-fn row(label: &[u8], book: &[u8], line: &[u8], room: usize) {
+fn row(rt: &HostRuntime, label: &[u8], book: &[u8], line: &[u8], room: usize) -> io::Result<()> {
     if room <= SHOWN {
         let mut values = [0u16; VALUES];
         let answer = reader::read_line(book, line, &mut values);
         let mut text = [MARK; SHOWN];
         let result = listing::render(book, line, answer, &values, &mut text[..room]);
-        io::write_all(1, label);
-        counted(b" in ", room);
-        outcome(result);
+        write(rt, label)?;
+        counted(rt, b" in ", room)?;
+        outcome(rt, result)?;
         show_ends(&mut text);
-        show(&text);
+        show(rt, &text)?;
     }
+    Ok(())
 }
 
 // The rows of all lengths.
-pub fn rooms(book: &[u8], label: &[u8], line: &[u8]) {
+pub fn rooms(rt: &HostRuntime, book: &[u8], label: &[u8], line: &[u8]) -> io::Result<()> {
     let mut room = 0;
     while room <= LAST {
-        row(label, book, line, room);
+        row(rt, label, book, line, room)?;
         room += 1;
     }
+    Ok(())
 }

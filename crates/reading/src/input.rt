@@ -1,7 +1,9 @@
 // What the program is given: a line from standard input, and the book from a file.
-ghost use Rattle.io.specs.Counts.{IsPrefixLen};
+ghost use Rattle.std.specs.Prelude.{◌≡◌, ◌≤◌, length, take, IfOk, OnErr};
 
-use libc::STDIN_FILENO;
+use std::fs::File;
+use std::io;
+use std::io::Read;
 
 pub const MAX_LINE: usize = 4096;
 
@@ -11,42 +13,63 @@ pub const LINE_ROOM: usize = MAX_LINE + 1;
 const LINE_END: u8 = 10;
 
 // The next byte of standard input. The end of the input counts as a line's end.
-fn next_byte() -> u8 {
+fn next_byte(rt: &HostRuntime) -> io::Result<u8> {
     let mut one = [0u8; 1];
-    let got = libc::read(STDIN_FILENO, &mut one);
-    if got <= 0 {
-        return LINE_END;
+    let got = rt.stdin().read(&mut one)?;
+    if got == 0 {
+        return Ok(LINE_END);
     }
-    one[0]
+    Ok(one[0])
 }
 
 // Puts standard input up to the first line's end at the start of `line`, and gives its length, or that of `line` where it is not shorter.
 // What stands behind the line's end is not read.
-pub fn take_line(line: &mut [u8]) -> usize
-    ensures { IsPrefixLen result line.new }
+pub fn take_line(rt: &HostRuntime, line: &mut [u8]) -> io::Result<usize>
+    ensures within { IfOk result (λ n. n ≤ length line.new) }
+    ensures counted { IfOk result (λ n. n ≡ length (take n line.new)) }
+    ensures failed { OnErr result (length line.new ≡ length line.old) }
 {
     let mut length = 0;
     while length < line.len() {
-        let byte = next_byte();
+        let byte = next_byte(rt)?;
         if byte == LINE_END {
-            return length;
+            return Ok(length);
         }
         line[length] = byte;
         length += 1;
     }
-    length
+    Ok(length)
+}
+
+// Puts a file, or as much of it as there is room for, at the start of `book`, and gives the number of its bytes there.
+fn take_file(file: &mut File, book: &mut [u8]) -> io::Result<usize>
+    ensures within { IfOk result (λ n. n ≤ length book.new) }
+    ensures counted { IfOk result (λ n. n ≡ length (take n book.new)) }
+    ensures failed { OnErr result (length book.new ≡ length book.old) }
+{
+    let mut length = 0;
+    while length < book.len() {
+        let got = file.read(&mut book[length..])?;
+        if got == 0 {
+            return Ok(length);
+        }
+        length += got;
+    }
+    Ok(length)
 }
 
 // Puts the file `book.bin`, or as much of it as there is room for, at the start of `book`, and gives the number of its bytes there. A file
 // that cannot be opened has none.
-pub fn take_book(book: &mut [u8]) -> usize
-    ensures { IsPrefixLen result book.new }
+pub fn take_book(rt: &HostRuntime, book: &mut [u8]) -> io::Result<usize>
+    ensures within { IfOk result (λ n. n ≤ length book.new) }
+    ensures counted { IfOk result (λ n. n ≡ length (take n book.new)) }
+    ensures failed { OnErr result (length book.new ≡ length book.old) }
 {
-    let file = os::open_read(b"book.bin");
-    if file < 0 {
-        return 0;
+    match File::open(rt, "book.bin") {
+        Ok(file) => {
+            let mut file = file;
+            take_file(&mut file, book)
+        }
+        Err(_) => Ok(0),
     }
-    let length = io::read_full(file, book);
-    libc::close(file);
-    length
 }

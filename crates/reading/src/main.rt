@@ -4,34 +4,38 @@
 mod input;
 
 use input::{LINE_ROOM, MAX_LINE};
-use libc::STDOUT_FILENO;
 use listing::{MAX_LISTING, Rendered, render};
 use reader::read_line;
+use std::io;
+use std::io::Write;
 
 // How many values are lent for an answer.
 const VALUES: usize = 512;
 
+// Room for a book one byte longer than the longest.
+const BOOK_ROOM: usize = 65536;
+
 // Reads a line against a book, and writes the listing of its reading or the row of its refusal.
-fn answer_line(book: &[u8], line: &[u8]) {
+fn answer_line(rt: &HostRuntime, book: &[u8], line: &[u8]) -> io::Result<()> {
     let mut values = [0u16; VALUES];
     let answer = read_line(book, line, &mut values);
     let mut text = [0u8; MAX_LISTING];
     let rendered = render(book, line, answer, &values, &mut text);
     let Rendered::Written { bytes } = rendered else {
         // Never taken: MAX_LISTING bytes always suffice (`answer_short`, `refusal_short`).
-        return;
+        return Ok(());
     };
-    io::write_all(STDOUT_FILENO, &text[0..bytes]);
+    io::writer(rt).write_all(&text[0..bytes])
 }
 
-fn main() {
+fn main(rt: HostRuntime) -> io::Result<()> {
     let mut line = [0u8; LINE_ROOM];
-    let length = input::take_line(&mut line);
+    let length = input::take_line(&rt, &mut line)?;
     if MAX_LINE < length {
-        io::write_all(STDOUT_FILENO, b"long\n");
-        return;
+        io::writer(&rt).write_all(b"long\n")?;
+        return Ok(());
     }
-    let mut book = io::large_buffer();
-    let size = input::take_book(&mut book);
-    answer_line(&book[..size], &line[..length]);
+    let mut book = [0u8; BOOK_ROOM];
+    let size = input::take_book(&rt, &mut book)?;
+    answer_line(&rt, &book[..size], &line[..length])
 }
