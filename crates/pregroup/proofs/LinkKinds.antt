@@ -65,8 +65,8 @@ module _ {le : Test} {Le : Relation} (decides : Decides le Le) (x y : Simple) wh
   pub kind_not : (link_kind le x y ≡ Not) ↔ (Contracts Le x y → ⊥)
   unfolding link_kind
   kind_not = (
-    λ e c. true≢false (sym ((contracts_iff decides x y).1 c) ∙ (by_not may same).0 e),
-    λ none. (by_not may same).1 (not_true (contracts le x y) (λ h. none ((contracts_iff decides x y).0 h))),
+    λ e c. true≢false (sym ((contracts_iff decides x y).1 c) ∙ (by_not may _).0 e),
+    λ none. (by_not may _).1 (not_true (contracts le x y) (λ h. none ((contracts_iff decides x y).0 h))),
   )
 
   pub kind_may : (link_kind le x y ≡ Not → ⊥) ↔ Contracts Le x y

@@ -1,0 +1,6 @@
+-- `bits::minus` meets its contract, bit by bit.
+use Rattle.bits.proofs.BitLaws.{difference_members}
+use Rattle.bits.proofs.minus.Goals as goal
+
+pub returns : goal.returns
+returns c = difference_members c.args.a c.args.b
