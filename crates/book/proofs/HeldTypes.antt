@@ -1,11 +1,9 @@
--- A type at the first places of a list, place by place: how the list is filled.
+-- A type at the first places of a list, place by place.
 use Prim.Native.Nat.{ℕ, zero, suc, ◌+◌, ◌*◌, ◌/◌, ◌%◌, ◌≤◌, ◌<◌}
 use native.Mathlib.Omega.{arith}
-use native.Mathlib.Decide.{ℕ_discrete}
-use mathlib.Core.Path.{◌≡◌, refl, sym, ap, subst, ◌∙◌}
+use mathlib.Core.Path.{◌≡◌, refl, sym, ap, ◌∙◌}
 use mathlib.Core.List.{List, [], ◌∷◌}
-use lib.ListN.{length, get_or, set}
-use lib.Seq.{get_or-set_same, get_or-set_other}
+use lib.ListN.{length, get_or}
 use Rattle.figures.specs.Limits.{max_entry_simples}
 use Rattle.pregroup.specs.Types.{PregroupType, plain, ◌⁽◌⁾}
 use Rattle.pregroup.specs.Held.{held}
@@ -15,22 +13,12 @@ use Rattle.book.specs.declared.EntryType.{EntryType}
 use Rattle.rules.specs.Layouts.{exponent_of, simples_of}
 use Rattle.book.specs.Kept.{HeldType}
 use Rattle.rules.proofs.Simples.{simple_from}
-use Rattle.rules.proofs.HeldDeclared.{holds_at}
 
 -- A type stands there where the k-th place holds the k-th simple type.
 module _ {places : List ℕ} {X : PregroupType} where
   holds_from : ((k : ℕ) → k < length X → held (get_or {A = ℕ} places k 0) ≡ get_or X k (plain 0)) → Holds places 0 X
   holds_from h =
       record { each = λ k l. let from : 0 + k ≡ k = omega arith in ap (λ (i : ℕ). held (get_or {A = ℕ} places i 0)) from ∙ h k l }
-
--- A list filled from its front on: below i, place k has what is asked of k.
-pub filled_next : (P : ℕ → ℕ → Type 0) (l : List ℕ) (i x : ℕ) → i < length l → ((k : ℕ) → k < i → P k (get_or {A = ℕ} l k 0)) → P i x
-    → (k : ℕ) → k < i + 1 → P k (get_or {A = ℕ} (set l i x) k 0)
-filled_next P l i x room before here k h = go (ℕ_discrete k i)
-  where
-    go : Dec (k ≡ i) → P k (get_or {A = ℕ} (set l i x) k 0)
-    go (yes e) = subst (λ (j : ℕ). P j (get_or {A = ℕ} (set l i x) j 0)) (sym e) (subst (P i) (sym (get_or-set_same l i x 0 room)) here)
-    go (no d) = subst (P k) (sym (get_or-set_other l i k x 0 d)) (before k (omega (arith, d)))
 
 -- The simple types of a type that stands as pairs of bytes.
 pub simples_length : (part : Bytes) → length part % 2 ≡ 0 → length (simples_of part) ≡ length part / 2
@@ -64,9 +52,3 @@ pub pairs_held :
 pairs_held t part pairs short size each =
     let all = simples_length part pairs in
     held_type t (simples_of part) (size ∙ sym all) (omega arith) (λ k l. each k (omega arith) ∙ sym (simple_at part k (omega arith)))
-
-pub copied_held :
-    (t : EntryType) (places : List ℕ) (X : PregroupType) → Holds places 0 X → length X ≤ max_entry_simples → t.count ≡ length X
-    → ((k : ℕ) → k < t.count → get_or {A = ℕ} t.simples k 0 ≡ get_or {A = ℕ} places k 0) → HeldType t X
-copied_held t places X h short size same =
-    held_type t X size short (λ k l. ap held (same k (omega arith)) ∙ holds_at h k l)

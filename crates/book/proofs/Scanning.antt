@@ -17,12 +17,8 @@ use Rattle.book.proofs.FirstBroken.{fault_none}
 use Rattle.book.proofs.Parsing.{bad_refuses, end_parse, ended_none, ended_some}
 use Rattle.book.proofs.Keeping.{targets_count}
 
--- How the reading stands: s₀ is what was lent, s what it holds now.
-pub record ScanStanding (bytes : Bytes) (s₀ s : Store) (p : Progress) : Type 0 where
-  pub names_length : length s.names ≡ length s₀.names
-  pub entries_length : length s.entries ≡ length s₀.entries
-  pub direct_length : length s.direct ≡ length s₀.direct
-  pub targets_length : length s.targets ≡ length s₀.targets
+-- How the reading stands: s is what is kept so far.
+pub record ScanStanding (bytes : Bytes) (s : Store) (p : Progress) : Type 0 where
   pub sound : Sound bytes s p
   pub contents : Book
   pub keeps : Keeps bytes s p contents
@@ -30,14 +26,10 @@ pub record ScanStanding (bytes : Bytes) (s₀ s : Store) (p : Progress) : Type 0
 
 -- Nothing is read yet.
 pub standing_start :
-    (bytes : Bytes) (s : Store) → length bytes ≤ max_book → StoreRoomy s → NoPairs s.direct → ScanStanding bytes s s (record { at = 0; types = 0; entries = 0; targets = 0 })
+    (bytes : Bytes) (s : Store) → length bytes ≤ max_book → StoreRoomy s → NoPairs s.direct → ScanStanding bytes s (record { at = 0; types = 0; entries = 0; targets = 0 })
 standing_start bytes s short roomy empty =
     let none_yet : (offsets : List ℕ) → Whole bytes offsets 0 = λ offsets. record { room = omega arith; whole = λ i h. absurd (omega arith) } in
     record {
-      names_length = refl;
-      entries_length = refl;
-      direct_length = refl;
-      targets_length = refl;
       sound = record {
         short = short;
         reached = omega arith;
@@ -51,18 +43,12 @@ standing_start bytes s short roomy empty =
       good = start;
     }
 
-module _ (bytes : Bytes) (s₀ s : Store) (p : Progress) (w : ScanStanding bytes s₀ s p) where
+module _ (bytes : Bytes) (s : Store) (p : Progress) (w : ScanStanding bytes s p) where
   -- One record more.
-  pub standing_next : (s' : Store) (p' : Progress) → p.at < length bytes → Taking bytes s p s' p' → length s'.names ≡ length s.names
-      → length s'.entries ≡ length s.entries → length s'.direct ≡ length s.direct
-      → length s'.targets ≡ length s.targets → ScanStanding bytes s₀ s' p'
-  standing_next s' p' h t a b c d =
+  pub standing_next : (s' : Store) (p' : Progress) → p.at < length bytes → Taking bytes s p s' p' → ScanStanding bytes s' p'
+  standing_next s' p' h t =
       let k = t.right w.contents w.keeps in
       record {
-        names_length = a ∙ w.names_length;
-        entries_length = b ∙ w.entries_length;
-        direct_length = c ∙ w.direct_length;
-        targets_length = d ∙ w.targets_length;
         sound = t.sound;
         contents = with_next bytes p.at w.contents;
         keeps = k.1;

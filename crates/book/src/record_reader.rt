@@ -1,5 +1,5 @@
-// The record reader: made at an offset of a book, it says what the next record is refused with. A function over a struct that holds a
-// slice is proved by a walk, so the work is left to `record_fault`, on the book and the number, and callers use `fault_at`.
+// The record reader: made at an offset of a book, it says what the next record is refused with. The work is left to `record_fault`, on the
+// book and the number, and callers use `fault_at`.
 ghost use Rattle.std.specs.Prelude.{◌≡◌, ◌≤◌, length};
 ghost use Rattle.rules.specs.Rules.{record_rules, first_broken};
 ghost use Rattle.format.specs.Records.{bodies_at};
