@@ -9,10 +9,10 @@ ghost use Rattle.std.specs.Prelude.{◌<◌};
 use batch::BatchAnswer;
 use cases::books::put_book;
 use cases::buffer::{ROOM, Space};
+use cases::console::{write, write_number};
 use cases::items::put_items;
 use cases::script::{byte_at, take_line};
 use cases::text::{find, number};
-use cases::console::{write, write_number};
 use std::io;
 
 // How many values there are: more than the answers of any batch take.
@@ -169,7 +169,14 @@ fn last_number(text: &[u8]) -> usize {
 }
 
 // Writes the rows of a batch, of which the name and what stands behind its colon are given.
-fn rows_of_batch(rt: &HostRuntime, label: &[u8], book: &[u8], length: usize, lines: &mut Space, rest: &[u8]) -> io::Result<()> {
+fn rows_of_batch(
+    rt: &HostRuntime,
+    label: &[u8],
+    book: &[u8],
+    length: usize,
+    lines: &mut Space,
+    rest: &[u8],
+) -> io::Result<()> {
     let colon = find(rest, b':');
     if colon >= rest.len() {
         return Ok(());
@@ -181,7 +188,13 @@ fn rows_of_batch(rt: &HostRuntime, label: &[u8], book: &[u8], length: usize, lin
 }
 
 // Writes the rows of a case.
-fn rows_of_case(rt: &HostRuntime, book: &[u8], length: usize, lines: &mut Space, case: &[u8]) -> io::Result<()> {
+fn rows_of_case(
+    rt: &HostRuntime,
+    book: &[u8],
+    length: usize,
+    lines: &mut Space,
+    case: &[u8],
+) -> io::Result<()> {
     let colon = find(case, b':');
     if colon < case.len() {
         rows_of_batch(rt, &case[0..colon], book, length, lines, &case[colon + 1..])?;
@@ -225,7 +238,12 @@ fn take_from(
 }
 
 // Writes the rows of a script's cases. It has no more lines than bytes.
-pub fn rows(rt: &HostRuntime, script: &Space, book: &mut Space, lines: &mut Space) -> io::Result<()> {
+pub fn rows(
+    rt: &HostRuntime,
+    script: &Space,
+    book: &mut Space,
+    lines: &mut Space,
+) -> io::Result<()> {
     let mut part = [0u8; ROOM];
     let mut length = 0;
     let mut at = 0;

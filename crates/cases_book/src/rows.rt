@@ -5,9 +5,9 @@
 use book::BookCheck;
 use cases::books::put_book;
 use cases::buffer::{ROOM, Space};
+use cases::console::{write, write_number};
 use cases::script::{byte_at, take_line};
 use cases::text::find;
-use cases::console::{write, write_number};
 use std::io;
 
 // Writes a space and a number.

@@ -15,10 +15,10 @@
 use answer::LineAnswer;
 use cases::books::put_book;
 use cases::buffer::{ROOM, Space};
+use cases::console::{write, write_number};
 use cases::script::{byte_at, take_line};
 use cases::text::{find, number};
 use in_the_way::WayAnswer;
-use cases::console::{write, write_number};
 use std::io;
 
 // How many values there are to lend.
@@ -101,21 +101,21 @@ fn ordinary_answer(rt: &HostRuntime, res: LineAnswer, list: &[u16]) -> io::Resul
 fn whether(rt: &HostRuntime, res: WayAnswer) -> io::Result<()> {
     match res {
         WayAnswer::Ordinary(ordinary) => match ordinary {
-            LineAnswer::Read { .. } => {
-                write(rt, b" yes")
-            }
-            LineAnswer::Refused { .. } => {
-                write(rt, b" no")
-            }
+            LineAnswer::Read { .. } => { write(rt, b" yes") }
+            LineAnswer::Refused { .. } => { write(rt, b" no") }
         },
-        WayAnswer::NoReading { .. } => {
-            write(rt, b" no")
-        }
+        WayAnswer::NoReading { .. } => { write(rt, b" no") }
     }
 }
 
 // Writes what a row says of a result and the buffer behind it.
-fn shown(rt: &HostRuntime, res: WayAnswer, list: &[u16], lent: usize, show: Show) -> io::Result<()> {
+fn shown(
+    rt: &HostRuntime,
+    res: WayAnswer,
+    list: &[u16],
+    lent: usize,
+    show: Show,
+) -> io::Result<()> {
     match show {
         Show::Answer => answer(rt, res, list),
         Show::Whether => whether(rt, res),
@@ -138,7 +138,14 @@ fn read(book: &[u8], line: &[u8], answer: &mut [u16], show: Show) -> WayAnswer {
 }
 
 // Writes the row of a line, with so many values lent.
-fn row(rt: &HostRuntime, book: &[u8], label: &[u8], line: &[u8], lent: usize, show: Show) -> io::Result<()> {
+fn row(
+    rt: &HostRuntime,
+    book: &[u8],
+    label: &[u8],
+    line: &[u8],
+    lent: usize,
+    show: Show,
+) -> io::Result<()> {
     if lent <= VALUES {
         let mut buffer = [MARK; VALUES];
         write(rt, label)?;
@@ -150,7 +157,13 @@ fn row(rt: &HostRuntime, book: &[u8], label: &[u8], line: &[u8], lent: usize, sh
 }
 
 // Writes the rows of a line for each number of values lent, from 0 to the last.
-fn lending(rt: &HostRuntime, book: &[u8], label: &[u8], line: &[u8], last: usize) -> io::Result<()> {
+fn lending(
+    rt: &HostRuntime,
+    book: &[u8],
+    label: &[u8],
+    line: &[u8],
+    last: usize,
+) -> io::Result<()> {
     let mut lent = 0;
     while lent < last {
         row(rt, book, label, line, lent, Show::Buffer)?;
@@ -160,7 +173,13 @@ fn lending(rt: &HostRuntime, book: &[u8], label: &[u8], line: &[u8], last: usize
 }
 
 // Writes the rows of a case.
-fn rows_of_case(rt: &HostRuntime, book: &[u8], case: &[u8], lent: usize, show: Show) -> io::Result<()> {
+fn rows_of_case(
+    rt: &HostRuntime,
+    book: &[u8],
+    case: &[u8],
+    lent: usize,
+    show: Show,
+) -> io::Result<()> {
     let colon = find(case, b':');
     if colon < case.len() {
         let label = &case[0..colon];
@@ -174,7 +193,14 @@ fn rows_of_case(rt: &HostRuntime, book: &[u8], case: &[u8], lent: usize, show: S
 }
 
 // Writes the rows of a case against the book that the first bytes of a slice are.
-fn rows_against(rt: &HostRuntime, bytes: &[u8], length: usize, case: &[u8], lent: usize, show: Show) -> io::Result<()> {
+fn rows_against(
+    rt: &HostRuntime,
+    bytes: &[u8],
+    length: usize,
+    case: &[u8],
+    lent: usize,
+    show: Show,
+) -> io::Result<()> {
     if length <= bytes.len() {
         rows_of_case(rt, &bytes[0..length], case, lent, show)?;
     }
@@ -205,7 +231,13 @@ fn lent_of(text: &[u8]) -> usize {
 }
 
 // Takes a line of a script, which the first bytes of a slice are: a comment, a book, what is shown, or a case.
-fn take_part(rt: &HostRuntime, book: &mut Space, setting: Setting, bytes: &[u8], end: usize) -> io::Result<Setting> {
+fn take_part(
+    rt: &HostRuntime,
+    book: &mut Space,
+    setting: Setting,
+    bytes: &[u8],
+    end: usize,
+) -> io::Result<Setting> {
     let length = setting.length;
     let lent = setting.lent;
     let show = setting.show;
@@ -233,7 +265,13 @@ fn take_part(rt: &HostRuntime, book: &mut Space, setting: Setting, bytes: &[u8],
 }
 
 // The same for a buffer.
-fn take_from(rt: &HostRuntime, book: &mut Space, setting: Setting, part: &Space, end: usize) -> io::Result<Setting> {
+fn take_from(
+    rt: &HostRuntime,
+    book: &mut Space,
+    setting: Setting,
+    part: &Space,
+    end: usize,
+) -> io::Result<Setting> {
     take_part(rt, book, setting, part, end)
 }
 

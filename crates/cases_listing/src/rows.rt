@@ -12,10 +12,10 @@ use crate::rooms::rooms;
 use answer::LineAnswer;
 use cases::books::put_book;
 use cases::buffer::{ROOM, Space};
+use cases::console::{write, write_number};
 use cases::script::{byte_at, take_line};
 use cases::text::{find, number};
 use listing::{MAX_LISTING, Rendered};
-use cases::console::{write, write_number};
 use std::io;
 
 // How many values there are to lend.
@@ -43,7 +43,14 @@ pub fn outcome(rt: &HostRuntime, res: Rendered) -> io::Result<()> {
 }
 
 // Writes the row of a listing, and behind it the listing, where it is not longer than an answer's can be.
-pub fn list(rt: &HostRuntime, label: &[u8], book: &[u8], line: &[u8], answer: LineAnswer, buffer: &[u16]) -> io::Result<()> {
+pub fn list(
+    rt: &HostRuntime,
+    label: &[u8],
+    book: &[u8],
+    line: &[u8],
+    answer: LineAnswer,
+    buffer: &[u16],
+) -> io::Result<()> {
     let mut text = [0u8; MAX_LISTING];
     let result = listing::render(book, line, answer, buffer, &mut text);
     write(rt, label)?;
@@ -86,7 +93,13 @@ fn put_values(values: &mut [u16], text: &[u8]) -> usize {
 }
 
 // Lists values that are given.
-fn list_given(rt: &HostRuntime, label: &[u8], book: &[u8], line: &[u8], numbers: &[u8]) -> io::Result<()> {
+fn list_given(
+    rt: &HostRuntime,
+    label: &[u8],
+    book: &[u8],
+    line: &[u8],
+    numbers: &[u8],
+) -> io::Result<()> {
     let mut values = [0u16; VALUES];
     let lent = put_values(&mut values, numbers);
     let answer = LineAnswer::Read {
@@ -125,7 +138,13 @@ fn list_case(rt: &HostRuntime, book: &[u8], case: &[u8], every: bool) -> io::Res
 }
 
 // The same against the book that the first bytes of a slice are.
-fn list_against(rt: &HostRuntime, bytes: &[u8], length: usize, case: &[u8], every: bool) -> io::Result<()> {
+fn list_against(
+    rt: &HostRuntime,
+    bytes: &[u8],
+    length: usize,
+    case: &[u8],
+    every: bool,
+) -> io::Result<()> {
     if length <= bytes.len() {
         list_case(rt, &bytes[0..length], case, every)?;
     }
@@ -138,7 +157,13 @@ fn says_rooms(part: &[u8]) -> bool {
 }
 
 // Takes a line of a script, which the first bytes of a slice are: a comment, a book, what is shown, or a case.
-fn take_part(rt: &HostRuntime, book: &mut Space, setting: Setting, bytes: &[u8], end: usize) -> io::Result<Setting> {
+fn take_part(
+    rt: &HostRuntime,
+    book: &mut Space,
+    setting: Setting,
+    bytes: &[u8],
+    end: usize,
+) -> io::Result<Setting> {
     if end == 0 || bytes.len() < end {
         return Ok(setting);
     }
@@ -161,7 +186,13 @@ fn take_part(rt: &HostRuntime, book: &mut Space, setting: Setting, bytes: &[u8],
 }
 
 // The same for a buffer.
-fn take_from(rt: &HostRuntime, book: &mut Space, setting: Setting, part: &Space, end: usize) -> io::Result<Setting> {
+fn take_from(
+    rt: &HostRuntime,
+    book: &mut Space,
+    setting: Setting,
+    part: &Space,
+    end: usize,
+) -> io::Result<Setting> {
     take_part(rt, book, setting, part, end)
 }
 
