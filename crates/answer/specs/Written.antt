@@ -1,5 +1,5 @@
 -- What the writing of a whole answer asks and gives.
-use Rattle.std.specs.Prelude.{ℕ, ◌+◌, ◌≤◌, ◌<◌, ◌≡◌, List, ◌∷◌, ◌++◌, get_or, length, drop}
+use Rattle.std.specs.Prelude.{ℕ, ◌≤◌, ◌<◌, ◌≡◌, List, ◌∷◌, ◌++◌, get_or, length, drop}
 use Rattle.figures.specs.Limits.{max_words, max_targets}
 use Rattle.bits.specs.Rows.{HasRow}
 use Rattle.pregroup.specs.Types.{Basic}

@@ -156,6 +156,13 @@ pub record Turn (Le : Relation) (g : Graph) (start chart : List ℕ) (u : ℕ) :
   pub whole : length chart ≡ length start
   pub filled : FilledFrom Le g chart u
 
+-- What the loop of `fill` keeps, where it goes on.
+pub turn_at :
+    (Le : Relation) (g : Graph) (start chart : List ℕ) (u : ℕ) → Fillable g start → 0 < u
+    → (u ≤ length g.nodes) × (length chart ≡ length start) × FilledFrom Le g chart u → Turn Le g start chart u
+turn_at Le g start chart u fillable more kept =
+    record { fillable = fillable; few = kept.0; more = more; whole = kept.1; filled = kept.2 }
+
 module _ {Le : Relation} {g : Graph} {start chart : List ℕ} {u : ℕ} (t : Turn Le g start chart u) where
   turn_room : (w : ℕ) → w < length g.nodes → HasRow chart w
   turn_room w h = omega (arith, t.whole, t.fillable.room w h)

@@ -52,11 +52,11 @@ unfolding string_of
 string_agrees string string' zero same = refl
 string_agrees string string' (suc n) same = rw (string_agrees string string' n (λ i h. same i (omega arith)), same n (omega arith))
 
--- A simple type stored behind the string, and the string with it.
 -- The front of a list has the same string.
 pub string_front : (string : List ℕ) (n : ℕ) → string_of (take n string) n ≡ string_of string n
 string_front string n = string_agrees (take n string) string n (λ i h. ap held (get_or-take n string i 0 h))
 
+-- A simple type stored behind the string, and the string with it.
 module _ (string : List ℕ) (n x : ℕ) where
   pub string_kept : string_of (set string n x) n ≡ string_of string n
   string_kept = string_agrees (set string n x) string n (λ i h. ap held (get_or-set_other string n i x 0 (λ e. omega arith)))
