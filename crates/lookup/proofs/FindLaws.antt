@@ -40,9 +40,6 @@ module _ (bytes : Bytes) (entries : List ℕ) (word : Bytes) where
     pub own : i < length entries → OfWord bytes entries word i
     pub long : length same ≡ length same₀
 
-  pub joining_start : {same : List ℕ} {first : ℕ} → First (OfWord bytes entries word) 0 (length entries) first → Joining same same first
-  joining_start f = record { done = λ j h l o. absurd (f.passed j (omega arith) h l o); kept = λ j k. k; others = λ j h. refl; own = f.stops; long = refl }
-
   module _ {same₀ same : List ℕ} {i next : ℕ} (j : Joining same₀ same i) (h : i < length entries) (room : i < length same) (f : First (OfWord bytes entries word) (i + 1) (length entries) next) where
     abbrev same' : List ℕ
     same' = set same i next
@@ -81,9 +78,6 @@ module _ (bytes : Bytes) (entries : List ℕ) (word : Bytes) where
         go k l b o (yes e) d = rw e known_here
         go k l b o (no e) (yes d) = known_still k (j.done k d b o)
         go k l b o (no e) (no d) = absurd (f.passed k (omega (arith, e, d)) l b o)
-
-  pub joining_end : {same₀ same : List ℕ} {i : ℕ} → Joining same₀ same i → length entries ≤ i → WordJoined bytes entries word same₀ same
-  joining_end j h = record { known = λ k l o. j.done k (omega arith) l o; kept = j.kept; others = j.others }
 
   -- The word is found: it has no entry, its entries were threaded before, or they are now.
   module _ {same : List ℕ} {first : ℕ} (low : first ≤ max_entries) (s : Threaded bytes entries same) (f : First (OfWord bytes entries word) 0 (length entries) first) where

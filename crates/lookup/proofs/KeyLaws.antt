@@ -15,7 +15,7 @@ use Rattle.rules.proofs.Layouts.{word_shape}
 use Rattle.capitals.specs.Capitals.{same_word}
 use Rattle.lookup.specs.Entries.{Entries}
 use Rattle.bytewise.specs.First.{First}
-use Rattle.lookup.specs.Threads.{keys, key, word_kept, OfWord, OfKey, AlikeFrom, Alike, NoneAlike}
+use Rattle.lookup.specs.Threads.{keys, key, word_kept, OfWord, OfKey, AlikeFrom, Alike}
 use Rattle.capitals.proofs.CapitalLaws.{same_exactly, same_length}
 use Rattle.capitals.proofs.LetterLaws.{letter_of}
 
@@ -41,17 +41,6 @@ kept_range {bytes} {entries} kept i h =
 
 -- Entries threaded from the last to the first.
 module _ (bytes : Bytes) (entries : List ℕ) where
-  pub alike_start : {alike : List ℕ} → length entries ≤ max_entries → NoneAlike alike → AlikeFrom bytes entries alike (length entries)
-  alike_start {alike} few n =
-      record {
-        room = n.room;
-        low = λ k h. omega (arith, n.none k h);
-        heads = λ k h.
-            let e = n.none (max_entries + k) (omega arith) in
-            record { forth = omega arith; passed = λ j l m b o. omega arith; stops = λ l. absurd (omega arith) };
-        nexts = λ j h l. absurd (omega arith);
-      }
-
   module _ (alike : List ℕ) (i j k : ℕ) (t : AlikeFrom bytes entries alike i) (next : j + 1 ≡ i) (inside : j < length entries) (few : length entries ≤ max_entries) (own : k ≡ key (word_kept bytes entries j)) where
     abbrev head : ℕ
     head = max_entries + k

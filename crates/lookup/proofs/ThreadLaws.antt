@@ -47,9 +47,6 @@ module _ {bytes : Bytes} {names : List Bytes} {entries same : List ℕ} where
   thread_end (ends h) l = refl
   thread_end (goes h f t) l = absurd (omega arith)
 
-  pub tally_start : {first : ℕ} {es : List NumberedEntry} → Thread bytes names entries same first es → Tallying bytes names entries same es 0 first
-  tally_start {first} {es} t = record { rest = es; ahead = t; total = omega arith; low = omega arith; small = omega arith }
-
   pub tally_next : {es : List NumberedEntry} {sum i n : ℕ} → Lexicon bytes names entries → Tallying bytes names entries same es sum i → i < length entries
       → n ≡ length (entry_at bytes names entries i).type → Tallying bytes names entries same es (sum + n) (get_or {A = ℕ} same i 0)
   tally_next {es} {sum} {i} {n} kept t h e =
