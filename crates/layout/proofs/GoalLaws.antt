@@ -1,18 +1,18 @@
 -- The targets laid behind the last word, each with an end of its own.
-use Prim.Native.Nat.{ℕ, ◌+◌, ◌-◌, ◌*◌, ◌/◌, ◌%◌, ◌≤◌, ◌<◌}
+use Prim.Native.Nat.{ℕ, ◌+◌, ◌-◌, ◌/◌, ◌%◌, ◌≤◌, ◌<◌}
 use native.Mathlib.Omega.{arith}
 use native.Mathlib.Decide.{dec_lt, ℕ_discrete}
 use mathlib.Core.Path.{◌≡◌, refl, sym, ap, subst, ◌∙◌}
 use mathlib.Core.List.{List, [], ◌∷◌}
-use lib.ListN.{length, get_or, set, take, length-set}
+use lib.ListN.{length, get_or, set, length-set}
 use lib.Seq.{get_or-set_same, get_or-set_other, get_or-take, length-take-le}
 use Rattle.pregroup.specs.Types.{Basic, PregroupType, right_adjoint}
 use Rattle.pregroup.specs.Held.{held}
 use Rattle.figures.specs.Limits.{max_nodes}
 use Rattle.linking.specs.Reading.{target_at, target_type}
-use Rattle.graph.specs.Graph.{Graph, graph, simple_in, next_in, from_in, to_in, simple_at, next_at, from_at, to_at, entered_at, EntersBy, by, Upward, Path, here, take as takes-node, enter, Boundary, Spells, ended, more}
+use Rattle.graph.specs.Graph.{Graph, graph, simple_in, next_in, from_in, to_in, simple_at, next_at, from_at, to_at, entered_at, EntersBy, by, Upward, Path, here, take as takes-node, enter, Spells, ended, more}
 use Rattle.graph.specs.Layout.{End, goal}
-use Rattle.slots.specs.Laying.{Agree, Continues}
+use Rattle.slots.specs.Laying.{Continues}
 use Rattle.slots.specs.declared.Place.{Place}
 use Rattle.layout.specs.LineLayout.{Standing, goal_at, end_at, nodes_with, line_graph, GoalFits, GoalLaid, Ended}
 use Rattle.layout.proofs.WordLaws.{nexts_still, tos_still, enters_still}

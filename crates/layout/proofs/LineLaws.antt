@@ -3,7 +3,7 @@ use Prim.Native.Nat.{ℕ, ◌+◌, ◌≤◌, ◌<◌}
 use native.Mathlib.Omega.{arith}
 use mathlib.Core.Path.{◌≡◌, refl, sym, ap, subst, ◌∙◌}
 use mathlib.Core.List.{List, [], ◌∷◌}
-use lib.ListN.{length, get_or, take}
+use lib.ListN.{length, get_or}
 use lib.Seq.{get_or-take}
 use Rattle.pregroup.specs.Types.{Basic}
 use Rattle.linking.specs.Reading.{NumberedEntry, Words, target_at}
@@ -16,7 +16,7 @@ use Rattle.graph.specs.Graph.{Graph}
 use Rattle.figures.specs.Limits.{max_nodes, max_targets}
 use Rattle.slots.specs.Laying.{Continues}
 use Rattle.slots.specs.declared.Place.{Place}
-use Rattle.layout.specs.LineLayout.{start_place, end_at, nodes_with, line_graph, Room, Standing, Lined, WordFits, WordsFit, Ended, LaidOut}
+use Rattle.layout.specs.LineLayout.{start_place, end_at, nodes_with, line_graph, Room, Lined, WordFits, Ended, LaidOut}
 use Rattle.layout.proofs.WordLaws.{lined_then, lined_here}
 
 none_left : (ws : Words) → length ws ≡ 0 → ws ≡ []

@@ -1,6 +1,6 @@
 -- What the code writes while it lays out the words of a line, from left to right, and then the targets.
 use Rattle.std.specs.Prelude.{ℕ, ◌+◌, ◌*◌, ◌≤◌, ◌<◌, ◌≡◌, false, List, [], ◌∷◌, length, get_or, take}
-use Rattle.figures.specs.Limits.{max_targets, max_nodes}
+use Rattle.figures.specs.Limits.{max_nodes}
 use Rattle.pregroup.specs.Types.{Basic, right_adjoint}
 use Rattle.pregroup.specs.Held.{held}
 use Rattle.linking.specs.Reading.{NumberedEntry, Words, target_at, target_type}

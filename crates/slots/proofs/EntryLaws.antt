@@ -14,12 +14,12 @@ use Rattle.pregroup.specs.Types.{PregroupType}
 use Rattle.format.specs.Records.{Bytes, bodies_at}
 use Rattle.book.specs.declared.EntryType.{EntryType}
 use Rattle.book.specs.Kept.{entry_from, HeldType}
-use Rattle.lookup.specs.Entries.{Vocabulary, simples_in}
+use Rattle.lookup.specs.Entries.{simples_in}
 use Rattle.lookup.specs.Threads.{Thread}
 use Rattle.lookup.proofs.ThreadLaws.{simples_more, thread_next, thread_end}
-use Rattle.graph.specs.Graph.{Graph, graph, next_at, entered_in, number_in, entered_at, number_at, Boundary}
+use Rattle.graph.specs.Graph.{Graph, graph, next_at, entered_in, number_in, entered_at, Boundary}
 use Rattle.graph.specs.Layout.{has_none, slotted, Slots, slot}
-use Rattle.figures.specs.Limits.{max_nodes, max_entries}
+use Rattle.figures.specs.Limits.{max_entries}
 use Rattle.slots.specs.Laying.{GoesOn, Simples, Typed, Within, Lays, type_held, SlotFits}
 use Rattle.slots.specs.declared.Place.{Place}
 use Rattle.slots.proofs.HeldTypes.{held_length, held_none, held_type}

@@ -9,7 +9,7 @@ use lib.Seq.{get_or-set_same, get_or-set_other}
 use Rattle.pregroup.specs.Held.{held}
 use Rattle.book.specs.declared.EntryType.{EntryType}
 use Rattle.graph.specs.Graph.{Graph, simple_in, next_in, next_at, Labelled, Boundary, Spells, ended, more}
-use Rattle.figures.specs.Limits.{max_nodes, max_entry_simples, value_bound}
+use Rattle.figures.specs.Limits.{max_entry_simples, value_bound}
 use Rattle.slots.specs.Laying.{Agree, AgreeFrom, Continues, Simples, held_from, TypeFits, Typed}
 
 -- What continues a later graph continues this one.
