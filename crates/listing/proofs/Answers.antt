@@ -10,7 +10,7 @@ use mathlib.Core.List.{List, [], ◌∷◌, map, Memᴰ}
 use lib.ListN.{length}
 use lib.Seq.{take_all}
 use Rattle.pregroup.specs.Types.{PregroupType}
-use Rattle.linking.specs.Reading.{NumberedEntry, Words, Choice, empty, Answer, answer}
+use Rattle.linking.specs.Reading.{NumberedEntry, Words, Choice, empty, Answer}
 use Rattle.linking.specs.Reading.{take as chosen-entry}
 use Rattle.order.proofs.Decision.{below_decides}
 use Rattle.format.specs.Records.{Bytes}
@@ -25,7 +25,7 @@ use Rattle.answer.specs.declared.LineAnswer.TheVariants.{Read}
 use Rattle.answer.specs.Answers.{values_of}
 use Rattle.answer.specs.Parts.{partners_part}
 use Rattle.answer.proofs.PartLaws.{entries_of_answer, partners_of_answer}
-use Rattle.reader.specs.Demands.{OrderOf, Readable, Promised}
+use Rattle.reader.specs.Demands.{Promised}
 use Rattle.letters.proofs.LetterTheorems.{linking_lettered}
 use Rattle.printing.specs.Rows.{shown_rows}
 use Rattle.listing.specs.Listing.{type_of, joined, listed_type, listed_letters, reading_rows, answer_rows, listing}

@@ -6,7 +6,7 @@ use mathlib.Core.List.{List}
 use lib.ListN.{length}
 use Rattle.format.specs.Records.{Bytes}
 use Rattle.answer.specs.declared.LineAnswer.{LineAnswer}
-use Rattle.listing.specs.Listing.{listing, max_listing, Renders}
+use Rattle.listing.specs.Listing.{listing, Renders}
 use Rattle.listing.specs.ListingDemands.{ListingPromised}
 use Rattle.listing.specs.declared.Rendered.{Rendered}
 use Rattle.listing.specs.declared.Rendered.TheVariants.{Written, TooShort}
@@ -26,9 +26,3 @@ listing_promised book line answer buffer {before} {rendered} {after} r =
       enough = λ lent n e p room. room_written _ before after rendered (rw e at r) (omega (arith, answer_short book line lent buffer n p));
       refusal = λ number value e. rw e at r;
     }
-
--- Both, as the contract has them.
-pub with_promises : (book line : Bytes) (answer : LineAnswer) (buffer : List ℕ) {before : Bytes} {rendered : Rendered} {after : Bytes}
-    → Renders (listing book line answer buffer) before rendered after
-    → Renders (listing book line answer buffer) before rendered after × ListingPromised book line answer buffer before rendered after
-with_promises book line answer buffer r = (r, listing_promised book line answer buffer r)

@@ -3,7 +3,7 @@ use Prim.Native.Nat.{ℕ, ◌≤◌, ◌<◌}
 use native.Mathlib.Omega.{arith}
 use mathlib.Core.Path.{◌≡◌, sym, ◌∙◌}
 use mathlib.Core.List.{List, []}
-use lib.ListN.{length, get_or, get_or-eq_default}
+use lib.ListN.{get_or, get_or-eq_default}
 use Rattle.letters.proofs.LetterLaws.{get_d_any}
 use Rattle.format.specs.Records.{Bytes, body_at, Whole, bodies_at}
 use Rattle.format.proofs.NameLaws.{bodies_length, bodies_at_lem}
