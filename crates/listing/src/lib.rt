@@ -31,7 +31,7 @@ const LETTERS: usize = MAX_STRING + 1;
 
 // What rendering a listing gives. `Written`: the buffer holds the listing, of so many bytes, and those behind it are as they were.
 // `TooShort`: the listing takes so many bytes, and the buffer is as it was.
-#[derive(Drop)]
+#[derive(Clone, Copy)]
 pub enum Rendered {
     Written { bytes: usize },
     TooShort { needed: usize },
