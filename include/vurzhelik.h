@@ -1,5 +1,5 @@
-/* Vurzhelik, the proved reader of order lines, for C and C++. Link libvurzhelik.a, which `rt staticlib vurzhelik` writes to
- * target/staticlib; it is for x86-64 Linux.
+/* Vurzhelik, the proved reader of order lines, for C and C++. Link libvurzhelik.a, which `rt lib vurzhelik` writes to
+ * crates/vurzhelik/out; it is for x86-64 Linux.
  *
  * Lists. A list is passed as a pointer to its values and their number. Any bytes may stand in a book, a line and a batch, of any length.
  * Pointers. None is null, not even that of an empty list: pass the address of any object there. What is written to (value, types, entries,

@@ -1,13 +1,13 @@
-//! Links the static library that `rt staticlib vurzhelik` writes.
+//! Links the static library that `rt lib vurzhelik` writes.
 use std::path::Path;
 
 fn main() {
-    let folder = Path::new(env!("CARGO_MANIFEST_DIR")).join("../target/staticlib");
+    let folder = Path::new(env!("CARGO_MANIFEST_DIR")).join("../crates/vurzhelik/out");
     let archive = folder.join("libvurzhelik.a");
     println!("cargo:rerun-if-changed={}", archive.display());
     if !archive.exists() {
         eprintln!(
-            "no {}: run `rt staticlib vurzhelik` in the repository first",
+            "no {}: run `rt lib vurzhelik` in the repository first",
             archive.display()
         );
         std::process::exit(1);

@@ -1,9 +1,9 @@
 #!/usr/bin/env bash
-# Times the library beside link-grammar, in one run: see beside.c. Needs `rt staticlib vurzhelik` run before, a C compiler, and Debian's
+# Times the library beside link-grammar, in one run: see beside.c. Needs `rt lib vurzhelik` run before, a C compiler, and Debian's
 # package liblink-grammar-dev.
 set -eu
 cd "$(dirname "$0")"
 program=$(mktemp)
 trap 'rm "$program"' EXIT
-cc -O2 -I../../include beside.c ../../target/staticlib/libvurzhelik.a -llink-grammar -o "$program"
+cc -O2 -I../../include beside.c ../../crates/vurzhelik/out/libvurzhelik.a -llink-grammar -o "$program"
 "$program" ../../crates/reading/data/book.bin ./orders
