@@ -65,7 +65,7 @@ def turned(name):
         return APART[name]
     if not re.fullmatch(r"[a-z][\w'₀-₉-]*", name):
         return name
-    return re.sub(r"(?<=[a-z0-9])[A-Z]", lambda m: "_" + m[0].lower(), name).replace("-", "_")
+    return re.sub(r"(?<=[A-Za-z0-9])[A-Z]", lambda m: "_" + m[0].lower(), name).replace("-", "_")
 
 
 def declarations(root="."):

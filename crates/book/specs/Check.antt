@@ -3,7 +3,7 @@
 use Rattle.std.specs.Prelude.{ℕ, suc, ◌≤◌, ◌<◌, ◌≡◌, ◌↔◌, ◌⊎◌, true, cond, eqb, length}
 use mathlib.Core.List.{List, [], ◌∷◌, Memᴰ}
 use Rattle.figures.specs.Limits.{max_book}
-use Rattle.figures.specs.Refusals.{Reply, refusal, book_too_long, cut_short, kind_not_listed, bad_layout, undeclared_type, exponent_outside, name_used, too_many_targets, too_many_records, no_target, brackets_too_deep, not_aType, type_too_long}
+use Rattle.figures.specs.Refusals.{Reply, refusal, book_too_long, cut_short, kind_not_listed, bad_layout, undeclared_type, exponent_outside, name_used, too_many_targets, too_many_records, no_target, brackets_too_deep, not_a_type, type_too_long}
 use Rattle.order.specs.Closed.{Closed, Listed, HasPairs, closed_count}
 use Rattle.format.specs.Records.{Bytes, next_at}
 use Rattle.book.specs.Format.{Book, Parsed, accepted, refused, parse, nothing_yet, next_rules, with_next}
@@ -30,7 +30,7 @@ Breaks bytes at B number = Memᴰ (number, true) (next_rules bytes at B)
 -- The order in which the rules for a record are tried (document 02, 2.5), and the place of a number in it.
 abbrev pub rule_order : List ℕ
 rule_order =
-    cut_short ∷ kind_not_listed ∷ bad_layout ∷ brackets_too_deep ∷ not_aType ∷ undeclared_type ∷ exponent_outside ∷ type_too_long ∷ name_used ∷ too_many_targets ∷ too_many_records ∷ []
+    cut_short ∷ kind_not_listed ∷ bad_layout ∷ brackets_too_deep ∷ not_a_type ∷ undeclared_type ∷ exponent_outside ∷ type_too_long ∷ name_used ∷ too_many_targets ∷ too_many_records ∷ []
 
 unfoldable pub place_in : List ℕ → ℕ → ℕ
 place_in [] number = 0

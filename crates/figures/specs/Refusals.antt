@@ -88,8 +88,8 @@ abbrev pub brackets_too_deep : ℕ
 brackets_too_deep = 19
 
 -- Text that is no type.
-abbrev pub not_aType : ℕ
-not_aType = 20
+abbrev pub not_a_type : ℕ
+not_a_type = 20
 
 -- Text of over 12 simple types.
 abbrev pub type_too_long : ℕ

@@ -8,7 +8,7 @@ use lib.Dec.{leb, ltb, eqb}
 use borrow.Author.Tests.{lt-ltb, le-ltb}
 use lib.ListN.{length, get_or}
 use Rattle.figures.specs.Limits.{max_types, max_entries, max_targets, max_entry_simples}
-use Rattle.figures.specs.Refusals.{kind_not_listed, bad_layout, undeclared_type, exponent_outside, name_used, too_many_targets, too_many_records, brackets_too_deep, not_aType, type_too_long}
+use Rattle.figures.specs.Refusals.{kind_not_listed, bad_layout, undeclared_type, exponent_outside, name_used, too_many_targets, too_many_records, brackets_too_deep, not_a_type, type_too_long}
 use Rattle.format.proofs.Bools.{and_true}
 use Rattle.format.specs.Records.{Bytes, every}
 use Rattle.format.specs.Names.{is_name, is_among}
@@ -84,7 +84,7 @@ module _ (body : Bytes) (names : List Bytes) (entries : ℕ) (targets : ℕ) whe
       → first_broken (kind_rules slashed_entry body names entries targets)
       ≡ cond (not layout) bad_layout
       (cond deep brackets_too_deep
-      (cond (not tree) not_aType
+      (cond (not tree) not_a_type
       (cond (not declared) undeclared_type (cond (not listed) exponent_outside (cond long type_too_long (cond full too_many_records 0))))))
   unfolding first_broken
   slashed_faults l b t d e s f = rw (l, b, t, d, e, s, f)

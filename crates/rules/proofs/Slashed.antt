@@ -7,7 +7,7 @@ use mathlib.Core.List.{List}
 use lib.Dec.{leb, ltb}
 use lib.ListN.{length}
 use Rattle.figures.specs.Limits.{max_entries, max_entry_simples}
-use Rattle.figures.specs.Refusals.{bad_layout, undeclared_type, exponent_outside, too_many_records, brackets_too_deep, not_aType, type_too_long}
+use Rattle.figures.specs.Refusals.{bad_layout, undeclared_type, exponent_outside, too_many_records, brackets_too_deep, not_a_type, type_too_long}
 use Rattle.format.specs.Records.{Bytes, every}
 use Rattle.notation.specs.Brackets.{too_deep}
 use Rattle.notation.specs.Trees.{has_tree, text_type}
@@ -18,7 +18,7 @@ use Rattle.rules.specs.Rules.{bases, exponents, declared_among, exponent_listed,
 -- The rules for a slashed entry by the answers of their tests: where every text that is not too deep has listed exponents, 6 is not reached.
 not_reached :
     (worded deep tree declared listed long full : Bool) → (deep ≡ false → listed ≡ true)
-    → cond (not worded) bad_layout (cond deep brackets_too_deep (cond (not tree) not_aType (cond (not declared) undeclared_type (cond (not listed) exponent_outside (cond long type_too_long (cond full too_many_records 0))))))
+    → cond (not worded) bad_layout (cond deep brackets_too_deep (cond (not tree) not_a_type (cond (not declared) undeclared_type (cond (not listed) exponent_outside (cond long type_too_long (cond full too_many_records 0))))))
     ≡ exponent_outside
     → ⊥
 not_reached false deep tree declared listed long full h e = omega arith

@@ -11,7 +11,7 @@ use lib.Dec.{ltb, eqb}
 use lib.ListN.{length}
 use borrow.Author.Tests.{ltb-true, eqb-true, not-true, lt-ltb, eq-eqb}
 use Rattle.figures.specs.Limits.{max_entry_simples}
-use Rattle.figures.specs.Refusals.{undeclared_type, exponent_outside, brackets_too_deep, not_aType, type_too_long}
+use Rattle.figures.specs.Refusals.{undeclared_type, exponent_outside, brackets_too_deep, not_a_type, type_too_long}
 use Rattle.pregroup.specs.Types.{Simple, PregroupType, simple_left, simple_right, adjoint_by, left_adjoint, right_adjoint}
 use Rattle.format.specs.Records.{Bytes, every}
 use Rattle.format.specs.Names.{is_among}
@@ -177,7 +177,7 @@ text_ruled body names entries targets =
     let rules = body_rules slashed body names entries targets in
     record {
       is_too_deep = by_test rules brackets_too_deep (too_deep part) refl (deep_exactly part);
-      no_type = by_test rules not_aType (not (has_tree part)) refl (tree_test names part);
+      no_type = by_test rules not_a_type (not (has_tree part)) refl (tree_test names part);
       undeclared = by_test rules undeclared_type (not (declared names (text_type names part))) refl (declared_test names part);
       too_long = by_test rules type_too_long (ltb max_entry_simples (length (text_type names part))) refl (length_test names part);
       no_exponent = λ m. exponent_test names part (sym (or-false _) ∙ broken_fires rules exponent_outside m);

@@ -11,7 +11,7 @@ use lib.IntN.{ℤ, pos, negsuc}
 use lib.ListN.{length}
 use borrow.Author.Tests.{le-leb, lt-leb, lt-ltb, le-ltb}
 use Rattle.figures.specs.Limits.{max_entries, max_entry_simples, max_exponent, max_depth}
-use Rattle.figures.specs.Refusals.{undeclared_type, exponent_outside, too_many_records, brackets_too_deep, not_aType, type_too_long}
+use Rattle.figures.specs.Refusals.{undeclared_type, exponent_outside, too_many_records, brackets_too_deep, not_a_type, type_too_long}
 use Rattle.pregroup.specs.Types.{Simple, PregroupType}
 use Rattle.format.specs.Records.{Bytes, every}
 use Rattle.notation.specs.Grammar.{Tree}
@@ -112,7 +112,7 @@ module _ (names : List Bytes) (text : Bytes) (body : Bytes) (entries : ℕ) (tar
       → ltb max_entry_simples (length (text_type names text)) ≡ long → leb max_entries entries ≡ full
       → first_broken (kind_rules slashed_entry body names entries targets)
       ≡ cond deep brackets_too_deep
-      (cond (not tree) not_aType
+      (cond (not tree) not_a_type
       (cond (not declared) undeclared_type (cond (not listed) exponent_outside (cond long type_too_long (cond full too_many_records 0)))))
   text_faults b t d e s f =
       slashed_faults body names entries targets worded (ap (λ (x : Bytes). too_deep x) is ∙ b) (ap (λ (x : Bytes). has_tree x) is ∙ t)
@@ -120,10 +120,10 @@ module _ (names : List Bytes) (text : Bytes) (body : Bytes) (entries : ℕ) (tar
       (ap (λ (x : Bytes). every exponent_listed (exponents (text_type names x))) is ∙ e)
       (ap (λ (x : Bytes). ltb max_entry_simples (length (text_type names x))) is ∙ s) f
 
-  pub text_unread : length (shallow_type names text) ≡ 0 → cond (too_deep text) brackets_too_deep not_aType ≡ first_broken (kind_rules slashed_entry body names entries targets)
+  pub text_unread : length (shallow_type names text) ≡ 0 → cond (too_deep text) brackets_too_deep not_a_type ≡ first_broken (kind_rules slashed_entry body names entries targets)
   text_unread h = go (too_deep text) refl
     where
-      go : (deep : Bool) → too_deep text ≡ deep → cond deep brackets_too_deep not_aType ≡ first_broken (kind_rules slashed_entry body names entries targets)
+      go : (deep : Bool) → too_deep text ≡ deep → cond deep brackets_too_deep not_a_type ≡ first_broken (kind_rules slashed_entry body names entries targets)
       go true e = sym (text_faults e refl refl refl refl refl)
       go false e =
           sym (text_faults e (text_treeless names text (sym (ap (λ (b : Bool). length (type_if names text b)) e) ∙ h)) refl refl refl refl)

@@ -3,7 +3,7 @@
 use Rattle.std.specs.Prelude.{ℕ, ◌+◌, Bool, true, cond, not, ◌||◌, List, [], ◌∷◌, map, leb, ltb, eqb, ℤ, pos, negsuc, length}
 use Rattle.std.proofs.Math.Option.{none, some}
 use Rattle.figures.specs.Limits.{max_types, max_entries, max_targets, max_entry_simples, max_exponent}
-use Rattle.figures.specs.Refusals.{cut_short, kind_not_listed, bad_layout, undeclared_type, exponent_outside, name_used, too_many_targets, too_many_records, brackets_too_deep, not_aType, type_too_long}
+use Rattle.figures.specs.Refusals.{cut_short, kind_not_listed, bad_layout, undeclared_type, exponent_outside, name_used, too_many_targets, too_many_records, brackets_too_deep, not_a_type, type_too_long}
 use Rattle.pregroup.specs.Types.{Basic, Simple, PregroupType}
 use Rattle.format.specs.Records.{Bytes, every, head_length, kind_at, body_at, next_at}
 use Rattle.format.specs.Names.{is_name, is_among}
@@ -56,7 +56,7 @@ kind_rules slashed_entry body names entries targets =
     let meant = text_type names part in
     (bad_layout, not (is_worded body))
     ∷ (brackets_too_deep, too_deep part)
-    ∷ (not_aType, not (has_tree part))
+    ∷ (not_a_type, not (has_tree part))
     ∷ (undeclared_type, not (every (declared_among (length names)) (bases meant)))
     ∷ (exponent_outside, not (every exponent_listed (exponents meant)))
     ∷ (type_too_long, ltb max_entry_simples (length meant))

@@ -1,7 +1,7 @@
 -- Document 02, 2.5: which rules the text of a slashed entry breaks, by the grammar alone.
 use Rattle.std.specs.Prelude.{ℕ, ◌<◌, ◌≡◌, false, ◌↔◌, List, length}
 use Rattle.figures.specs.Limits.{max_entry_simples}
-use Rattle.figures.specs.Refusals.{undeclared_type, exponent_outside, brackets_too_deep, not_aType, type_too_long}
+use Rattle.figures.specs.Refusals.{undeclared_type, exponent_outside, brackets_too_deep, not_a_type, type_too_long}
 use Rattle.format.specs.Records.{Bytes}
 use Rattle.format.specs.Names.{is_among}
 use Rattle.notation.specs.Grammar.{Tree, named, over, under, IsType, meaning}
@@ -19,7 +19,7 @@ pub data Names : Bytes → Tree → Type 0 where
 -- declared; 21, its tree means over 12 simple types. The tree may be of any depth. 6 is broken only with 19, which comes before it.
 pub record TextRuled (names : List Bytes) (text : Bytes) (Broken : ℕ → Type 0) : Type 0 where
   pub is_too_deep : Broken brackets_too_deep ↔ TooDeep text
-  pub no_type : Broken not_aType ↔ ((T : Tree) → IsType text T → ⊥)
+  pub no_type : Broken not_a_type ↔ ((T : Tree) → IsType text T → ⊥)
   pub undeclared : Broken undeclared_type ↔ ((T : Tree) × IsType text T × ((name : Bytes) × Names name T × (is_among names name ≡ false)))
   pub too_long : Broken type_too_long ↔ ((T : Tree) × IsType text T × (max_entry_simples < length (meaning names T)))
   pub no_exponent : Broken exponent_outside → TooDeep text

@@ -6,7 +6,7 @@ ghost use Rattle.std.specs.Prelude.{◌≡◌, true, cond, List, ℕ, ◌+◌, �
 ghost use Rattle.pregroup.specs.Types.{PregroupType};
 ghost use Rattle.format.specs.Records.{Bytes, every, bodies_at};
 ghost use Rattle.format.specs.Names.{Named};
-ghost use Rattle.figures.specs.Refusals.{brackets_too_deep, not_aType};
+ghost use Rattle.figures.specs.Refusals.{brackets_too_deep, not_a_type};
 ghost use Rattle.notation.specs.Brackets.{too_deep};
 ghost use Rattle.notation.specs.Places.{Holds};
 ghost use Rattle.rules.specs.Layouts.{basic_type, order_pair, entry, target, slashed_entry, type_part, is_worded, simples_of};
@@ -132,7 +132,7 @@ fn entry_fault(body: &[u8], types: usize, entries: usize) -> u32
 
 // The number for a text that could not be read: its brackets are too deep, or it is no type.
 fn unread_fault(text: &[u8]) -> u32
-    ensures { result ≡ cond (too_deep text.now) brackets_too_deep not_aType }
+    ensures { result ≡ cond (too_deep text.now) brackets_too_deep not_a_type }
 {
     if is_too_deep(text) {
         return BRACKETS_TOO_DEEP;
