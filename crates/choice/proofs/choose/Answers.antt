@@ -9,7 +9,7 @@ use Rattle.graph.specs.Graph.{graph, next_at, from_at, to_at, entered_at}
 use Rattle.graph.proofs.PartLaws.{to_small}
 use Rattle.choice.specs.First.{Roomy}
 use Rattle.choice.specs.Sets.{FirstSlot}
-use Rattle.choice.proofs.Choosing.{Choosing, SameLengths, roomy_same, start_choosing, searchable, slot_found, slot_up, entered_turn, place_left, growable, simple_up, picked_by, chose}
+use Rattle.choice.proofs.Choosing.{Choosing, SameLengths, roomy_same, start_choosing, searchable, slot_found, slot_up, entered_turn, place_left, growable, picked_by, chose}
 use Rattle.choice.proofs.choose.Goals as goal
 
 pub start-requires : goal.start-requires
@@ -56,30 +56,6 @@ overflow_cast-chosen c =
     let first_one : range c.first_slot-slot.result = rw (c.from_at.ensures, c.to_at.ensures) at c.first_slot-slot.ensures in
     let found : c.first_slot-slot.result < to_at c.args.nodes.now c.loop-u.u = slot_found c.requires.choosable now c.loop-u-test.true bounds c.first_slot-slot.result first_one in
     omega (arith, found, to_small (get_or c.args.nodes.now c.loop-u.u 0))
-
-pub offset_bounds-chosen-words : goal.offset_bounds-chosen-words
-offset_bounds-chosen-words c =
-    let now : Choosing ((InRows c.args.order.now)) ((graph c.args.nodes.now c.args.slots.now)) c.loop-u.string c.loop-u.chosen c.loop-u.table c.loop-u.needs c.args.end c.loop-u.u c.loop-u.words c.loop-u.places = c.loop-u.invariant.0 in
-    let inside : (c.loop-u.u < length c.args.nodes.now) × (length c.args.nodes.now ≤ row_bits) × (c.loop-u.places + c.loop-u.words ≤ c.loop-u.u) = (now.below, c.requires.choosable.upward.few, now.few) in
-    let i = inside in
-    omega (arith, i.0, i.1, i.2)
-
-pub bounds-chosen-words : goal.bounds-chosen-words
-bounds-chosen-words c =
-    let now : Choosing ((InRows c.args.order.now)) ((graph c.args.nodes.now c.args.slots.now)) c.loop-u.string c.loop-u.chosen c.loop-u.table c.loop-u.needs c.args.end c.loop-u.u c.loop-u.words c.loop-u.places = c.loop-u.invariant.0 in
-    let lengths : SameLengths c.args.string.now c.args.chosen.now c.args.table.now c.args.needs.now c.loop-u.string c.loop-u.chosen c.loop-u.table c.loop-u.needs = let same = c.loop-u.invariant.1 in
-    record { places = same.places; words = same.words; table_rows = same.table_rows ∙ c.start.auto.table; needs_rows = same.needs_rows ∙ c.start.auto.needs } in
-    let roomy : Roomy ((graph c.args.nodes.now c.args.slots.now)) c.loop-u.string c.loop-u.chosen c.loop-u.table c.loop-u.needs = roomy_same c.requires.roomy lengths in
-    let inside : (c.loop-u.u < length c.args.nodes.now) × (length c.args.nodes.now ≤ row_bits) × (c.loop-u.places + c.loop-u.words ≤ c.loop-u.u) = (now.below, c.requires.choosable.upward.few, now.few) in
-    let i = inside in
-    omega (arith, i.0, i.2, roomy.words)
-
-pub overflow_add-words : goal.overflow_add-words
-overflow_add-words c =
-    let now : Choosing ((InRows c.args.order.now)) ((graph c.args.nodes.now c.args.slots.now)) c.loop-u.string c.loop-u.chosen c.loop-u.table c.loop-u.needs c.args.end c.loop-u.u c.loop-u.words c.loop-u.places = c.loop-u.invariant.0 in
-    let inside : (c.loop-u.u < length c.args.nodes.now) × (length c.args.nodes.now ≤ row_bits) × (c.loop-u.places + c.loop-u.words ≤ c.loop-u.u) = (now.below, c.requires.choosable.upward.few, now.few) in
-    let i = inside in
-    omega (arith, i.0, i.1, i.2)
 
 pub entered_at-u-requires : goal.entered_at-u-requires
 entered_at-u-requires c =
@@ -128,13 +104,6 @@ simple_at-requires c =
     let inside : (c.loop-u.u < length c.args.nodes.now) × (length c.args.nodes.now ≤ row_bits) × (c.loop-u.places + c.loop-u.words ≤ c.loop-u.u) = (now.below, c.requires.choosable.upward.few, now.few) in
     inside.0
 
-pub offset_bounds-string-places : goal.offset_bounds-string-places
-offset_bounds-string-places c =
-    let now : Choosing ((InRows c.args.order.now)) ((graph c.args.nodes.now c.args.slots.now)) c.loop-u.string c.loop-u.chosen c.loop-u.table c.loop-u.needs c.args.end c.loop-u.u c.loop-u.words c.loop-u.places = c.loop-u.invariant.0 in
-    let simple : next_at c.args.nodes.now c.loop-u.u ≡ 0 → ⊥ = λ e. c.if-next-eq0.false (c.next_at-next.ensures ∙ e) in
-    let left : c.loop-u.places + 1 ≤ max_places = place_left c.requires.choosable now simple in
-    omega (arith, left)
-
 pub bounds-string-places : goal.bounds-string-places
 bounds-string-places c =
     let now : Choosing ((InRows c.args.order.now)) ((graph c.args.nodes.now c.args.slots.now)) c.loop-u.string c.loop-u.chosen c.loop-u.table c.loop-u.needs c.args.end c.loop-u.u c.loop-u.words c.loop-u.places = c.loop-u.invariant.0 in
@@ -154,24 +123,6 @@ grow-requires c =
     let simple : next_at c.args.nodes.now c.loop-u.u ≡ 0 → ⊥ = λ e. c.if-next-eq0.false (c.next_at-next.ensures ∙ e) in
     rw c.simple_at.ensures (growable c.requires.choosable now simple roomy.places roomy)
 
-pub overflow_add-places : goal.overflow_add-places
-overflow_add-places c =
-    let now : Choosing ((InRows c.args.order.now)) ((graph c.args.nodes.now c.args.slots.now)) c.loop-u.string c.loop-u.chosen c.loop-u.table c.loop-u.needs c.args.end c.loop-u.u c.loop-u.words c.loop-u.places = c.loop-u.invariant.0 in
-    let simple : next_at c.args.nodes.now c.loop-u.u ≡ 0 → ⊥ = λ e. c.if-next-eq0.false (c.next_at-next.ensures ∙ e) in
-    let left : c.loop-u.places + 1 ≤ max_places = place_left c.requires.choosable now simple in
-    omega (arith, left)
-
-pub loop-u-smaller : goal.loop-u-smaller
-loop-u-smaller c =
-    let now : Choosing ((InRows c.args.order.now)) ((graph c.args.nodes.now c.args.slots.now)) c.loop-u.string c.loop-u.chosen c.loop-u.table c.loop-u.needs c.args.end c.loop-u.u c.loop-u.words c.loop-u.places = c.loop-u.invariant.0 in
-    let lengths : SameLengths c.args.string.now c.args.chosen.now c.args.table.now c.args.needs.now c.loop-u.string c.loop-u.chosen c.loop-u.table c.loop-u.needs = let same = c.loop-u.invariant.1 in
-    record { places = same.places; words = same.words; table_rows = same.table_rows ∙ c.start.auto.table; needs_rows = same.needs_rows ∙ c.start.auto.needs } in
-    let roomy : Roomy ((graph c.args.nodes.now c.args.slots.now)) c.loop-u.string c.loop-u.chosen c.loop-u.table c.loop-u.needs = roomy_same c.requires.roomy lengths in
-    let inside : (c.loop-u.u < length c.args.nodes.now) × (length c.args.nodes.now ≤ row_bits) × (c.loop-u.places + c.loop-u.words ≤ c.loop-u.u) = (now.below, c.requires.choosable.upward.few, now.few) in
-    let simple : next_at c.args.nodes.now c.loop-u.u ≡ 0 → ⊥ = λ e. c.if-next-eq0.false (c.next_at-next.ensures ∙ e) in
-    let up = simple_up c.requires.choosable now simple roomy.places in
-    omega (arith, up.0, up.1, inside.1, c.next_at-next.ensures)
-
 pub loop-u-preserved : goal.loop-u-preserved
 loop-u-preserved c =
     let lengths : SameLengths c.args.string.now c.args.chosen.now c.args.table.now c.args.needs.now c.loop-u.string c.loop-u.chosen c.loop-u.table c.loop-u.needs = let same = c.loop-u.invariant.1 in
@@ -183,30 +134,6 @@ loop-u-preserved c =
     let k = length-set l.string l.places label.result in
     let same = l.invariant.1 in
     (picked_by c.requires.choosable l.invariant.0 simple roomy.places _ _ label.ensures c.next_at-next.ensures _ _ c.grow.ensures, record { places = k ∙ same.places; words = same.words; table_rows = c.grow.auto.table ∙ same.table_rows; needs_rows = c.grow.auto.needs ∙ same.needs_rows })
-
-pub shape_of-string : goal.shape_of-string
-shape_of-string c =
-    let lengths : SameLengths c.args.string.now c.args.chosen.now c.args.table.now c.args.needs.now c.loop-u.string c.loop-u.chosen c.loop-u.table c.loop-u.needs = let same = c.loop-u.invariant.1 in
-    record { places = same.places; words = same.words; table_rows = same.table_rows ∙ c.start.auto.table; needs_rows = same.needs_rows ∙ c.start.auto.needs } in
-    lengths.places
-
-pub shape_of-chosen : goal.shape_of-chosen
-shape_of-chosen c =
-    let lengths : SameLengths c.args.string.now c.args.chosen.now c.args.table.now c.args.needs.now c.loop-u.string c.loop-u.chosen c.loop-u.table c.loop-u.needs = let same = c.loop-u.invariant.1 in
-    record { places = same.places; words = same.words; table_rows = same.table_rows ∙ c.start.auto.table; needs_rows = same.needs_rows ∙ c.start.auto.needs } in
-    lengths.words
-
-pub shape_of-table : goal.shape_of-table
-shape_of-table c =
-    let lengths : SameLengths c.args.string.now c.args.chosen.now c.args.table.now c.args.needs.now c.loop-u.string c.loop-u.chosen c.loop-u.table c.loop-u.needs = let same = c.loop-u.invariant.1 in
-    record { places = same.places; words = same.words; table_rows = same.table_rows ∙ c.start.auto.table; needs_rows = same.needs_rows ∙ c.start.auto.needs } in
-    lengths.table_rows
-
-pub shape_of-needs : goal.shape_of-needs
-shape_of-needs c =
-    let lengths : SameLengths c.args.string.now c.args.chosen.now c.args.table.now c.args.needs.now c.loop-u.string c.loop-u.chosen c.loop-u.table c.loop-u.needs = let same = c.loop-u.invariant.1 in
-    record { places = same.places; words = same.words; table_rows = same.table_rows ∙ c.start.auto.table; needs_rows = same.needs_rows ∙ c.start.auto.needs } in
-    lengths.needs_rows
 
 pub returns : goal.returns
 returns c =

@@ -27,9 +27,6 @@ loop-k-preserved c =
     let l = c.loop-k in
     (l.invariant.0, omega arith, apart_one _ _ _ _ l.k l.invariant.2 (λ m. true≢false (sym (c.meets_in.ensures.1 m) ∙ c.if-meets_in.false)))
 
-pub overflow_add-s : goal.overflow_add-s
-overflow_add-s c = omega (arith, c.requires.there)
-
 pub search-preserved : goal.search-preserved
 search-preserved c =
     let l = c.loop-k in

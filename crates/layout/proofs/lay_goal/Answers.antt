@@ -11,11 +11,6 @@ use Rattle.graph.specs.Graph.{simple_in, next_in, to_in, entered_in}
 use Rattle.graph.proofs.TargetLaws.{target_adjoint}
 use Rattle.layout.proofs.lay_goal.Goals as goal
 
-pub bounds-nodes-end : goal.bounds-nodes-end
-bounds-nodes-end c =
-    let a_ = c.args in
-    omega (arith, length-set a_.nodes.now a_.node c.simple_node.result, c.requires.room.nodes)
-
 pub returns : goal.returns
 returns c =
     let adjoint-there : get_or {A = ℕ} (set (set c.args.nodes.now c.args.node c.simple_node.result) (c.args.node + 1) c.boundary_node.result) c.args.node 0 ≡ c.simple_node.result = get_or-set_other (set c.args.nodes.now c.args.node c.simple_node.result) (c.args.node + 1) c.args.node c.boundary_node.result 0 (omega arith) ∙ get_or-set_same c.args.nodes.now c.args.node c.simple_node.result 0 (omega (arith, c.requires.node_fits, c.requires.room.nodes)) in

@@ -11,25 +11,8 @@ use Rattle.lookup.specs.Threads.{Thread}
 use Rattle.layout.proofs.WordLaws.{word_place, word_lined}
 use Rattle.layout.proofs.lay_word.Goals as goal
 
-pub overflow_add-boundary : goal.overflow_add-boundary
-overflow_add-boundary c = omega (arith, c.requires.fits)
-
 pub tally-requires : goal.tally-requires
 tally-requires c = (c.requires.same_room, (_, c.requires.vocabulary.lexicon, (c.requires.all, c.requires.thread)))
-
-pub overflow_add-boundary-2 : goal.overflow_add-boundary-2
-overflow_add-boundary-2 c =
-    let next : let a = c.args in
-    (es : List NumberedEntry) → Thread a.book.now (bodies_at a.book.now a.names.now a.types) a.entries.now a.same.now a.first es → (c.args.p.node + 1 + c.tally.result) ≡ a.p.node + 1 + simples_in es = λ es t. ap (λ (m : ℕ). c.args.p.node + 1 + m) (c.tally.ensures _ es c.requires.vocabulary.lexicon t).total in
-    let low : (c.args.p.node + 1 + c.tally.result) < max_nodes = omega (arith, next c.requires.all c.requires.thread, c.requires.fits) in
-    omega (arith, low)
-
-pub overflow_add-inside : goal.overflow_add-inside
-overflow_add-inside c =
-    let next : let a = c.args in
-    (es : List NumberedEntry) → Thread a.book.now (bodies_at a.book.now a.names.now a.types) a.entries.now a.same.now a.first es → (c.args.p.node + 1 + c.tally.result) ≡ a.p.node + 1 + simples_in es = λ es t. ap (λ (m : ℕ). c.args.p.node + 1 + m) (c.tally.ensures _ es c.requires.vocabulary.lexicon t).total in
-    let low : (c.args.p.node + 1 + c.tally.result) < max_nodes = omega (arith, next c.requires.all c.requires.thread, c.requires.fits) in
-    omega (arith, low)
 
 pub lay_entries-last-requires : goal.lay_entries-last-requires
 lay_entries-last-requires c =
@@ -48,24 +31,6 @@ boundary_node-requires c =
     (omega (arith, low), omega (arith, low, c.requires.standing.few), omega (arith, l.place.few, l.place.inside, l.place.small)) in
     let at = stored in
     (omega (arith, at.1), omega (arith, at.2))
-
-pub offset_bounds-nodes-node : goal.offset_bounds-nodes-node
-offset_bounds-nodes-node c =
-    let next : let a = c.args in
-    (es : List NumberedEntry) → Thread a.book.now (bodies_at a.book.now a.names.now a.types) a.entries.now a.same.now a.first es → (c.args.p.node + 1 + c.tally.result) ≡ a.p.node + 1 + simples_in es = λ es t. ap (λ (m : ℕ). c.args.p.node + 1 + m) (c.tally.ensures _ es c.requires.vocabulary.lexicon t).total in
-    let low : (c.args.p.node + 1 + c.tally.result) < max_nodes = omega (arith, next c.requires.all c.requires.thread, c.requires.fits) in
-    let stored : (c.args.p.node < max_nodes) × (c.args.p.slot < max_nodes) × (c.lay_entries-last.result.slot < max_nodes) = let l = c.lay_entries-last.ensures c.requires.all c.requires.thread in
-    (omega (arith, low), omega (arith, low, c.requires.standing.few), omega (arith, l.place.few, l.place.inside, l.place.small)) in
-    omega (arith, stored.0)
-
-pub bounds-nodes-node : goal.bounds-nodes-node
-bounds-nodes-node c =
-    let next : let a = c.args in
-    (es : List NumberedEntry) → Thread a.book.now (bodies_at a.book.now a.names.now a.types) a.entries.now a.same.now a.first es → (c.args.p.node + 1 + c.tally.result) ≡ a.p.node + 1 + simples_in es = λ es t. ap (λ (m : ℕ). c.args.p.node + 1 + m) (c.tally.ensures _ es c.requires.vocabulary.lexicon t).total in
-    let low : (c.args.p.node + 1 + c.tally.result) < max_nodes = omega (arith, next c.requires.all c.requires.thread, c.requires.fits) in
-    let stored : (c.args.p.node < max_nodes) × (c.args.p.slot < max_nodes) × (c.lay_entries-last.result.slot < max_nodes) = let l = c.lay_entries-last.ensures c.requires.all c.requires.thread in
-    (omega (arith, low), omega (arith, low, c.requires.standing.few), omega (arith, l.place.few, l.place.inside, l.place.small)) in
-    omega (arith, stored.0, c.lay_entries-last.auto.nodes, c.requires.standing.room.nodes)
 
 pub returns : goal.returns
 returns c =

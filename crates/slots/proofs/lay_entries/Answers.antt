@@ -1,8 +1,7 @@
 -- `slots::lay_entries` meets its contract: the entries passed are laid, and the thread goes on with the rest.
 use native.Mathlib.Omega.{arith}
-use Prim.Native.Nat.{◌≤◌, ◌<◌}
+use Prim.Native.Nat.{◌<◌}
 use lib.ListN.{get_or, length}
-use Rattle.figures.specs.Limits.{max_entries}
 use Rattle.format.specs.Records.{bodies_at}
 use Rattle.book.specs.Kept.{entry_from, HeldType}
 use Rattle.lookup.proofs.ThreadLaws.{thread_next}
@@ -12,12 +11,6 @@ use Rattle.slots.proofs.lay_entries.Goals as goal
 
 pub loop-i-init : goal.loop-i-init
 loop-i-init c = λ es t. entering_start t c.requires.place
-
-pub offset_bounds-entries-i : goal.offset_bounds-entries-i
-offset_bounds-entries-i c = omega (arith, c.loop-i-test.true, c.requires.vocabulary.lexicon.kept.few)
-
-pub bounds-entries-i : goal.bounds-entries-i
-bounds-entries-i c = c.loop-i-test.true
 
 pub entry_type-t-requires : goal.entry_type-t-requires
 entry_type-t-requires c =
@@ -35,17 +28,6 @@ lay_slot-place-requires c =
     HeldType c.entry_type-t.result (entry_from a.book.now (bodies_at a.book.now a.names.now a.types) (get_or a.entries.now c.loop-i.i 0)).type = rw c.wide_number.ensures at c.entry_type-t.ensures in
     entering_fits entering within c.entry_type-t.result read c.requires.vocabulary.lexicon.kept.few c.requires.fits
 
-pub offset_bounds-same-i : goal.offset_bounds-same-i
-offset_bounds-same-i c =
-    let within : c.loop-i.i < length c.args.entries.now = c.loop-i-test.true in
-    let few : length c.args.entries.now ≤ max_entries = c.requires.vocabulary.lexicon.kept.few in
-    omega (arith, within, few)
-
-pub bounds-same-i : goal.bounds-same-i
-bounds-same-i c =
-    let within : c.loop-i.i < length c.args.entries.now = c.loop-i-test.true in
-    omega (arith, within, c.requires.same_room)
-
 pub loop-i-smaller : goal.loop-i-smaller
 loop-i-smaller c =
     let entering : let a = c.args in
@@ -60,20 +42,6 @@ loop-i-preserved c =
     let read : let a = c.args in
     HeldType c.entry_type-t.result (entry_from a.book.now (bodies_at a.book.now a.names.now a.types) (get_or a.entries.now c.loop-i.i 0)).type = rw c.wide_number.ensures at c.entry_type-t.ensures in
     λ es u. entering_next (c.loop-i.invariant es u) within c.entry_type-t.result read _ c.wide_number-i.ensures c.lay_slot-place.ensures c.lay_slot-place.auto.nodes c.lay_slot-place.auto.slots
-
-pub shape_of-nodes : goal.shape_of-nodes
-shape_of-nodes c =
-    let entering : let a = c.args in
-    let l = c.loop-i in
-    Entering a.book.now a.names.now a.types a.entries.now a.same.now a.boundary a.p (graph a.nodes.now a.slots.now) c.requires.all l.place (graph l.nodes l.slots) l.i = c.loop-i.invariant c.requires.all c.requires.thread in
-    entering.nodes_length
-
-pub shape_of-slots : goal.shape_of-slots
-shape_of-slots c =
-    let entering : let a = c.args in
-    let l = c.loop-i in
-    Entering a.book.now a.names.now a.types a.entries.now a.same.now a.boundary a.p (graph a.nodes.now a.slots.now) c.requires.all l.place (graph l.nodes l.slots) l.i = c.loop-i.invariant c.requires.all c.requires.thread in
-    entering.slots_length
 
 pub returns : goal.returns
 returns c = λ es t. entering_end (c.loop-i.invariant es t) c.loop-i-test.false
