@@ -13,10 +13,6 @@ use Rattle.pregroup.specs.Held.{bias, held}
 use Rattle.pregroup.proofs.HeldLaws.{held_up, held_down}
 use Rattle.notation.specs.Places.{Holds, one, Movable, moved, Turnable, StretchTurned, Tame}
 
--- A store leaves every place inside.
-pub still_inside : (l : List ℕ) (i x : ℕ) {k : ℕ} → k < length l → k < length (set l i x)
-still_inside l i x h = omega (arith, length-set l i x)
-
 -- One place alone is turned where it stands.
 pub turned_alone :
     {left : Bool} {places : List ℕ} {from end x : ℕ} → Turnable places from end → end - from ≡ 1 → x ≡ moved left (get_or {A = ℕ} places from 0)

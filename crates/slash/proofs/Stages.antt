@@ -97,10 +97,3 @@ stage_backslash at_first z first (ended h e) n k t = absurd (omega (arith, e, n)
 stage_backslash at_first z first (no_sign h s u e) n k t = absurd (omega (arith, e, n))
 stage_backslash (behind_slash f h b) z first s n k t = absurd (omega (arith, z))
 stage_backslash (behind_backslash f j u h b) z first s n k t = absurd (omega (arith, z))
-
--- A sign stands inside the text.
-pub sign_inside : {text : Bytes} {at sign : ℕ} → SignAt text at sign → (sign ≡ 0 → ⊥) → at < length text
-sign_inside (a_slash h b e) n = h
-sign_inside (a_backslash h b e) n = h
-sign_inside (ended h e) n = absurd (n e)
-sign_inside (no_sign h s t e) n = absurd (n e)

@@ -1,18 +1,7 @@
 -- `capitals::small_eight` meets its contract: the sums stay within each byte, and what is added is 32 to each capital.
 use native.Mathlib.Omega.{arith}
-use lib.Bits.{and_le_r}
-use Rattle.capitals.proofs.EightLaws.{each, number_small, number_below}
+use Rattle.capitals.proofs.EightLaws.{number_small, number_below}
 use Rattle.capitals.proofs.small_eight.Goals as goal
-
-pub overflow_add-like : goal.overflow_add-like
-overflow_add-like c =
-    let low = and_le_r c.args.bytes (each 127 8) in
-    omega (arith, low)
-
-pub overflow_add-like-2 : goal.overflow_add-like-2
-overflow_add-like-2 c =
-    let low = and_le_r c.args.bytes (each 127 8) in
-    omega (arith, low)
 
 pub overflow_add-result : goal.overflow_add-result
 overflow_add-result c =

@@ -15,20 +15,11 @@ use Rattle.slash.proofs.read_name.Goals as goal
 pub returns-then-not-is_letter : goal.returns-then-not-is_letter
 returns-then-not-is_letter c = says_nothing (name_other _ _ c.requires.1 (sym c.is_letter.ensures ∙ c.if-not-is_letter.true)) refl
 
-pub overflow_sub-behind : goal.overflow_sub-behind
-overflow_sub-behind c = omega (arith, c.name_end-behind.ensures.forth)
-
 pub returns-then-behind-at-gt-MAX_NAME : goal.returns-then-behind-at-gt-MAX_NAME
 returns-then-behind-at-gt-MAX_NAME c =
     let letter : between 97 122 (get_or {A = ℕ} c.args.text.now c.args.at 0) ≡ true = sym c.is_letter.ensures ∙ c.if-not-is_letter.false in
     let begun : NameEnds c.args.text.now c.args.at c.name_end-behind.result = name_begins c.requires.1 letter c.name_end-behind.ensures in
     says_nothing (name_long begun (omega arith)) refl
-
-pub slice_bounds-find_name-count : goal.slice_bounds-find_name-count
-slice_bounds-find_name-count c = omega (arith, c.name_end-behind.ensures.forth)
-
-pub slice_bounds-find_name-start : goal.slice_bounds-find_name-start
-slice_bounds-find_name-start c = omega (arith, c.name_end-behind.ensures.forth)
 
 pub overflow_cast-number : goal.overflow_cast-number
 overflow_cast-number c = record { fits = number_small _ c.requires.0.named c.find_name-number.ensures }

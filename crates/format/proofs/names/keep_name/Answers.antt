@@ -1,13 +1,9 @@
 -- `format::names::keep_name` meets its contract: both stores, the second behind all offsets.
 use native.Mathlib.Omega.{arith}
 use mathlib.Core.Path.{refl}
-use lib.ListN.{length-set}
 use Prim.Native.Nat.{◌+◌}
 use Rattle.figures.specs.Limits.{max_types}
 use Rattle.format.proofs.names.keep_name.Goals as goal
-
-pub bounds-names-place : goal.bounds-names-place
-bounds-names-place c = omega (arith, c.requires.2, c.name_key-place.ensures, length-set c.args.names.now c.args.types c.args.at)
 
 pub returns : goal.returns
 returns c = record { place = max_types + c.name_key-place.result; behind = omega arith; kept = refl }
