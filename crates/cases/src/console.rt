@@ -13,15 +13,16 @@ pub fn write_number(rt: &HostRuntime, value: u64) -> io::Result<()> {
     print!(rt; "{value}")
 }
 
-// Puts standard input, or as much of it as there is room for, at the start of `buf`.
-pub fn take_input(rt: &HostRuntime, buf: &mut Space) -> io::Result<()> {
+// Puts standard input, or as much of it as there is room for and can be read, at the start of `buf`.
+pub fn take_input(rt: &HostRuntime, buf: &mut Space) {
     let mut done = 0;
     while done < ROOM {
-        let got = rt.stdin().read(&mut buf[done..])?;
+        let Ok(got) = rt.stdin().read(&mut buf[done..]) else {
+            return;
+        };
         if got == 0 {
-            return Ok(());
+            return;
         }
         done += got;
     }
-    Ok(())
 }

@@ -13,7 +13,7 @@ use std::io;
 fn main(rt: HostRuntime) -> io::Result<()> {
     refusals::rows(&rt)?;
     let mut script = [0u8; ROOM];
-    take_input(&rt, &mut script)?;
+    take_input(&rt, &mut script);
     let mut book = [0u8; ROOM];
     rows::rows(&rt, &script, &mut book)
 }

@@ -1,8 +1,7 @@
 // What the program is given: a line from standard input, and the book from a file.
-ghost use Rattle.std.specs.Prelude.{◌≡◌, ◌≤◌, length, take, IfOk, OnErr};
+ghost use Rattle.std.specs.Prelude.{◌≡◌, ◌≤◌, length, take};
 
 use std::fs::File;
-use std::io;
 use std::io::Read;
 
 pub const MAX_LINE: usize = 4096;
@@ -12,64 +11,62 @@ pub const LINE_ROOM: usize = MAX_LINE + 1;
 
 const LINE_END: u8 = 10;
 
-// The next byte of standard input. The end of the input counts as a line's end.
-fn next_byte(rt: &HostRuntime) -> io::Result<u8> {
+// The next byte of standard input. The end of the input counts as a line's end, and so does a failed read.
+fn next_byte(rt: &HostRuntime) -> u8 {
     let mut one = [0u8; 1];
-    let got = rt.stdin().read(&mut one)?;
-    if got == 0 {
-        return Ok(LINE_END);
+    match rt.stdin().read(&mut one) {
+        Ok(1) => one[0],
+        _ => LINE_END,
     }
-    Ok(one[0])
 }
 
 // Puts standard input up to the first line's end at the start of `line`, and gives its length, or that of `line` where it is not shorter.
 // What stands behind the line's end is not read.
-pub fn take_line(rt: &HostRuntime, line: &mut [u8]) -> io::Result<usize>
-    ensures within { IfOk result (λ n. n ≤ length line.new) }
-    ensures counted { IfOk result (λ n. n ≡ length (take n line.new)) }
-    ensures failed { OnErr result (length line.new ≡ length line.old) }
+pub fn take_line(rt: &HostRuntime, line: &mut [u8]) -> usize
+    ensures within { result ≤ length line.new }
+    ensures counted { result ≡ length (take result line.new) }
 {
     let mut length = 0;
     while length < line.len() {
-        let byte = next_byte(rt)?;
+        let byte = next_byte(rt);
         if byte == LINE_END {
-            return Ok(length);
+            return length;
         }
         line[length] = byte;
         length += 1;
     }
-    Ok(length)
+    length
 }
 
-// Puts a file, or as much of it as there is room for, at the start of `book`, and gives the number of its bytes there.
-fn take_file(file: &mut File, book: &mut [u8]) -> io::Result<usize>
-    ensures within { IfOk result (λ n. n ≤ length book.new) }
-    ensures counted { IfOk result (λ n. n ≡ length (take n book.new)) }
-    ensures failed { OnErr result (length book.new ≡ length book.old) }
+// Puts a file, or as much of it as there is room for and can be read, at the start of `book`, and gives the number of its bytes there.
+fn take_file(file: &mut File, book: &mut [u8]) -> usize
+    ensures within { result ≤ length book.new }
+    ensures counted { result ≡ length (take result book.new) }
 {
     let mut length = 0;
     while length < book.len() {
-        let got = file.read(&mut book[length..])?;
+        let Ok(got) = file.read(&mut book[length..]) else {
+            return length;
+        };
         if got == 0 {
-            return Ok(length);
+            return length;
         }
         length += got;
     }
-    Ok(length)
+    length
 }
 
 // Puts the file `book.bin`, or as much of it as there is room for, at the start of `book`, and gives the number of its bytes there. A file
 // that cannot be opened has none.
-pub fn take_book(rt: &HostRuntime, book: &mut [u8]) -> io::Result<usize>
-    ensures within { IfOk result (λ n. n ≤ length book.new) }
-    ensures counted { IfOk result (λ n. n ≡ length (take n book.new)) }
-    ensures failed { OnErr result (length book.new ≡ length book.old) }
+pub fn take_book(rt: &HostRuntime, book: &mut [u8]) -> usize
+    ensures within { result ≤ length book.new }
+    ensures counted { result ≡ length (take result book.new) }
 {
     match File::open(rt, "book.bin") {
         Ok(file) => {
             let mut file = file;
             take_file(&mut file, book)
         }
-        Err(_) => Ok(0),
+        Err(_) => 0,
     }
 }

@@ -30,12 +30,12 @@ fn answer_line(rt: &HostRuntime, book: &[u8], line: &[u8]) -> io::Result<()> {
 
 fn main(rt: HostRuntime) -> io::Result<()> {
     let mut line = [0u8; LINE_ROOM];
-    let length = input::take_line(&rt, &mut line)?;
+    let length = input::take_line(&rt, &mut line);
     if MAX_LINE < length {
         io::writer(&rt).write_all(b"long\n")?;
         return Ok(());
     }
     let mut book = [0u8; BOOK_ROOM];
-    let size = input::take_book(&rt, &mut book)?;
+    let size = input::take_book(&rt, &mut book);
     answer_line(&rt, &book[..size], &line[..length])
 }
