@@ -22,9 +22,6 @@ module _ (chart : List ℕ) (u : ℕ) (needs : List ℕ) (n : ℕ) where
   abbrev pub Apart : ℕ → Type 0
   Apart k = (v : ℕ) → v / 64 < k → InRow chart u v → InRow needs n v → ⊥
 
-  pub apart_starts : Apart 0
-  apart_starts v h = absurd (omega arith)
-
   pub apart_one : (k : ℕ) → Apart k → (MeetsIn chart u needs n k → ⊥) → Apart (k + 1)
   apart_one k before out v h a b = at (less_or_not (v / 64) k)
     where

@@ -13,9 +13,6 @@ pub record Passed (slots chart needs : List ℕ) (n from s : ℕ) : Type 0 where
   pub from_on : from ≤ s
   pub none : (r : ℕ) → from ≤ r → r < s → Meets chart (entered_at slots r) needs n → ⊥
 
-pub pass_starts : (slots chart needs : List ℕ) (n from : ℕ) → Passed slots chart needs n from from
-pass_starts slots chart needs n from = record { from_on = omega arith; none = λ r l h. absurd (omega arith) }
-
 module _ (slots chart needs : List ℕ) (n from s : ℕ) (before : Passed slots chart needs n from s) where
   passed_at :
       (Meets chart (entered_at slots s) needs n → ⊥) → (r : ℕ) → from ≤ r → r < s + 1 → (r < s) ⊎ (s ≤ r) → Meets chart (entered_at slots r) needs n → ⊥

@@ -14,7 +14,7 @@ use Rattle.graph.specs.Graph.{Graph, graph, simple_in, next_in, from_in, to_in, 
 use Rattle.graph.specs.Layout.{End, goal}
 use Rattle.slots.specs.Laying.{Continues}
 use Rattle.slots.specs.declared.Place.{Place}
-use Rattle.layout.specs.LineLayout.{Standing, goal_at, end_at, nodes_with, line_graph, GoalFits, GoalLaid, Ended}
+use Rattle.layout.specs.LineLayout.{Standing, goal_at, end_at, nodes_with, line_graph, GoalLaid, Ended}
 use Rattle.layout.proofs.WordLaws.{nexts_still, tos_still, enters_still}
 
 -- How the loop over the targets stands before target t, from this last boundary and its first slot on: the targets before it are laid.
@@ -30,31 +30,9 @@ pub record Ending (targets : List Basic) (last slot : ℕ) (g₀ g : Graph) (t :
   pub entered : (u : ℕ) → u < t → entered_at g.slots (slot + u) ≡ goal_at last u
 
 module _ {targets : List Basic} {p : Place} {g₀ : Graph} (s : Standing p g₀) (fits : nodes_with p.node (length targets) ≤ max_nodes) where
-  pub ending_start : Ending targets p.node p.slot g₀ g₀ 0
-  ending_start =
-      record {
-        passed = omega arith;
-        nodes_length = refl;
-        slots_length = refl;
-        kept = record { nodes = λ x h. refl; slots = λ y h. refl };
-        label = λ u h. absurd (omega arith);
-        next = λ u h. absurd (omega arith);
-        bounds = λ u h. absurd (omega arith);
-        closed = λ u h. absurd (omega arith);
-        entered = λ u h. absurd (omega arith);
-      }
-
   module _ {g : Graph} {t : ℕ} (a : Ending targets p.node p.slot g₀ g t) (h : t < length targets) where
     abbrev at : ℕ
     at = goal_at p.node t
-
-    pub goal_fits : GoalFits at (p.slot + t) g
-    goal_fits =
-        record {
-          node_fits = omega arith;
-          slot_fits = omega (arith, s.few);
-          room = record { nodes = omega (arith, a.nodes_length, s.room.nodes); slots = omega (arith, a.slots_length, s.room.slots) };
-        }
 
     module _ {g' : Graph} (new : GoalLaid (target_at targets t) at (p.slot + t) g g') where
       -- What holds of a target's node and end holds with one target more.

@@ -16,8 +16,8 @@ use Rattle.graph.specs.Graph.{Graph}
 use Rattle.figures.specs.Limits.{max_nodes, max_targets}
 use Rattle.slots.specs.Laying.{Continues}
 use Rattle.slots.specs.declared.Place.{Place}
-use Rattle.layout.specs.LineLayout.{start_place, end_at, nodes_with, line_graph, Room, Lined, WordFits, Ended, LaidOut}
-use Rattle.layout.proofs.WordLaws.{lined_then, lined_here}
+use Rattle.layout.specs.LineLayout.{start_place, end_at, nodes_with, line_graph, Lined, WordFits, Ended, LaidOut}
+use Rattle.layout.proofs.WordLaws.{lined_then}
 
 none_left : (ws : Words) → length ws ≡ 0 → ws ≡ []
 none_left [] e = refl
@@ -47,23 +47,6 @@ parted none h = absurd (omega arith)
 parted (word {k} {es} {words} t ts) h = record { all = es; behind = words; is = refl; thread = t; ahead = ts }
 
 module _ {bytes : Bytes} {names : List ℕ} {types : ℕ} {entries same firsts : List ℕ} {g : Graph} where
-  pub lining_start : {ws : Words} → ThreadedWords bytes names types entries same firsts ws → Room g → Lining bytes names types entries same firsts g ws start_place g 0
-  lining_start {ws} found room =
-      record {
-        left = ws;
-        ahead = found.threads;
-        as_many = omega (arith, found.as_many);
-        lined = lined_here start_place g ws (record {
-          few = omega arith;
-          room = room;
-          nexts_up = λ x h. absurd (omega arith);
-          tos_low = λ x h. absurd (omega arith);
-          enters_up = λ x y h. absurd (omega arith);
-        });
-        nodes_length = refl;
-        slots_length = refl;
-      }
-
   module _ {ws : Words} {place : Place} {g' : Graph} {k : ℕ} (s : Lining bytes names types entries same firsts g ws place g' k) where
     pub lining_end : length firsts ≤ k → Lined start_place g place g' ws []
     lining_end h = subst (λ (vs : Words). Lined start_place g place g' ws vs) (none_left s.left (omega (arith, s.as_many))) s.lined

@@ -14,9 +14,9 @@ use Rattle.lookup.proofs.ThreadLaws.{simples_cons}
 use Rattle.graph.specs.Graph.{Graph, graph, next_in, from_in, to_in, next_at, from_at, to_at, entered_at, Boundary}
 use Rattle.graph.specs.Layout.{slotted, Slots, none, Laid, goal, word}
 use Rattle.figures.specs.Limits.{max_nodes}
-use Rattle.slots.specs.Laying.{Continues, GoesOn, Within, Lays}
+use Rattle.slots.specs.Laying.{Continues, GoesOn, Lays}
 use Rattle.slots.specs.declared.Place.{Place}
-use Rattle.slots.proofs.TypeLaws.{continues_back, kept_here}
+use Rattle.slots.proofs.TypeLaws.{continues_back}
 use Rattle.layout.specs.LineLayout.{Standing, Lined}
 
 laid_boundary : {g : Graph} {t : Basic} {u end : ℕ} {words : Words} → Laid g t u words end → Boundary g u
@@ -34,17 +34,6 @@ lined_then s s' =
       count = s'.count ∙ s.count;
       node_on = omega (arith, s.node_on, s'.node_on);
       slot_on = omega (arith, s.slot_on, s'.slot_on);
-    }
-
-pub lined_here : (p : Place) (g : Graph) (ws : Words) → Standing p g → Lined p g p g ws ws
-lined_here p g ws s =
-    record {
-      laid = λ h k t end rest. rest;
-      kept = kept_here p.node p.slot g;
-      standing = s;
-      count = refl;
-      node_on = omega arith;
-      slot_on = omega arith;
     }
 
 -- What stands below a place is so in a graph that goes on from there.
@@ -71,17 +60,6 @@ module _ {p : Place} {g g' : Graph} (s : Standing p g) (kept : Continues p.node 
 module _ {p : Place} {g : Graph} (s : Standing p g) (es : List NumberedEntry) {b : ℕ} (next : b ≡ p.node + 1 + simples_in es) (small : b < max_nodes) where
   abbrev first : Place
   first = record { node = p.node + 1; slot = p.slot; seen = false }
-
-  pub word_place : Within b first g
-  word_place =
-      record {
-        few = omega (arith, s.few);
-        spare = λ e. omega (arith, s.few);
-        inside = omega arith;
-        small = small;
-        nodes_room = s.room.nodes;
-        slots_room = s.room.slots;
-      }
 
   -- Its entries are laid, and its boundary is stored, with the range of its slots.
   module _ {last : Place} {g' : Graph} (t : Lays b first g last g' es []) (new : ℕ) (bounds : next_in new ≡ 0) (from : from_in new ≡ p.slot) (to : to_in new ≡ last.slot) where

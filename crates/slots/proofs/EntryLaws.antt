@@ -194,12 +194,6 @@ pub record Entering (bytes : Bytes) (names : List ℕ) (types : ℕ) (entries sa
   pub nodes_length : length g'.nodes ≡ length g.nodes
   pub slots_length : length g'.slots ≡ length g.slots
 
-pub entering_start :
-    {bytes : Bytes} {names : List ℕ} {types : ℕ} {entries same : List ℕ} {b : ℕ} {p : Place} {g : Graph} {first : ℕ} {es : List NumberedEntry}
-    → Thread bytes (bodies_at bytes names types) entries same first es → Within b p g → Entering bytes names types entries same b p g es p g first
-entering_start {b} {p} {g} {es} t place =
-    record { rest = es; ahead = t; lays = lays_same b p g es es place refl refl; nodes_length = refl; slots_length = refl }
-
 module _ {bytes : Bytes} {names : List ℕ} {types : ℕ} {entries same : List ℕ} {b : ℕ} {p : Place} {g : Graph} {es : List NumberedEntry} {place : Place} {g' : Graph} {i : ℕ}
     (s : Entering bytes names types entries same b p g es place g' i) where
   pub entering_end : length entries ≤ i → Lays b p g place g' es []

@@ -12,44 +12,22 @@ use Rattle.choice.specs.Sets.{FirstSlot}
 use Rattle.choice.proofs.Choosing.{Choosing, SameLengths, roomy_same, start_choosing, searchable, slot_found, slot_up, entered_turn, place_left, growable, picked_by, chose}
 use Rattle.choice.proofs.choose.Goals as goal
 
-pub start-requires : goal.start-requires
-start-requires c =
-    record { small = omega (arith, c.requires.choosable.inside, c.requires.choosable.upward.few); table_room = c.requires.roomy.table_rows 0 (omega arith); needs_room = c.requires.roomy.needs_rows 0 (omega arith) }
-
 pub loop-u-init : goal.loop-u-init
 loop-u-init c =
     (start_choosing c.requires.choosable _ _ _ _ c.start.ensures, record { places = refl; words = refl; table_rows = refl; needs_rows = refl })
 
-pub next_at-next-requires : goal.next_at-next-requires
-next_at-next-requires c =
-    let now : Choosing ((InRows c.args.order.now)) ((graph c.args.nodes.now c.args.slots.now)) c.loop-u.string c.loop-u.chosen c.loop-u.table c.loop-u.needs c.args.end c.loop-u.u c.loop-u.words c.loop-u.places = c.loop-u.invariant.0 in
-    let inside : (c.loop-u.u < length c.args.nodes.now) × (length c.args.nodes.now ≤ row_bits) × (c.loop-u.places + c.loop-u.words ≤ c.loop-u.u) = (now.below, c.requires.choosable.upward.few, now.few) in
-    inside.0
-
-pub from_at-requires : goal.from_at-requires
-from_at-requires c =
-    let now : Choosing ((InRows c.args.order.now)) ((graph c.args.nodes.now c.args.slots.now)) c.loop-u.string c.loop-u.chosen c.loop-u.table c.loop-u.needs c.args.end c.loop-u.u c.loop-u.words c.loop-u.places = c.loop-u.invariant.0 in
-    let inside : (c.loop-u.u < length c.args.nodes.now) × (length c.args.nodes.now ≤ row_bits) × (c.loop-u.places + c.loop-u.words ≤ c.loop-u.u) = (now.below, c.requires.choosable.upward.few, now.few) in
-    inside.0
-
-pub to_at-requires : goal.to_at-requires
-to_at-requires c =
-    let now : Choosing ((InRows c.args.order.now)) ((graph c.args.nodes.now c.args.slots.now)) c.loop-u.string c.loop-u.chosen c.loop-u.table c.loop-u.needs c.args.end c.loop-u.u c.loop-u.words c.loop-u.places = c.loop-u.invariant.0 in
-    let inside : (c.loop-u.u < length c.args.nodes.now) × (length c.args.nodes.now ≤ row_bits) × (c.loop-u.places + c.loop-u.words ≤ c.loop-u.u) = (now.below, c.requires.choosable.upward.few, now.few) in
-    inside.0
-
 pub first_slot-slot-requires : goal.first_slot-slot-requires
 first_slot-slot-requires c =
-    let now : Choosing ((InRows c.args.order.now)) ((graph c.args.nodes.now c.args.slots.now)) c.loop-u.string c.loop-u.chosen c.loop-u.table c.loop-u.needs c.args.end c.loop-u.u c.loop-u.words c.loop-u.places = c.loop-u.invariant.0 in
+    let now : Choosing (InRows c.args.order.now) (graph c.args.nodes.now c.args.slots.now) c.loop-u.string c.loop-u.chosen c.loop-u.table c.loop-u.needs c.args.end c.loop-u.u c.loop-u.words c.loop-u.places = c.loop-u.invariant.0 in
     let lengths : SameLengths c.args.string.now c.args.chosen.now c.args.table.now c.args.needs.now c.loop-u.string c.loop-u.chosen c.loop-u.table c.loop-u.needs = let same = c.loop-u.invariant.1 in
     record { places = same.places; words = same.words; table_rows = same.table_rows ∙ c.start.auto.table; needs_rows = same.needs_rows ∙ c.start.auto.needs } in
-    let roomy : Roomy ((graph c.args.nodes.now c.args.slots.now)) c.loop-u.string c.loop-u.chosen c.loop-u.table c.loop-u.needs = roomy_same c.requires.roomy lengths in
+    let roomy : Roomy (graph c.args.nodes.now c.args.slots.now) c.loop-u.string c.loop-u.chosen c.loop-u.table c.loop-u.needs = roomy_same c.requires.roomy lengths in
     let bounds : next_at c.args.nodes.now c.loop-u.u ≡ 0 = rw c.next_at-next.ensures at c.if-next-eq0.true in
     rw (c.from_at.ensures, c.to_at.ensures) (searchable c.requires.choosable now c.loop-u-test.true bounds roomy)
 
 pub overflow_cast-chosen : goal.overflow_cast-chosen
 overflow_cast-chosen c =
-    let now : Choosing ((InRows c.args.order.now)) ((graph c.args.nodes.now c.args.slots.now)) c.loop-u.string c.loop-u.chosen c.loop-u.table c.loop-u.needs c.args.end c.loop-u.u c.loop-u.words c.loop-u.places = c.loop-u.invariant.0 in
+    let now : Choosing (InRows c.args.order.now) (graph c.args.nodes.now c.args.slots.now) c.loop-u.string c.loop-u.chosen c.loop-u.table c.loop-u.needs c.args.end c.loop-u.u c.loop-u.words c.loop-u.places = c.loop-u.invariant.0 in
     let bounds : next_at c.args.nodes.now c.loop-u.u ≡ 0 = rw c.next_at-next.ensures at c.if-next-eq0.true in
     let range : ℕ → Type 0 = λ r. let a = c.args in
     FirstSlot a.slots.now a.chart.now c.loop-u.needs c.loop-u.places (from_at a.nodes.now c.loop-u.u) (to_at a.nodes.now c.loop-u.u) r in
@@ -59,7 +37,7 @@ overflow_cast-chosen c =
 
 pub entered_at-u-requires : goal.entered_at-u-requires
 entered_at-u-requires c =
-    let now : Choosing ((InRows c.args.order.now)) ((graph c.args.nodes.now c.args.slots.now)) c.loop-u.string c.loop-u.chosen c.loop-u.table c.loop-u.needs c.args.end c.loop-u.u c.loop-u.words c.loop-u.places = c.loop-u.invariant.0 in
+    let now : Choosing (InRows c.args.order.now) (graph c.args.nodes.now c.args.slots.now) c.loop-u.string c.loop-u.chosen c.loop-u.table c.loop-u.needs c.args.end c.loop-u.u c.loop-u.words c.loop-u.places = c.loop-u.invariant.0 in
     let inside : (c.loop-u.u < length c.args.nodes.now) × (length c.args.nodes.now ≤ row_bits) × (c.loop-u.places + c.loop-u.words ≤ c.loop-u.u) = (now.below, c.requires.choosable.upward.few, now.few) in
     let bounds : next_at c.args.nodes.now c.loop-u.u ≡ 0 = rw c.next_at-next.ensures at c.if-next-eq0.true in
     let range : ℕ → Type 0 = λ r. let a = c.args in
@@ -70,7 +48,7 @@ entered_at-u-requires c =
 
 pub loop-u-smaller-then-next-eq0 : goal.loop-u-smaller-then-next-eq0
 loop-u-smaller-then-next-eq0 c =
-    let now : Choosing ((InRows c.args.order.now)) ((graph c.args.nodes.now c.args.slots.now)) c.loop-u.string c.loop-u.chosen c.loop-u.table c.loop-u.needs c.args.end c.loop-u.u c.loop-u.words c.loop-u.places = c.loop-u.invariant.0 in
+    let now : Choosing (InRows c.args.order.now) (graph c.args.nodes.now c.args.slots.now) c.loop-u.string c.loop-u.chosen c.loop-u.table c.loop-u.needs c.args.end c.loop-u.u c.loop-u.words c.loop-u.places = c.loop-u.invariant.0 in
     let inside : (c.loop-u.u < length c.args.nodes.now) × (length c.args.nodes.now ≤ row_bits) × (c.loop-u.places + c.loop-u.words ≤ c.loop-u.u) = (now.below, c.requires.choosable.upward.few, now.few) in
     let bounds : next_at c.args.nodes.now c.loop-u.u ≡ 0 = rw c.next_at-next.ensures at c.if-next-eq0.true in
     let range : ℕ → Type 0 = λ r. let a = c.args in
@@ -82,10 +60,10 @@ loop-u-smaller-then-next-eq0 c =
 
 pub loop-u-preserved-then-next-eq0 : goal.loop-u-preserved-then-next-eq0
 loop-u-preserved-then-next-eq0 c =
-    let now : Choosing ((InRows c.args.order.now)) ((graph c.args.nodes.now c.args.slots.now)) c.loop-u.string c.loop-u.chosen c.loop-u.table c.loop-u.needs c.args.end c.loop-u.u c.loop-u.words c.loop-u.places = c.loop-u.invariant.0 in
+    let now : Choosing (InRows c.args.order.now) (graph c.args.nodes.now c.args.slots.now) c.loop-u.string c.loop-u.chosen c.loop-u.table c.loop-u.needs c.args.end c.loop-u.u c.loop-u.words c.loop-u.places = c.loop-u.invariant.0 in
     let lengths : SameLengths c.args.string.now c.args.chosen.now c.args.table.now c.args.needs.now c.loop-u.string c.loop-u.chosen c.loop-u.table c.loop-u.needs = let same = c.loop-u.invariant.1 in
     record { places = same.places; words = same.words; table_rows = same.table_rows ∙ c.start.auto.table; needs_rows = same.needs_rows ∙ c.start.auto.needs } in
-    let roomy : Roomy ((graph c.args.nodes.now c.args.slots.now)) c.loop-u.string c.loop-u.chosen c.loop-u.table c.loop-u.needs = roomy_same c.requires.roomy lengths in
+    let roomy : Roomy (graph c.args.nodes.now c.args.slots.now) c.loop-u.string c.loop-u.chosen c.loop-u.table c.loop-u.needs = roomy_same c.requires.roomy lengths in
     let inside : (c.loop-u.u < length c.args.nodes.now) × (length c.args.nodes.now ≤ row_bits) × (c.loop-u.places + c.loop-u.words ≤ c.loop-u.u) = (now.below, c.requires.choosable.upward.few, now.few) in
     let bounds : next_at c.args.nodes.now c.loop-u.u ≡ 0 = rw c.next_at-next.ensures at c.if-next-eq0.true in
     let range : ℕ → Type 0 = λ r. let a = c.args in
@@ -98,28 +76,22 @@ loop-u-preserved-then-next-eq0 c =
     let same = l.invariant.1 in
     (rw c.entered_at-u.ensures (entered_turn c.requires.choosable l.invariant.0 c.loop-u-test.true bounds c.first_slot-slot.result first_one word_room), record { places = same.places; words = k ∙ same.words; table_rows = same.table_rows; needs_rows = same.needs_rows })
 
-pub simple_at-requires : goal.simple_at-requires
-simple_at-requires c =
-    let now : Choosing ((InRows c.args.order.now)) ((graph c.args.nodes.now c.args.slots.now)) c.loop-u.string c.loop-u.chosen c.loop-u.table c.loop-u.needs c.args.end c.loop-u.u c.loop-u.words c.loop-u.places = c.loop-u.invariant.0 in
-    let inside : (c.loop-u.u < length c.args.nodes.now) × (length c.args.nodes.now ≤ row_bits) × (c.loop-u.places + c.loop-u.words ≤ c.loop-u.u) = (now.below, c.requires.choosable.upward.few, now.few) in
-    inside.0
-
 pub bounds-string-places : goal.bounds-string-places
 bounds-string-places c =
-    let now : Choosing ((InRows c.args.order.now)) ((graph c.args.nodes.now c.args.slots.now)) c.loop-u.string c.loop-u.chosen c.loop-u.table c.loop-u.needs c.args.end c.loop-u.u c.loop-u.words c.loop-u.places = c.loop-u.invariant.0 in
+    let now : Choosing (InRows c.args.order.now) (graph c.args.nodes.now c.args.slots.now) c.loop-u.string c.loop-u.chosen c.loop-u.table c.loop-u.needs c.args.end c.loop-u.u c.loop-u.words c.loop-u.places = c.loop-u.invariant.0 in
     let lengths : SameLengths c.args.string.now c.args.chosen.now c.args.table.now c.args.needs.now c.loop-u.string c.loop-u.chosen c.loop-u.table c.loop-u.needs = let same = c.loop-u.invariant.1 in
     record { places = same.places; words = same.words; table_rows = same.table_rows ∙ c.start.auto.table; needs_rows = same.needs_rows ∙ c.start.auto.needs } in
-    let roomy : Roomy ((graph c.args.nodes.now c.args.slots.now)) c.loop-u.string c.loop-u.chosen c.loop-u.table c.loop-u.needs = roomy_same c.requires.roomy lengths in
+    let roomy : Roomy (graph c.args.nodes.now c.args.slots.now) c.loop-u.string c.loop-u.chosen c.loop-u.table c.loop-u.needs = roomy_same c.requires.roomy lengths in
     let simple : next_at c.args.nodes.now c.loop-u.u ≡ 0 → ⊥ = λ e. c.if-next-eq0.false (c.next_at-next.ensures ∙ e) in
     let left : c.loop-u.places + 1 ≤ max_places = place_left c.requires.choosable now simple in
     omega (arith, left, roomy.places)
 
 pub grow-requires : goal.grow-requires
 grow-requires c =
-    let now : Choosing ((InRows c.args.order.now)) ((graph c.args.nodes.now c.args.slots.now)) c.loop-u.string c.loop-u.chosen c.loop-u.table c.loop-u.needs c.args.end c.loop-u.u c.loop-u.words c.loop-u.places = c.loop-u.invariant.0 in
+    let now : Choosing (InRows c.args.order.now) (graph c.args.nodes.now c.args.slots.now) c.loop-u.string c.loop-u.chosen c.loop-u.table c.loop-u.needs c.args.end c.loop-u.u c.loop-u.words c.loop-u.places = c.loop-u.invariant.0 in
     let lengths : SameLengths c.args.string.now c.args.chosen.now c.args.table.now c.args.needs.now c.loop-u.string c.loop-u.chosen c.loop-u.table c.loop-u.needs = let same = c.loop-u.invariant.1 in
     record { places = same.places; words = same.words; table_rows = same.table_rows ∙ c.start.auto.table; needs_rows = same.needs_rows ∙ c.start.auto.needs } in
-    let roomy : Roomy ((graph c.args.nodes.now c.args.slots.now)) c.loop-u.string c.loop-u.chosen c.loop-u.table c.loop-u.needs = roomy_same c.requires.roomy lengths in
+    let roomy : Roomy (graph c.args.nodes.now c.args.slots.now) c.loop-u.string c.loop-u.chosen c.loop-u.table c.loop-u.needs = roomy_same c.requires.roomy lengths in
     let simple : next_at c.args.nodes.now c.loop-u.u ≡ 0 → ⊥ = λ e. c.if-next-eq0.false (c.next_at-next.ensures ∙ e) in
     rw c.simple_at.ensures (growable c.requires.choosable now simple roomy.places roomy)
 
@@ -127,7 +99,7 @@ pub loop-u-preserved : goal.loop-u-preserved
 loop-u-preserved c =
     let lengths : SameLengths c.args.string.now c.args.chosen.now c.args.table.now c.args.needs.now c.loop-u.string c.loop-u.chosen c.loop-u.table c.loop-u.needs = let same = c.loop-u.invariant.1 in
     record { places = same.places; words = same.words; table_rows = same.table_rows ∙ c.start.auto.table; needs_rows = same.needs_rows ∙ c.start.auto.needs } in
-    let roomy : Roomy ((graph c.args.nodes.now c.args.slots.now)) c.loop-u.string c.loop-u.chosen c.loop-u.table c.loop-u.needs = roomy_same c.requires.roomy lengths in
+    let roomy : Roomy (graph c.args.nodes.now c.args.slots.now) c.loop-u.string c.loop-u.chosen c.loop-u.table c.loop-u.needs = roomy_same c.requires.roomy lengths in
     let simple : next_at c.args.nodes.now c.loop-u.u ≡ 0 → ⊥ = λ e. c.if-next-eq0.false (c.next_at-next.ensures ∙ e) in
     let l = c.loop-u in
     let label = c.simple_at in
@@ -139,5 +111,5 @@ pub returns : goal.returns
 returns c =
     let l = c.loop-u in
     let all : l.u ≡ c.args.end = c.loop-u-test.false in
-    let there : Choosing ((InRows c.args.order.now)) ((graph c.args.nodes.now c.args.slots.now)) l.string l.chosen l.table l.needs c.args.end c.args.end l.words l.places = rw all at l.invariant.0 in
+    let there : Choosing (InRows c.args.order.now) (graph c.args.nodes.now c.args.slots.now) l.string l.chosen l.table l.needs c.args.end c.args.end l.words l.places = rw all at l.invariant.0 in
     chose c.requires.choosable there

@@ -4,23 +4,9 @@ use mathlib.Core.Path.{◌≡◌, sym, ◌∙◌}
 use mathlib.Core.Bool.{true≢false}
 use Rattle.graph.specs.Graph.{entered_at}
 use Rattle.figures.specs.Limits.{row_words}
-use Rattle.choice.proofs.Meeting.{Apart, apart_starts, apart_one, apart_all, meets_whole}
-use Rattle.choice.proofs.Searching.{pass_starts, pass_slot, search_found, search_fails}
+use Rattle.choice.proofs.Meeting.{Apart, apart_one, apart_all, meets_whole}
+use Rattle.choice.proofs.Searching.{pass_slot, search_found, search_fails}
 use Rattle.choice.proofs.first_slot.Goals as goal
-
-pub search-init : goal.search-init
-search-init c = pass_starts _ _ _ _ _
-
-pub entered_at-node-requires : goal.entered_at-node-requires
-entered_at-node-requires c = omega (arith, c.requires.there)
-
-pub loop-k-init : goal.loop-k-init
-loop-k-init c = (c.entered_at-node.ensures, omega arith, apart_starts _ _ _ _)
-
-pub meets_in-requires : goal.meets_in-requires
-meets_in-requires c =
-    let room = rw (← c.loop-k.invariant.0) at (c.requires.chart_room c.search.s c.search.invariant.from_on c.search-test.true) in
-    omega (arith, room, c.requires.needs_room)
 
 pub loop-k-preserved : goal.loop-k-preserved
 loop-k-preserved c =

@@ -1,11 +1,7 @@
 -- `choice::grow` meets its contract: the partners are found, the table is extended, and the row of both is stored.
-use native.Mathlib.Omega.{arith}
 use mathlib.Core.Logic.Iff
 use Rattle.bits.proofs.Gathering.{gathered_iff}
 use Rattle.choice.proofs.grow.Goals as goal
-
-pub unite_all-row-requires : goal.unite_all-row-requires
-unite_all-row-requires c = λ i h. omega (arith, c.requires.needs_room, ((c.extend-closed.ensures.closes i).0 h).before)
 
 pub returns : goal.returns
 returns c =

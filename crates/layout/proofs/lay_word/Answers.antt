@@ -8,29 +8,8 @@ use Rattle.linking.specs.Reading.{NumberedEntry}
 use Rattle.lookup.specs.Entries.{simples_in}
 use Rattle.format.specs.Records.{bodies_at}
 use Rattle.lookup.specs.Threads.{Thread}
-use Rattle.layout.proofs.WordLaws.{word_place, word_lined}
+use Rattle.layout.proofs.WordLaws.{word_lined}
 use Rattle.layout.proofs.lay_word.Goals as goal
-
-pub tally-requires : goal.tally-requires
-tally-requires c = (c.requires.same_room, (_, c.requires.vocabulary.lexicon, (c.requires.all, c.requires.thread)))
-
-pub lay_entries-last-requires : goal.lay_entries-last-requires
-lay_entries-last-requires c =
-    let next : let a = c.args in
-    (es : List NumberedEntry) → Thread a.book.now (bodies_at a.book.now a.names.now a.types) a.entries.now a.same.now a.first es → (c.args.p.node + 1 + c.tally.result) ≡ a.p.node + 1 + simples_in es = λ es t. ap (λ (m : ℕ). c.args.p.node + 1 + m) (c.tally.ensures _ es c.requires.vocabulary.lexicon t).total in
-    let low : (c.args.p.node + 1 + c.tally.result) < max_nodes = omega (arith, next c.requires.all c.requires.thread, c.requires.fits) in
-    let b = next c.requires.all c.requires.thread in
-    record { vocabulary = c.requires.vocabulary; same_room = c.requires.same_room; all = c.requires.all; thread = c.requires.thread; place = word_place c.requires.standing c.requires.all b low; fits = omega (arith, b) }
-
-pub boundary_node-requires : goal.boundary_node-requires
-boundary_node-requires c =
-    let next : let a = c.args in
-    (es : List NumberedEntry) → Thread a.book.now (bodies_at a.book.now a.names.now a.types) a.entries.now a.same.now a.first es → (c.args.p.node + 1 + c.tally.result) ≡ a.p.node + 1 + simples_in es = λ es t. ap (λ (m : ℕ). c.args.p.node + 1 + m) (c.tally.ensures _ es c.requires.vocabulary.lexicon t).total in
-    let low : (c.args.p.node + 1 + c.tally.result) < max_nodes = omega (arith, next c.requires.all c.requires.thread, c.requires.fits) in
-    let stored : (c.args.p.node < max_nodes) × (c.args.p.slot < max_nodes) × (c.lay_entries-last.result.slot < max_nodes) = let l = c.lay_entries-last.ensures c.requires.all c.requires.thread in
-    (omega (arith, low), omega (arith, low, c.requires.standing.few), omega (arith, l.place.few, l.place.inside, l.place.small)) in
-    let at = stored in
-    (omega (arith, at.1), omega (arith, at.2))
 
 pub returns : goal.returns
 returns c =

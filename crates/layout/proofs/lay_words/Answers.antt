@@ -1,10 +1,7 @@
 -- `layout::lay_words` meets its contract: the words passed are laid, and those left are the rest.
 use Rattle.graph.specs.Graph.{graph}
-use Rattle.layout.proofs.LineLaws.{Lining, lining_start, lining_fits, lining_next, lining_end}
+use Rattle.layout.proofs.LineLaws.{Lining, lining_fits, lining_next, lining_end}
 use Rattle.layout.proofs.lay_words.Goals as goal
-
-pub loop-k-init : goal.loop-k-init
-loop-k-init c = λ ws found. lining_start found c.requires.room
 
 pub lay_word-place-requires : goal.lay_word-place-requires
 lay_word-place-requires c =

@@ -6,17 +6,8 @@ use Rattle.format.specs.Records.{bodies_at}
 use Rattle.book.specs.Kept.{entry_from, HeldType}
 use Rattle.lookup.proofs.ThreadLaws.{thread_next}
 use Rattle.graph.specs.Graph.{graph}
-use Rattle.slots.proofs.EntryLaws.{Entering, entering_start, entering_fits, entering_next, entering_end}
+use Rattle.slots.proofs.EntryLaws.{Entering, entering_fits, entering_next, entering_end}
 use Rattle.slots.proofs.lay_entries.Goals as goal
-
-pub loop-i-init : goal.loop-i-init
-loop-i-init c = λ es t. entering_start t c.requires.place
-
-pub entry_type-t-requires : goal.entry_type-t-requires
-entry_type-t-requires c =
-    let v = c.requires.vocabulary in
-    let h = c.loop-i-test.true in
-    rw c.wide_number.ensures (v.named, v.lexicon.kept.whole _ h, v.lexicon.formed _ h)
 
 pub lay_slot-place-requires : goal.lay_slot-place-requires
 lay_slot-place-requires c =

@@ -9,9 +9,6 @@ returns-then-empty-seen c =
     let a = c.args in
     slot_passed a.t a.number a.boundary a.p (graph a.nodes.now a.slots.now) c.requires c.if-empty-seen.true
 
-pub slot_of-requires : goal.slot_of-requires
-slot_of-requires c = (omega (arith, c.lay_type-first.ensures.high, c.requires.place.small), omega (arith, c.requires.low))
-
 pub returns : goal.returns
 returns c =
     let a = c.args in

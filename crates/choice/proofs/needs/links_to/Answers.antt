@@ -20,15 +20,9 @@ other_tags Not other = absurd (other refl)
 other_tags Same other = inl refl
 other_tags Different other = inr refl
 
-pub next_at-next-requires : goal.next_at-next-requires
-next_at-next-requires c = c.requires.y_in_bounds
-
 pub returns-then-next-eq0 : goal.returns-then-next-eq0
 returns-then-next-eq0 c =
     false_iff (λ (l : LinksTo _ _ _ _ _ _ _). omega (arith, l.simple, c.if-next-eq0.true, c.next_at-next.ensures))
-
-pub meets-requires : goal.meets-requires
-meets-requires c = rw c.next_at-next.ensures c.requires.has_row
 
 pub returns-in-Not : goal.returns-in-Not
 returns-in-Not c =

@@ -4,11 +4,8 @@ use mathlib.Core.Path.{◌≡◌, refl, sym, ◌∙◌}
 use mathlib.Core.Bool.{true≢false}
 use Rattle.figures.specs.Limits.{row_words}
 use Rattle.bits.proofs.Cases.{false_iff}
-use Rattle.choice.proofs.Meeting.{Apart, apart_starts, apart_one, apart_all, meets_whole}
+use Rattle.choice.proofs.Meeting.{Apart, apart_one, apart_all, meets_whole}
 use Rattle.choice.proofs.needs.meets.Goals as goal
-
-pub loop-k-init : goal.loop-k-init
-loop-k-init c = (omega arith, apart_starts _ _ _ _)
 
 pub returns-then-meets_in : goal.returns-then-meets_in
 returns-then-meets_in c = (λ h. meets_whole _ _ _ _ (c.meets_in.ensures.0 c.if-meets_in.true), λ m. refl)

@@ -1,31 +1,13 @@
 -- `choice::needs::partners` meets its contract: a walk over the row behind u, each turn asking one node.
-use native.Mathlib.Omega.{arith}
 use mathlib.Core.Path.{refl, ◌∙◌}
 use Rattle.bits.proofs.RowLaws.{empty_says}
 use Rattle.bits.proofs.Walking.{putting_starts, putting_turns, putting_ends}
 use Rattle.chart.proofs.Filling.{first_behind_lem}
 use Rattle.choice.proofs.needs.partners.Goals as goal
 
-pub next_at-behind-requires : goal.next_at-behind-requires
-next_at-behind-requires c = c.requires.0.node
-
-pub simple_at-x-requires : goal.simple_at-x-requires
-simple_at-x-requires c = c.requires.0.node
-
 pub loop-y-init : goal.loop-y-init
 loop-y-init c =
     (c.next_at-behind.ensures, c.simple_at-x.ensures, refl, rw c.next_at-behind.ensures (putting_starts _ _ _ _ _ _ _ empty_says (first_behind_lem c.requires.0)))
-
-pub links_to-requires : goal.links_to-requires
-links_to-requires c =
-    let reached = c.requires.0.reached c.loop-y.y (c.loop-y.invariant.3.member c.loop-y-test.true) in
-    record { y_in_bounds = reached.1; has_row = (reached.2, c.requires.1) }
-
-pub put_where-requires : goal.put_where-requires
-put_where-requires c = (omega arith, c.loop-y.invariant.2)
-
-pub next_member-y-requires : goal.next_member-y-requires
-next_member-y-requires c = record { has_row = rw c.loop-y.invariant.0 c.requires.0.room; from_le_row_bits = omega arith }
 
 pub loop-y-preserved : goal.loop-y-preserved
 loop-y-preserved c =
