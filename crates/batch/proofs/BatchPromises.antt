@@ -16,7 +16,6 @@ use Rattle.format.specs.Records.{Bytes}
 use Rattle.book.specs.Format.{Book, Parsed, accepted, refused, parse}
 use Rattle.linking.specs.Reading.{Words, HasChain}
 use Rattle.answer.specs.Answers.{Outcome, Gives}
-use Rattle.reader.specs.Outcome.{outcome}
 use Rattle.reader.specs.Demands.{OrderOf, Readable, TooShort}
 use Rattle.reader.proofs.Refusals.{book_some, NamedParse, parse_named}
 use Rattle.book.specs.Check.{BookNumber}

@@ -9,7 +9,7 @@ use lib.Seq.{drop-cons, take-suc, set_at, append_snoc, sets, sets-eq, take_at, d
 use Rattle.figures.specs.Limits.{max_values, max_batch, max_part, value_bound}
 use Rattle.figures.specs.Refusals.{Reply, refusal}
 use Rattle.format.specs.Records.{Bytes}
-use Rattle.book.specs.Format.{Book, accepted, refused, parse}
+use Rattle.book.specs.Format.{Book, accepted, parse}
 use Rattle.answer.specs.declared.LineAnswer.{LineAnswer}
 use Rattle.answer.specs.declared.LineAnswer.TheVariants.{Read, Refused}
 use Rattle.answer.specs.Answers.{line_reply, outcome_reply, Gives}

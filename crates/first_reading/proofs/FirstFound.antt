@@ -1,7 +1,7 @@
 -- From the first choice in a line's graph up to one target's end to the values of its answer: which numbers are written for the entries, which
 -- string is linked, that it reduces to the target, and that the first reading for it is what the entries and any first linking of the string
 -- make.
-use Prim.Native.Nat.{ℕ, ◌+◌, ◌≤◌, ◌<◌}
+use Prim.Native.Nat.{ℕ, ◌+◌, ◌≤◌}
 use native.Mathlib.Omega.{arith}
 use mathlib.Core.Path.{◌≡◌, refl, sym, ap, subst, ◌∙◌}
 use mathlib.Core.Logic.{◌↔◌}

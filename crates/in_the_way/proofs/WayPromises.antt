@@ -108,10 +108,10 @@ module _ (book line : Bytes) (B : Book) (words : Words) (r : Readable book line 
 module _ (w : ℕ) where
   by_number : (number value : ℕ) (b : Bool) → eqb number no_reading ≡ b → (number ≡ no_reading → value ≡ 0)
       → ordinary (cond b (NoReading w) (Ordinary (Refused number value))) ≡ Refused number value
-  by_number number value true e h =
-      let same = eqb-true number no_reading e in
-      ap (λ (n : ℕ). Refused n 0) (sym same) ∙ ap (λ (v : ℕ). Refused number v) (sym (h same))
-  by_number number value false e h = refl
+  by_number n value true e h =
+      let same = eqb-true n no_reading e in
+      ap (λ (m : ℕ). Refused m 0) (sym same) ∙ ap (λ (v : ℕ). Refused n v) (sym (h same))
+  by_number n value false e h = refl
 
   pub told_ordinary : (a : LineAnswer) → ((value : ℕ) → a ≡ Refused no_reading value → value ≡ 0) → ordinary (told w a) ≡ a
   unfolding told

@@ -5,21 +5,25 @@ use mathlib.Core.Path.{◌≡◌, refl, sym, ◌∙◌}
 use mathlib.Core.List.{List}
 use mathlib.Core.Bool.{Bool, true, false}
 use mathlib.Core.Option.{Option, none, some}
-use lib.ListN.{length}
+use lib.ListN.{length, take}
 use lib.Seq.{length-take-le}
 use Rattle.figures.specs.Limits.{max_nodes, chart_words}
 use Rattle.pregroup.specs.Types.{Basic}
 use Rattle.pregroup.specs.Order.{Relation}
 use Rattle.pregroup.specs.Tests.{Test}
+use Rattle.pregroup.specs.Held.{InRows}
+use Rattle.format.specs.Records.{Bytes}
+use Rattle.line.specs.FoundWords.{FoundWords}
 use Rattle.linking.specs.Reading.{Words, Answer, first_reading, is_some}
-use Rattle.graph.specs.Graph.{Graph}
+use Rattle.graph.specs.Graph.{Graph, graph}
 use Rattle.answer.specs.declared.LineAnswer.{LineAnswer}
 use Rattle.answer.specs.declared.LineAnswer.TheVariants.{Read, Refused}
 use Rattle.answer.specs.Answers.{given, Gives}
 use Rattle.answer.proofs.GivenLaws.{read_refused}
 use Rattle.layout.specs.LineLayout.{nodes_with, line_graph, LaidOut}
-use Rattle.chart.specs.Chart.{Fillable}
-use Rattle.reach.specs.Charted.{Charted}
+use Rattle.chart.specs.Chart.{Fillable, FilledFrom}
+use Rattle.reach.specs.Charted.{FirstEnd, Charted}
+use Rattle.reach.proofs.DrawnLaws.{found_drawn}
 use Rattle.first_reading.proofs.ReadingLaws.{no_first, some_first}
 use Rattle.words.specs.Readings.{asked}
 
@@ -49,6 +53,14 @@ pub can_fill :
 can_fill {targets = targets} {g} {last} out room long =
     let whole = length-take-le (nodes_with last (length targets)) g.nodes (omega (arith, out.few)) in
     record { upward = out.upward; room = λ u h. omega (arith, out.few, whole) }
+
+-- Words that are found, laid out on so many nodes and charted up to the first target.
+pub found_charted :
+    {bytes : Bytes} {names entries same firsts order targets : List ℕ} {le : Test} {words : Words} {g : Graph} {last count t : ℕ} {chart : List ℕ}
+    → FoundWords bytes names entries same firsts order targets le words → LaidOut words targets g last → max_nodes ≤ length g.nodes
+    → count ≡ nodes_with last (length targets) → FilledFrom (InRows order) (graph (take count g.nodes) g.slots) chart 0 → FirstEnd chart last (length targets) t
+    → Charted le (InRows order) (graph (take count g.nodes) g.slots) targets last words chart t
+found_charted found out room counted filled first = record { drawn = rw counted (found_drawn found out room); filled = filled; first = first }
 
 -- Words that are charted.
 module _ {le : Test} {Le : Relation} {g : Graph} {targets : List Basic} {last : ℕ} {words : Words} {chart : List ℕ} {t : ℕ}

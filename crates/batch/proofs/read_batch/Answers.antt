@@ -2,17 +2,11 @@
 -- definition answers.
 use native.Mathlib.Omega.{arith}
 use Prim.Native.Nat.{ℕ}
-use mathlib.Core.Path.{◌≡◌, sym}
-use mathlib.Core.List.{List}
-use mathlib.Core.Option.{some}
-use lib.ListN.{length, length-take, length-replicate}
+use mathlib.Core.Path.{sym}
+use lib.ListN.{length-take, length-replicate}
 use lib.Seq.{length-take-le}
 use Rattle.figures.specs.Limits.{chart_words}
-use Rattle.format.specs.Records.{Bytes}
-use Rattle.book.specs.declared.Scan.TheVariants.{Accepted}
-use Rattle.opening.specs.Open.{OpeningSays}
 use Rattle.opening.proofs.OpeningLaws.{none_threaded}
-use Rattle.batch_lines.specs.Lines.{batch_lines}
 use Rattle.batch.proofs.BatchPromises.{gives_batch_promised}
 use Rattle.batch.proofs.BatchLaws.{gives_bad_batch, gives_bad_book, can_store, gives_too_long, gives_answers}
 use Rattle.batch.proofs.read_batch.Goals as goal

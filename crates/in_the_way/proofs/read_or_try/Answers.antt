@@ -2,20 +2,10 @@
 use Prim.Native.Nat.{ℕ}
 use native.Mathlib.Omega.{arith}
 use mathlib.Core.Path.{sym, ◌∙◌}
-use mathlib.Core.List.{List}
-use lib.ListN.{length, take, length-replicate}
+use lib.ListN.{length-replicate}
 use lib.Seq.{length-take-le}
 use Rattle.figures.specs.Limits.{chart_words}
-use Rattle.order.specs.Closed.{below}
-use Rattle.line.specs.declared.CheckedLine.TheVariants.{Found}
-use Rattle.line.specs.LineFaults.{entries_of_line}
-use Rattle.line.specs.LookUp.{LineSays}
-use Rattle.line.specs.FoundWords.{FoundWords}
-use Rattle.answer.specs.declared.LineAnswer.{LineAnswer}
-use Rattle.answer.specs.Answers.{Gives}
-use Rattle.words.specs.Readings.{ReadsWords}
 use Rattle.opening.proofs.OpeningLaws.{none_threaded, line_found}
-use Rattle.reader.specs.Outcome.{outcome}
 use Rattle.reader.proofs.Given.{gives_outcome}
 use Rattle.in_the_way.proofs.StepLaws.{gives_read, gives_other, gives_fifteen, gives_bad_line, way_is}
 use Rattle.in_the_way.proofs.read_or_try.Goals as goal
@@ -31,53 +21,53 @@ returns-in-Refused c =
 
 pub slice_bounds-firsts-end : goal.slice_bounds-firsts-end
 slice_bounds-firsts-end c =
-    let says : LineSays c.args.book.now c.args.entries.now c.requires.0 c.args.line.now c.check_line-checked.new.firsts c.check_line-checked.new.same (Found c.in-Found.words) = (rw c.in-Found.is at c.check_line-checked.ensures.line_says) c.requires.0 c.requires.1.kept in
+    let says = c.in-Found.ensures.line_says _ c.requires.1.kept in
     omega (arith, says.1)
 
 pub slice_bounds-read_words-end-2 : goal.slice_bounds-read_words-end-2
 slice_bounds-read_words-end-2 c =
-    let says : LineSays c.args.book.now c.args.entries.now c.requires.0 c.args.line.now c.check_line-checked.new.firsts c.check_line-checked.new.same (Found c.in-Found.words) = (rw c.in-Found.is at c.check_line-checked.ensures.line_says) c.requires.0 c.requires.1.kept in
+    let says = c.in-Found.ensures.line_says _ c.requires.1.kept in
     sym (length-take-le _ _ says.1)
 
 pub read_words-read-requires : goal.read_words-read-requires
 read_words-read-requires c =
-    let says : LineSays c.args.book.now c.args.entries.now c.requires.0 c.args.line.now c.check_line-checked.new.firsts c.check_line-checked.new.same (Found c.in-Found.words) = (rw c.in-Found.is at c.check_line-checked.ensures.line_says) c.requires.0 c.requires.1.kept in
-    let found : FoundWords c.args.book.now c.args.names.now c.args.entries.now c.check_line-checked.new.same (take c.in-Found.words c.check_line-checked.new.firsts) c.args.order.now c.args.targets.now (below (length c.requires.0.names) c.requires.0.pairs) (entries_of_line c.requires.0 c.args.line.now) = line_found c.requires.1 c.check_line-checked.ensures.threaded says.0 says.2 in
+    let says = c.in-Found.ensures.line_says _ c.requires.1.kept in
+    let found = line_found c.requires.1 c.check_line-checked.ensures.threaded says.0 says.2 in
     record { are_found = (_, _, found); chart_len = length-replicate {A = ℕ} chart_words 0 }
 
 pub returns-in_default : goal.returns-in_default
 returns-in_default c =
-    let says : LineSays c.args.book.now c.args.entries.now c.requires.0 c.args.line.now c.check_line-checked.new.firsts c.check_line-checked.new.same (Found c.in-Found.words) = (rw c.in-Found.is at c.check_line-checked.ensures.line_says) c.requires.0 c.requires.1.kept in
-    let found : FoundWords c.args.book.now c.args.names.now c.args.entries.now c.check_line-checked.new.same (take c.in-Found.words c.check_line-checked.new.firsts) c.args.order.now c.args.targets.now (below (length c.requires.0.names) c.requires.0.pairs) (entries_of_line c.requires.0 c.args.line.now) = line_found c.requires.1 c.check_line-checked.ensures.threaded says.0 says.2 in
-    let reads-line : (before : List ℕ) → (after : List ℕ) → (answer : LineAnswer) → ReadsWords c.args.book.now c.args.names.now c.args.entries.now c.check_line-checked.new.same (take c.in-Found.words c.check_line-checked.new.firsts) c.args.order.now c.args.targets.now before answer after → Gives (outcome c.args.book.now c.args.line.now before) answer after = λ before after answer r. gives_outcome _ _ _ c.requires.1.parsed says.0 c.requires.1.chosen (r _ _ found) in
-    gives_read _ _ _ (reads-line _ _ _ c.read_words-read.ensures) c.in_default.is
+    let says = c.in-Found.ensures.line_says _ c.requires.1.kept in
+    let found = line_found c.requires.1 c.check_line-checked.ensures.threaded says.0 says.2 in
+    let read_line = gives_outcome _ _ _ c.requires.1.parsed says.0 c.requires.1.chosen (c.read_words-read.ensures _ _ found) in
+    gives_read _ _ _ read_line c.in_default.is
 
 pub returns-then-number-ne-NO_READING : goal.returns-then-number-ne-NO_READING
 returns-then-number-ne-NO_READING c =
-    let says : LineSays c.args.book.now c.args.entries.now c.requires.0 c.args.line.now c.check_line-checked.new.firsts c.check_line-checked.new.same (Found c.in-Found.words) = (rw c.in-Found.is at c.check_line-checked.ensures.line_says) c.requires.0 c.requires.1.kept in
-    let found : FoundWords c.args.book.now c.args.names.now c.args.entries.now c.check_line-checked.new.same (take c.in-Found.words c.check_line-checked.new.firsts) c.args.order.now c.args.targets.now (below (length c.requires.0.names) c.requires.0.pairs) (entries_of_line c.requires.0 c.args.line.now) = line_found c.requires.1 c.check_line-checked.ensures.threaded says.0 says.2 in
-    let reads-line : (before : List ℕ) → (after : List ℕ) → (answer : LineAnswer) → ReadsWords c.args.book.now c.args.names.now c.args.entries.now c.check_line-checked.new.same (take c.in-Found.words c.check_line-checked.new.firsts) c.args.order.now c.args.targets.now before answer after → Gives (outcome c.args.book.now c.args.line.now before) answer after = λ before after answer r. gives_outcome _ _ _ c.requires.1.parsed says.0 c.requires.1.chosen (r _ _ found) in
-    gives_other _ _ _ (reads-line _ _ _ c.read_words-read.ensures) c.in-Refused-read.is (λ e. omega (arith, e, c.if-number-ne-NO_READING.true))
+    let says = c.in-Found.ensures.line_says _ c.requires.1.kept in
+    let found = line_found c.requires.1 c.check_line-checked.ensures.threaded says.0 says.2 in
+    let read_line = gives_outcome _ _ _ c.requires.1.parsed says.0 c.requires.1.chosen (c.read_words-read.ensures _ _ found) in
+    gives_other _ _ _ read_line c.in-Refused-read.is (λ e. omega (arith, e, c.if-number-ne-NO_READING.true))
 
 pub slice_bounds-firsts-end-2 : goal.slice_bounds-firsts-end-2
 slice_bounds-firsts-end-2 c =
-    let says : LineSays c.args.book.now c.args.entries.now c.requires.0 c.args.line.now c.check_line-checked.new.firsts c.check_line-checked.new.same (Found c.in-Found.words) = (rw c.in-Found.is at c.check_line-checked.ensures.line_says) c.requires.0 c.requires.1.kept in
+    let says = c.in-Found.ensures.line_says _ c.requires.1.kept in
     omega (arith, says.1)
 
 pub slice_bounds-try_each-end-2 : goal.slice_bounds-try_each-end-2
 slice_bounds-try_each-end-2 c =
-    let says : LineSays c.args.book.now c.args.entries.now c.requires.0 c.args.line.now c.check_line-checked.new.firsts c.check_line-checked.new.same (Found c.in-Found.words) = (rw c.in-Found.is at c.check_line-checked.ensures.line_says) c.requires.0 c.requires.1.kept in
+    let says = c.in-Found.ensures.line_says _ c.requires.1.kept in
     sym (length-take-le _ _ says.1)
 
 pub try_each-number-requires : goal.try_each-number-requires
 try_each-number-requires c =
-    let says : LineSays c.args.book.now c.args.entries.now c.requires.0 c.args.line.now c.check_line-checked.new.firsts c.check_line-checked.new.same (Found c.in-Found.words) = (rw c.in-Found.is at c.check_line-checked.ensures.line_says) c.requires.0 c.requires.1.kept in
-    let found : FoundWords c.args.book.now c.args.names.now c.args.entries.now c.check_line-checked.new.same (take c.in-Found.words c.check_line-checked.new.firsts) c.args.order.now c.args.targets.now (below (length c.requires.0.names) c.requires.0.pairs) (entries_of_line c.requires.0 c.args.line.now) = line_found c.requires.1 c.check_line-checked.ensures.threaded says.0 says.2 in
+    let says = c.in-Found.ensures.line_says _ c.requires.1.kept in
+    let found = line_found c.requires.1 c.check_line-checked.ensures.threaded says.0 says.2 in
     record { are_found = (_, _, found); chart_len = c.read_words-read.auto.chart ∙ length-replicate {A = ℕ} chart_words 0 }
 
 pub returns : goal.returns
 returns c =
-    let says : LineSays c.args.book.now c.args.entries.now c.requires.0 c.args.line.now c.check_line-checked.new.firsts c.check_line-checked.new.same (Found c.in-Found.words) = (rw c.in-Found.is at c.check_line-checked.ensures.line_says) c.requires.0 c.requires.1.kept in
-    let found : FoundWords c.args.book.now c.args.names.now c.args.entries.now c.check_line-checked.new.same (take c.in-Found.words c.check_line-checked.new.firsts) c.args.order.now c.args.targets.now (below (length c.requires.0.names) c.requires.0.pairs) (entries_of_line c.requires.0 c.args.line.now) = line_found c.requires.1 c.check_line-checked.ensures.threaded says.0 says.2 in
-    let reads-line : (before : List ℕ) → (after : List ℕ) → (answer : LineAnswer) → ReadsWords c.args.book.now c.args.names.now c.args.entries.now c.check_line-checked.new.same (take c.in-Found.words c.check_line-checked.new.firsts) c.args.order.now c.args.targets.now before answer after → Gives (outcome c.args.book.now c.args.line.now before) answer after = λ before after answer r. gives_outcome _ _ _ c.requires.1.parsed says.0 c.requires.1.chosen (r _ _ found) in
-    gives_fifteen _ _ _ (reads-line _ _ _ c.read_words-read.ensures) c.in-Refused-read.is (omega (arith, c.if-number-ne-NO_READING.false)) (way_is _ _ c.requires.1.parsed says.0 c.requires.1.chosen (c.try_each-number.ensures _ _ found))
+    let says = c.in-Found.ensures.line_says _ c.requires.1.kept in
+    let found = line_found c.requires.1 c.check_line-checked.ensures.threaded says.0 says.2 in
+    let read_line = gives_outcome _ _ _ c.requires.1.parsed says.0 c.requires.1.chosen (c.read_words-read.ensures _ _ found) in
+    gives_fifteen _ _ _ read_line c.in-Refused-read.is (omega (arith, c.if-number-ne-NO_READING.false)) (way_is _ _ c.requires.1.parsed says.0 c.requires.1.chosen (c.try_each-number.ensures _ _ found))

@@ -2,45 +2,43 @@
 use native.Mathlib.Omega.{arith}
 use mathlib.Core.Path.{sym}
 use lib.Seq.{length-take-le}
-use Rattle.book.specs.declared.Scan.TheVariants.{Accepted}
-use Rattle.opening.specs.Open.{OpeningSays}
 use Rattle.in_the_way.proofs.WayPromises.{gives_way_promised}
 use Rattle.in_the_way.proofs.StepLaws.{gives_bad_book}
 use Rattle.in_the_way.proofs.words_in_the_way.Goals as goal
 
 pub slice_bounds-entries-end : goal.slice_bounds-entries-end
 slice_bounds-entries-end c =
-    let is_open : OpeningSays c.args.book.now c.open_book-scan.result.names c.open_book-scan.result.entries c.open_book-scan.result.alike c.open_book-scan.result.order c.open_book-scan.result.targets (Accepted c.in-Accepted.types c.in-Accepted.count c.in-Accepted.goals) = rw c.in-Accepted.is at c.open_book-scan.ensures in
+    let is_open = rw c.in-Accepted.is at c.open_book-scan.ensures in
     omega (arith, is_open.2)
 
 pub slice_bounds-read_or_try-end-in-Accepted : goal.slice_bounds-read_or_try-end-in-Accepted
 slice_bounds-read_or_try-end-in-Accepted c =
-    let is_open : OpeningSays c.args.book.now c.open_book-scan.result.names c.open_book-scan.result.entries c.open_book-scan.result.alike c.open_book-scan.result.order c.open_book-scan.result.targets (Accepted c.in-Accepted.types c.in-Accepted.count c.in-Accepted.goals) = rw c.in-Accepted.is at c.open_book-scan.ensures in
+    let is_open = rw c.in-Accepted.is at c.open_book-scan.ensures in
     sym (length-take-le _ _ is_open.2)
 
 pub slice_bounds-order-end : goal.slice_bounds-order-end
 slice_bounds-order-end c =
-    let is_open : OpeningSays c.args.book.now c.open_book-scan.result.names c.open_book-scan.result.entries c.open_book-scan.result.alike c.open_book-scan.result.order c.open_book-scan.result.targets (Accepted c.in-Accepted.types c.in-Accepted.count c.in-Accepted.goals) = rw c.in-Accepted.is at c.open_book-scan.ensures in
+    let is_open = rw c.in-Accepted.is at c.open_book-scan.ensures in
     omega (arith, is_open.1)
 
 pub slice_bounds-read_or_try-end-in-Accepted-3 : goal.slice_bounds-read_or_try-end-in-Accepted-3
 slice_bounds-read_or_try-end-in-Accepted-3 c =
-    let is_open : OpeningSays c.args.book.now c.open_book-scan.result.names c.open_book-scan.result.entries c.open_book-scan.result.alike c.open_book-scan.result.order c.open_book-scan.result.targets (Accepted c.in-Accepted.types c.in-Accepted.count c.in-Accepted.goals) = rw c.in-Accepted.is at c.open_book-scan.ensures in
+    let is_open = rw c.in-Accepted.is at c.open_book-scan.ensures in
     sym (length-take-le _ _ is_open.1)
 
 pub slice_bounds-targets-end : goal.slice_bounds-targets-end
 slice_bounds-targets-end c =
-    let is_open : OpeningSays c.args.book.now c.open_book-scan.result.names c.open_book-scan.result.entries c.open_book-scan.result.alike c.open_book-scan.result.order c.open_book-scan.result.targets (Accepted c.in-Accepted.types c.in-Accepted.count c.in-Accepted.goals) = rw c.in-Accepted.is at c.open_book-scan.ensures in
+    let is_open = rw c.in-Accepted.is at c.open_book-scan.ensures in
     omega (arith, is_open.3)
 
 pub slice_bounds-read_or_try-end-in-Accepted-4 : goal.slice_bounds-read_or_try-end-in-Accepted-4
 slice_bounds-read_or_try-end-in-Accepted-4 c =
-    let is_open : OpeningSays c.args.book.now c.open_book-scan.result.names c.open_book-scan.result.entries c.open_book-scan.result.alike c.open_book-scan.result.order c.open_book-scan.result.targets (Accepted c.in-Accepted.types c.in-Accepted.count c.in-Accepted.goals) = rw c.in-Accepted.is at c.open_book-scan.ensures in
+    let is_open = rw c.in-Accepted.is at c.open_book-scan.ensures in
     sym (length-take-le _ _ is_open.3)
 
 pub read_or_try-requires : goal.read_or_try-requires
 read_or_try-requires c =
-    let is_open : OpeningSays c.args.book.now c.open_book-scan.result.names c.open_book-scan.result.entries c.open_book-scan.result.alike c.open_book-scan.result.order c.open_book-scan.result.targets (Accepted c.in-Accepted.types c.in-Accepted.count c.in-Accepted.goals) = rw c.in-Accepted.is at c.open_book-scan.ensures in
+    let is_open = rw c.in-Accepted.is at c.open_book-scan.ensures in
     is_open.0
 
 pub returns-in-Refused : goal.returns-in-Refused

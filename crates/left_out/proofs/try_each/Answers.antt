@@ -1,10 +1,10 @@
 -- `left_out::try_each` meets its contract: before each turn the words from some word on have been left out one by one, and the number tells of them.
 use native.Mathlib.Omega.{arith}
-use Prim.Native.Nat.{ℕ, ◌-◌, ◌≤◌}
+use Prim.Native.Nat.{◌-◌, ◌≤◌}
 use mathlib.Core.Path.{refl, sym, ◌∙◌}
-use lib.ListN.{length, get_or, set}
+use lib.ListN.{length, set}
 use lib.Seq.{length-take-le}
-use Rattle.left_out.proofs.TryLaws.{LeftOut, leaving_starts, leaving_next, found_without, way_starts, way_fits, way_yes, way_no, way_whole}
+use Rattle.left_out.proofs.TryLaws.{leaving_starts, leaving_next, found_without, way_starts, way_fits, way_yes, way_no, way_whole}
 use Rattle.left_out.proofs.try_each.Goals as goal
 
 pub loop-k-init : goal.loop-k-init
@@ -31,18 +31,18 @@ slice_bounds-has_reading-count c = omega (arith, c.loop-k.invariant.0.inside, c.
 
 pub slice_bounds-has_reading-end : goal.slice_bounds-has_reading-end
 slice_bounds-has_reading-end c =
-    let next : LeftOut c.args.firsts.now (set c.loop-k.firsts (c.loop-k.k - 1) c.loop-k.left_out) (get_or {A = ℕ} c.loop-k.firsts (c.loop-k.k - 1) 0) (c.loop-k.k - 1) = leaving_next c.loop-k.invariant.0 c.loop-k-test.true in
+    let next = leaving_next c.loop-k.invariant.0 c.loop-k-test.true in
     omega (arith, next.long)
 
 pub slice_bounds-has_reading-length : goal.slice_bounds-has_reading-length
 slice_bounds-has_reading-length c =
-    let next : LeftOut c.args.firsts.now (set c.loop-k.firsts (c.loop-k.k - 1) c.loop-k.left_out) (get_or {A = ℕ} c.loop-k.firsts (c.loop-k.k - 1) 0) (c.loop-k.k - 1) = leaving_next c.loop-k.invariant.0 c.loop-k-test.true in
+    let next = leaving_next c.loop-k.invariant.0 c.loop-k-test.true in
     let others : length c.args.firsts.now - 1 ≤ length (set c.loop-k.firsts (c.loop-k.k - 1) c.loop-k.left_out) = omega (arith, next.long) in
     sym (length-take-le _ _ others)
 
 pub has_reading-requires : goal.has_reading-requires
 has_reading-requires c =
-    let next : LeftOut c.args.firsts.now (set c.loop-k.firsts (c.loop-k.k - 1) c.loop-k.left_out) (get_or {A = ℕ} c.loop-k.firsts (c.loop-k.k - 1) 0) (c.loop-k.k - 1) = leaving_next c.loop-k.invariant.0 c.loop-k-test.true in
+    let next = leaving_next c.loop-k.invariant.0 c.loop-k-test.true in
     record { are_found = (_, _, found_without c.requires.are_found.2 next (omega (arith, c.loop-k.invariant.0.inside, c.loop-k-test.true))); chart_len = c.loop-k.invariant.2 ∙ c.requires.chart_len }
 
 pub overflow_add-number : goal.overflow_add-number
@@ -53,7 +53,7 @@ loop-k-smaller-then-has_reading c = omega (arith, c.loop-k-test.true)
 
 pub loop-k-preserved-then-has_reading : goal.loop-k-preserved-then-has_reading
 loop-k-preserved-then-has_reading c =
-    let next : LeftOut c.args.firsts.now (set c.loop-k.firsts (c.loop-k.k - 1) c.loop-k.left_out) (get_or {A = ℕ} c.loop-k.firsts (c.loop-k.k - 1) 0) (c.loop-k.k - 1) = leaving_next c.loop-k.invariant.0 c.loop-k-test.true in
+    let next = leaving_next c.loop-k.invariant.0 c.loop-k-test.true in
     (next, way_yes next c.loop-k-test.true c.loop-k.invariant.0.inside c.loop-k.invariant.1 c.has_reading.ensures c.if-has_reading.true, omega (arith, c.loop-k.invariant.2))
 
 pub loop-k-smaller : goal.loop-k-smaller
@@ -61,7 +61,7 @@ loop-k-smaller c = omega (arith, c.loop-k-test.true)
 
 pub loop-k-preserved : goal.loop-k-preserved
 loop-k-preserved c =
-    let next : LeftOut c.args.firsts.now (set c.loop-k.firsts (c.loop-k.k - 1) c.loop-k.left_out) (get_or {A = ℕ} c.loop-k.firsts (c.loop-k.k - 1) 0) (c.loop-k.k - 1) = leaving_next c.loop-k.invariant.0 c.loop-k-test.true in
+    let next = leaving_next c.loop-k.invariant.0 c.loop-k-test.true in
     (next, way_no next c.loop-k-test.true c.loop-k.invariant.0.inside c.loop-k.invariant.1 c.has_reading.ensures c.if-has_reading.false, omega (arith, c.loop-k.invariant.2))
 
 pub shape_of-firsts : goal.shape_of-firsts

@@ -5,45 +5,43 @@ use mathlib.Core.Path.{sym}
 use lib.ListN.{length-replicate}
 use lib.Seq.{length-take-le}
 use Rattle.figures.specs.Limits.{chart_words}
-use Rattle.book.specs.declared.Scan.TheVariants.{Accepted}
-use Rattle.opening.specs.Open.{OpeningSays}
 use Rattle.opening.proofs.OpeningLaws.{none_threaded}
 use Rattle.reader.proofs.Given.{gives_book_refused, gives_promised}
 use Rattle.reader.proofs.read_line.Goals as goal
 
 pub slice_bounds-entries-end : goal.slice_bounds-entries-end
 slice_bounds-entries-end c =
-    let is_open : OpeningSays c.args.book.now c.open_book-scan.result.names c.open_book-scan.result.entries c.open_book-scan.result.alike c.open_book-scan.result.order c.open_book-scan.result.targets (Accepted c.in-Accepted.types c.in-Accepted.count c.in-Accepted.goals) = rw c.in-Accepted.is at c.open_book-scan.ensures in
+    let is_open = rw c.in-Accepted.is at c.open_book-scan.ensures in
     omega (arith, is_open.2)
 
 pub slice_bounds-read_open-end-in-Accepted : goal.slice_bounds-read_open-end-in-Accepted
 slice_bounds-read_open-end-in-Accepted c =
-    let is_open : OpeningSays c.args.book.now c.open_book-scan.result.names c.open_book-scan.result.entries c.open_book-scan.result.alike c.open_book-scan.result.order c.open_book-scan.result.targets (Accepted c.in-Accepted.types c.in-Accepted.count c.in-Accepted.goals) = rw c.in-Accepted.is at c.open_book-scan.ensures in
+    let is_open = rw c.in-Accepted.is at c.open_book-scan.ensures in
     sym (length-take-le _ _ is_open.2)
 
 pub slice_bounds-order-end : goal.slice_bounds-order-end
 slice_bounds-order-end c =
-    let is_open : OpeningSays c.args.book.now c.open_book-scan.result.names c.open_book-scan.result.entries c.open_book-scan.result.alike c.open_book-scan.result.order c.open_book-scan.result.targets (Accepted c.in-Accepted.types c.in-Accepted.count c.in-Accepted.goals) = rw c.in-Accepted.is at c.open_book-scan.ensures in
+    let is_open = rw c.in-Accepted.is at c.open_book-scan.ensures in
     omega (arith, is_open.1)
 
 pub slice_bounds-read_open-end-in-Accepted-3 : goal.slice_bounds-read_open-end-in-Accepted-3
 slice_bounds-read_open-end-in-Accepted-3 c =
-    let is_open : OpeningSays c.args.book.now c.open_book-scan.result.names c.open_book-scan.result.entries c.open_book-scan.result.alike c.open_book-scan.result.order c.open_book-scan.result.targets (Accepted c.in-Accepted.types c.in-Accepted.count c.in-Accepted.goals) = rw c.in-Accepted.is at c.open_book-scan.ensures in
+    let is_open = rw c.in-Accepted.is at c.open_book-scan.ensures in
     sym (length-take-le _ _ is_open.1)
 
 pub slice_bounds-targets-end : goal.slice_bounds-targets-end
 slice_bounds-targets-end c =
-    let is_open : OpeningSays c.args.book.now c.open_book-scan.result.names c.open_book-scan.result.entries c.open_book-scan.result.alike c.open_book-scan.result.order c.open_book-scan.result.targets (Accepted c.in-Accepted.types c.in-Accepted.count c.in-Accepted.goals) = rw c.in-Accepted.is at c.open_book-scan.ensures in
+    let is_open = rw c.in-Accepted.is at c.open_book-scan.ensures in
     omega (arith, is_open.3)
 
 pub slice_bounds-read_open-end-in-Accepted-4 : goal.slice_bounds-read_open-end-in-Accepted-4
 slice_bounds-read_open-end-in-Accepted-4 c =
-    let is_open : OpeningSays c.args.book.now c.open_book-scan.result.names c.open_book-scan.result.entries c.open_book-scan.result.alike c.open_book-scan.result.order c.open_book-scan.result.targets (Accepted c.in-Accepted.types c.in-Accepted.count c.in-Accepted.goals) = rw c.in-Accepted.is at c.open_book-scan.ensures in
+    let is_open = rw c.in-Accepted.is at c.open_book-scan.ensures in
     sym (length-take-le _ _ is_open.3)
 
 pub read_open-requires : goal.read_open-requires
 read_open-requires c =
-    let is_open : OpeningSays c.args.book.now c.open_book-scan.result.names c.open_book-scan.result.entries c.open_book-scan.result.alike c.open_book-scan.result.order c.open_book-scan.result.targets (Accepted c.in-Accepted.types c.in-Accepted.count c.in-Accepted.goals) = rw c.in-Accepted.is at c.open_book-scan.ensures in
+    let is_open = rw c.in-Accepted.is at c.open_book-scan.ensures in
     let o = is_open.0 in
     record { fact = (o, none_threaded o.1.kept.lexicon.kept); chart_len = length-replicate {A = ℕ} chart_words 0 }
 

@@ -2,13 +2,7 @@
 -- answers.
 use native.Mathlib.Omega.{arith}
 use mathlib.Core.Path.{sym}
-use lib.ListN.{length, take}
 use lib.Seq.{length-take-le}
-use Rattle.order.specs.Closed.{below}
-use Rattle.line.specs.declared.CheckedLine.TheVariants.{Found}
-use Rattle.line.specs.LineFaults.{entries_of_line}
-use Rattle.line.specs.LookUp.{LineSays}
-use Rattle.line.specs.FoundWords.{FoundWords}
 use Rattle.opening.proofs.OpeningLaws.{line_found}
 use Rattle.reader.proofs.Given.{gives_line_refused, gives_outcome}
 use Rattle.reader.proofs.read_open.Goals as goal
@@ -26,23 +20,23 @@ returns-in-Refused c =
 
 pub slice_bounds-firsts-end : goal.slice_bounds-firsts-end
 slice_bounds-firsts-end c =
-    let says : LineSays c.args.book.now c.args.entries.now c.requires.fact.0.0 c.args.line.now c.check_line-checked.new.firsts c.check_line-checked.new.same (Found c.in-Found.words) = (rw c.in-Found.is at c.check_line-checked.ensures.line_says) c.requires.fact.0.0 c.requires.fact.0.1.kept in
+    let says = c.in-Found.ensures.line_says _ c.requires.fact.0.1.kept in
     omega (arith, says.1)
 
 pub slice_bounds-read_words-end : goal.slice_bounds-read_words-end
 slice_bounds-read_words-end c =
-    let says : LineSays c.args.book.now c.args.entries.now c.requires.fact.0.0 c.args.line.now c.check_line-checked.new.firsts c.check_line-checked.new.same (Found c.in-Found.words) = (rw c.in-Found.is at c.check_line-checked.ensures.line_says) c.requires.fact.0.0 c.requires.fact.0.1.kept in
+    let says = c.in-Found.ensures.line_says _ c.requires.fact.0.1.kept in
     sym (length-take-le _ _ says.1)
 
 pub read_words-requires : goal.read_words-requires
 read_words-requires c =
-    let says : LineSays c.args.book.now c.args.entries.now c.requires.fact.0.0 c.args.line.now c.check_line-checked.new.firsts c.check_line-checked.new.same (Found c.in-Found.words) = (rw c.in-Found.is at c.check_line-checked.ensures.line_says) c.requires.fact.0.0 c.requires.fact.0.1.kept in
-    let found : FoundWords c.args.book.now c.args.names.now c.args.entries.now c.check_line-checked.new.same (take c.in-Found.words c.check_line-checked.new.firsts) c.args.order.now c.args.targets.now (below (length c.requires.fact.0.0.names) c.requires.fact.0.0.pairs) (entries_of_line c.requires.fact.0.0 c.args.line.now) = line_found c.requires.fact.0.1 c.check_line-checked.ensures.threaded says.0 says.2 in
+    let says = c.in-Found.ensures.line_says _ c.requires.fact.0.1.kept in
+    let found = line_found c.requires.fact.0.1 c.check_line-checked.ensures.threaded says.0 says.2 in
     record { are_found = (_, _, found); chart_len = c.requires.chart_len }
 
 pub returns : goal.returns
 returns c =
-    let says : LineSays c.args.book.now c.args.entries.now c.requires.fact.0.0 c.args.line.now c.check_line-checked.new.firsts c.check_line-checked.new.same (Found c.in-Found.words) = (rw c.in-Found.is at c.check_line-checked.ensures.line_says) c.requires.fact.0.0 c.requires.fact.0.1.kept in
-    let found : FoundWords c.args.book.now c.args.names.now c.args.entries.now c.check_line-checked.new.same (take c.in-Found.words c.check_line-checked.new.firsts) c.args.order.now c.args.targets.now (below (length c.requires.fact.0.0.names) c.requires.fact.0.0.pairs) (entries_of_line c.requires.fact.0.0 c.args.line.now) = line_found c.requires.fact.0.1 c.check_line-checked.ensures.threaded says.0 says.2 in
+    let says = c.in-Found.ensures.line_says _ c.requires.fact.0.1.kept in
+    let found = line_found c.requires.fact.0.1 c.check_line-checked.ensures.threaded says.0 says.2 in
     let o = c.requires.fact.0.1 in
     record { threaded = c.check_line-checked.ensures.threaded; gives = gives_outcome _ _ _ o.parsed says.0 o.chosen (c.read_words.ensures _ _ found) }

@@ -7,7 +7,7 @@ use mathlib.Core.Option.{some, none}
 use lib.ListN.{length}
 use borrow.Author.Tests.{lt-ltb, le-ltb}
 use Rattle.figures.specs.Limits.{max_words}
-use Rattle.line.proofs.WordLaws.{Spelt, word_found}
+use Rattle.line.proofs.WordLaws.{word_found}
 use Rattle.line.proofs.SplitLaws.{splitting_start, splitting_long, splitting_many, splitting_next, splitting_end}
 use Rattle.line.specs.Split.{at_byte}
 use Rattle.line.proofs.split.split.Goals as goal
@@ -25,7 +25,7 @@ loop-at-init c =
 
 pub overflow_sub-end : goal.overflow_sub-end
 overflow_sub-end c =
-    let word : Spelt c.args.line.now c.loop-at.at c.find_byte-end.result = word_found _ _ _ c.loop-at-test.true (c.loop-at.invariant.stops c.loop-at-test.true) c.find_byte-end.ensures in
+    let word = word_found _ _ _ c.loop-at-test.true (c.loop-at.invariant.stops c.loop-at-test.true) c.find_byte-end.ensures in
     omega (arith, word.some_bytes)
 
 pub shape_of-starts-then-end-at-gt-MAX_WORD : goal.shape_of-starts-then-end-at-gt-MAX_WORD
@@ -36,7 +36,7 @@ shape_of-ends-then-end-at-gt-MAX_WORD c = c.loop-at.invariant.ends_length
 
 pub returns-then-end-at-gt-MAX_WORD : goal.returns-then-end-at-gt-MAX_WORD
 returns-then-end-at-gt-MAX_WORD c =
-    let word : Spelt c.args.line.now c.loop-at.at c.find_byte-end.result = word_found _ _ _ c.loop-at-test.true (c.loop-at.invariant.stops c.loop-at-test.true) c.find_byte-end.ensures in
+    let word = word_found _ _ _ c.loop-at-test.true (c.loop-at.invariant.stops c.loop-at-test.true) c.find_byte-end.ensures in
     let l = c.loop-at in
     splitting_long _ _ _ l.starts l.ends l.count l.at l.invariant _ word c.if-end-at-gt-MAX_WORD.true
 
@@ -48,7 +48,7 @@ shape_of-ends-then-count-ge-MAX_WORDS c = c.loop-at.invariant.ends_length
 
 pub returns-then-count-ge-MAX_WORDS : goal.returns-then-count-ge-MAX_WORDS
 returns-then-count-ge-MAX_WORDS c =
-    let word : Spelt c.args.line.now c.loop-at.at c.find_byte-end.result = word_found _ _ _ c.loop-at-test.true (c.loop-at.invariant.stops c.loop-at-test.true) c.find_byte-end.ensures in
+    let word = word_found _ _ _ c.loop-at-test.true (c.loop-at.invariant.stops c.loop-at-test.true) c.find_byte-end.ensures in
     let l = c.loop-at in
     splitting_many _ _ _ l.starts l.ends l.count l.at l.invariant _ word (omega arith) c.if-count-ge-MAX_WORDS.true
 
@@ -60,17 +60,17 @@ bounds-ends-count c = omega (arith, c.loop-at.invariant.ends_length, c.requires.
 
 pub skip_spaces-at-requires-in-loop-at : goal.skip_spaces-at-requires-in-loop-at
 skip_spaces-at-requires-in-loop-at c =
-    let word : Spelt c.args.line.now c.loop-at.at c.find_byte-end.result = word_found _ _ _ c.loop-at-test.true (c.loop-at.invariant.stops c.loop-at-test.true) c.find_byte-end.ensures in
+    let word = word_found _ _ _ c.loop-at-test.true (c.loop-at.invariant.stops c.loop-at-test.true) c.find_byte-end.ensures in
     word.inside
 
 pub loop-at-smaller : goal.loop-at-smaller
 loop-at-smaller c =
-    let word : Spelt c.args.line.now c.loop-at.at c.find_byte-end.result = word_found _ _ _ c.loop-at-test.true (c.loop-at.invariant.stops c.loop-at-test.true) c.find_byte-end.ensures in
+    let word = word_found _ _ _ c.loop-at-test.true (c.loop-at.invariant.stops c.loop-at-test.true) c.find_byte-end.ensures in
     omega (arith, word.some_bytes, word.inside, c.skip_spaces-at-in-loop-at.ensures.forth, c.skip_spaces-at-in-loop-at.ensures.inside)
 
 pub loop-at-preserved : goal.loop-at-preserved
 loop-at-preserved c =
-    let word : Spelt c.args.line.now c.loop-at.at c.find_byte-end.result = word_found _ _ _ c.loop-at-test.true (c.loop-at.invariant.stops c.loop-at-test.true) c.find_byte-end.ensures in
+    let word = word_found _ _ _ c.loop-at-test.true (c.loop-at.invariant.stops c.loop-at-test.true) c.find_byte-end.ensures in
     let l = c.loop-at in
     splitting_next _ _ _ l.starts l.ends l.count l.at l.invariant _ word (omega arith) (omega arith) _ c.skip_spaces-at-in-loop-at.ensures (omega (arith, l.invariant.starts_length, c.requires.0)) (omega (arith, l.invariant.ends_length, c.requires.1))
 

@@ -1,15 +1,14 @@
 -- `line::words::look_up` meets its contract: every word passed has an entry, its entries are threaded, and their simple types are summed.
 use native.Mathlib.Omega.{arith}
-use Prim.Native.Nat.{ℕ, ◌*◌, ◌≤◌, ◌<◌}
+use Prim.Native.Nat.{◌*◌, ◌≤◌, ◌<◌}
 use mathlib.Core.Path.{◌≡◌, refl, ◌∙◌}
-use lib.ListN.{length, get_or, length-set}
+use lib.ListN.{length, length-set}
 use Rattle.lookup.proofs.FindLaws.{found_thread}
 use Rattle.figures.specs.Limits.{max_entries, max_entry_simples}
 use Rattle.book.specs.Format.{Book}
 use Rattle.lookup.specs.Entries.{KeptOf}
 use Rattle.lookup.specs.Threads.{Thread}
 use Rattle.line.specs.LineFaults.{entries_of}
-use Rattle.line.specs.Split.{Lies}
 use Rattle.line.proofs.LineLaws.{word, found_more, looking_start, looking_none, looking_next, looking_full, looking_end, word_range, word_thread}
 use Rattle.line.proofs.words.look_up.Goals as goal
 
@@ -31,17 +30,17 @@ bounds-ends-k c = omega (arith, c.loop-k-test.true, c.requires.3.as_many)
 
 pub slice_bounds-find_word-count : goal.slice_bounds-find_word-count
 slice_bounds-find_word-count c =
-    let lies : Lies c.args.line.now (get_or {A = ℕ} c.args.starts.now c.loop-k.k 0) (get_or {A = ℕ} c.args.ends.now c.loop-k.k 0) = c.requires.3.lying c.loop-k.k c.loop-k-test.true in
+    let lies = c.requires.3.lying c.loop-k.k c.loop-k-test.true in
     omega (arith, lies.0)
 
 pub slice_bounds-find_word-start : goal.slice_bounds-find_word-start
 slice_bounds-find_word-start c =
-    let lies : Lies c.args.line.now (get_or {A = ℕ} c.args.starts.now c.loop-k.k 0) (get_or {A = ℕ} c.args.ends.now c.loop-k.k 0) = c.requires.3.lying c.loop-k.k c.loop-k-test.true in
+    let lies = c.requires.3.lying c.loop-k.k c.loop-k-test.true in
     omega (arith, lies.0)
 
 pub slice_bounds-find_word-end : goal.slice_bounds-find_word-end
 slice_bounds-find_word-end c =
-    let lies : Lies c.args.line.now (get_or {A = ℕ} c.args.starts.now c.loop-k.k 0) (get_or {A = ℕ} c.args.ends.now c.loop-k.k 0) = c.requires.3.lying c.loop-k.k c.loop-k-test.true in
+    let lies = c.requires.3.lying c.loop-k.k c.loop-k-test.true in
     omega (arith, lies.1)
 
 pub find_word-first-requires : goal.find_word-first-requires
