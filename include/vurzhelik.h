@@ -1,4 +1,4 @@
-/* Vurzhelik, the proved reader of order lines, for C and C++. Link libvurzhelik.a, which `rt lib vurzhelik` writes to
+/* Vurzhelik, the proved reader of order lines, for C and C++. Link libvurzhelik.a, which `rt lib` in crates/vurzhelik writes to
  * crates/vurzhelik/out; it is for x86-64 Linux.
  *
  * Lists. A list is passed as a pointer to its values and their number. Any bytes may stand in a book, a line and a batch, of any length.

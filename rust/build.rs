@@ -1,4 +1,4 @@
-//! Links the static library that `rt lib vurzhelik` writes.
+//! Links the static library that `rt lib` in crates/vurzhelik writes.
 use std::path::Path;
 
 fn main() {
@@ -7,7 +7,7 @@ fn main() {
     println!("cargo:rerun-if-changed={}", archive.display());
     if !archive.exists() {
         eprintln!(
-            "no {}: run `rt lib vurzhelik` in the repository first",
+            "no {}: run `rt lib` in crates/vurzhelik of the repository first",
             archive.display()
         );
         std::process::exit(1);

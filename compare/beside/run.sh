@@ -1,5 +1,5 @@
 #!/usr/bin/env bash
-# Times the library beside link-grammar, in one run: see beside.c. Needs `rt lib vurzhelik` run before, a C compiler, and Debian's
+# Times the library beside link-grammar, in one run: see beside.c. Needs `rt lib` in crates/vurzhelik run before, a C compiler, and Debian's
 # package liblink-grammar-dev.
 set -eu
 cd "$(dirname "$0")"

@@ -20,7 +20,7 @@
 //! # Ok::<(), vurzhelik::Refusal>(())
 //! ```
 //!
-//! The crate links `crates/vurzhelik/out/libvurzhelik.a` of the repository that it stands in; `rt lib vurzhelik` proves and writes it.
+//! The crate links `crates/vurzhelik/out/libvurzhelik.a` of the repository that it stands in; `rt lib` in crates/vurzhelik proves and writes it.
 //! `include/vurzhelik.h` says what its functions ask and give, and how much stack a call takes: the threads of `std` have enough.
 
 use std::fmt;
