@@ -120,7 +120,7 @@ words_brief B short (w ∷ words) = brief (entries_brief 0 B.entries w.bytes sho
 pub line_brief : (B : Book) (line : Bytes) (words : Words) → AllShort B.entries → Passing B line words → AllBrief words
 line_brief B line words short p = subst AllBrief (sym p.words_are) (words_brief B short (words_of line))
 
--- So a choice has at most maxEntrySimples simple types a word.
+-- So a choice has at most max_entry_simples simple types a word.
 pub choice_brief : {words : Words} {ns : List ℕ} {X : PregroupType} → AllBrief words → Choice words ns X → length X ≤ max_entry_simples * length words
 choice_brief no_words empty-choice = omega arith
 choice_brief (brief b rest) (take {e} {X} m c) = let h = choice_brief rest c in let k = b e m in let n = length-append e.type X in omega arith
