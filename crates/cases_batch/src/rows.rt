@@ -87,13 +87,11 @@ fn list(rt: &HostRuntime, values: &Values, from: usize, to: usize) -> io::Result
 fn show(rt: &HostRuntime, values: &Values) -> io::Result<()> {
     let count = changed(values);
     if count == 0 {
-        write(rt, b" kept")?;
-        return Ok(());
+        return write(rt, b" kept");
     }
     write(rt, b":")?;
     if count <= WHOLE {
-        list(rt, values, 0, count)?;
-        return Ok(());
+        return list(rt, values, 0, count);
     }
     list(rt, values, 0, FIRST)?;
     write(rt, b" ..")?;

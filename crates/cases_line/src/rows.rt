@@ -101,10 +101,10 @@ fn ordinary_answer(rt: &HostRuntime, res: LineAnswer, list: &[u16]) -> io::Resul
 fn whether(rt: &HostRuntime, res: WayAnswer) -> io::Result<()> {
     match res {
         WayAnswer::Ordinary(ordinary) => match ordinary {
-            LineAnswer::Read { .. } => { write(rt, b" yes") }
-            LineAnswer::Refused { .. } => { write(rt, b" no") }
+            LineAnswer::Read { .. } => write(rt, b" yes"),
+            LineAnswer::Refused { .. } => write(rt, b" no"),
         },
-        WayAnswer::NoReading { .. } => { write(rt, b" no") }
+        WayAnswer::NoReading { .. } => write(rt, b" no"),
     }
 }
 

@@ -115,8 +115,7 @@ fn list_given(
 fn list_line(rt: &HostRuntime, label: &[u8], book: &[u8], rest: &[u8]) -> io::Result<()> {
     let colon = find(rest, b':');
     if colon >= rest.len() {
-        list_read(rt, label, book, rest)?;
-        return Ok(());
+        return list_read(rt, label, book, rest);
     }
     let numbers = colon + 1;
     list_given(rt, label, book, &rest[0..colon], &rest[numbers..])

@@ -63,10 +63,7 @@ pub fn take_book(rt: &HostRuntime, book: &mut [u8]) -> usize
     ensures counted { result ≡ length (take result book.new) }
 {
     match File::open(rt, "book.bin") {
-        Ok(file) => {
-            let mut file = file;
-            take_file(&mut file, book)
-        }
+        Ok(mut file) => take_file(&mut file, book),
         Err(_) => 0,
     }
 }

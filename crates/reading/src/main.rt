@@ -32,8 +32,7 @@ fn main(rt: HostRuntime) -> io::Result<()> {
     let mut line = [0u8; LINE_ROOM];
     let length = input::take_line(&rt, &mut line);
     if MAX_LINE < length {
-        io::writer(&rt).write_all(b"long\n")?;
-        return Ok(());
+        return io::writer(&rt).write_all(b"long\n");
     }
     let mut book = [0u8; BOOK_ROOM];
     let size = input::take_book(&rt, &mut book);
