@@ -569,16 +569,27 @@ mod tests {
         header.lines().find_map(number).expect(name)
     }
 
+    /// A constant's name as that of a variant.
+    fn in_camel_case(name: &str) -> String {
+        name.split('_')
+            .flat_map(|word| {
+                let (first, rest) = word.split_at(1);
+                [first.to_string(), rest.to_lowercase()]
+            })
+            .collect()
+    }
+
     #[test]
     fn refusals_are_those_of_the_source() {
         let source = include_str!("../../crates/figures/src/refusals.rt");
-        let constants: Vec<&str> = source
+        let causes: Vec<&str> = source
             .lines()
-            .filter(|line| line.starts_with("pub const"))
+            .map(str::trim)
+            .filter(|line| line.ends_with(',') && line.contains(" = "))
             .collect();
         let listed =
-            refusals::LIST.map(|(number, name, _)| format!("pub const {name}: u32 = {number};"));
-        assert_eq!(constants, listed);
+            refusals::LIST.map(|(number, name, _)| format!("{} = {number},", in_camel_case(name)));
+        assert_eq!(causes, listed);
     }
 
     #[test]

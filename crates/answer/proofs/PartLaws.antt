@@ -1,25 +1,17 @@
--- The parts of values: what counts where values are missing, the parts of an answer's own values, and how wide they are.
+-- The parts of values: those of an answer's own values, and how wide they are.
 use Prim.Native.Nat.{ℕ, suc, ◌+◌, ◌-◌, ◌≤◌, ◌<◌}
 use native.Mathlib.Numerals.{add-one}
 use native.Mathlib.Omega.{arith}
 use mathlib.Core.Path.{◌≡◌, sym, ap, ◌∙◌}
 use mathlib.Core.Logic.{◌⊎◌, inl, inr}
-use mathlib.Core.List.{List, [], ◌∷◌, ◌++◌}
-use lib.ListN.{length, get_or, take, drop, length-take, length-drop, get_or-eq_default, drop_of_length-le}
-use lib.Seq.{take_all, take-nil, take-length, take-append_seam, drop-append-add, get_or-append_seam, get_or-take, get_or-drop}
+use mathlib.Core.List.{List, ◌∷◌, ◌++◌}
+use lib.ListN.{length, get_or, take, drop, length-take, get_or-eq_default}
+use lib.Seq.{take-length, take-append_seam, drop-append-add, get_or-append_seam, get_or-take, get_or-drop}
 use Rattle.bits.proofs.Cases.{less_or_not}
 use Rattle.figures.specs.Limits.{answer_head, value_bound}
 use Rattle.linking.specs.Reading.{Answer}
 use Rattle.answer.specs.Answers.{values_of}
 use Rattle.answer.specs.Parts.{target_part, counted, entries_part, partners_part}
-
-module _ (values : List ℕ) (at : ℕ) where
-  pub counted_none : length values ≤ at → [] ≡ counted values at
-  counted_none h = rw (drop_of_length-le values {i = suc at} (omega arith)) (sym (take-nil (get_or {A = ℕ} values at 0)))
-
-  -- The first of those behind the count.
-  pub counted_first : {count : ℕ} → count ≡ get_or {A = ℕ} values at 0 → take count (take (length values - (at + 1)) (drop (at + 1) values)) ≡ counted values at
-  counted_first e = rw (take_all (length values - (at + 1)) (drop (at + 1) values) (omega (arith, length-drop (at + 1) values)), e, add-one at)
 
 -- The parts of an answer's values are its entry numbers and its partners.
 module _ (a : Answer) where

@@ -4,7 +4,7 @@ use native.Mathlib.Omega.{arith}
 use mathlib.Core.Path.{◌≡◌, refl, sym, ap, ap₂, ◌∙◌}
 use mathlib.Core.List.{List, [], ◌∷◌, ◌++◌, map, map-append, append_assoc}
 use lib.ListN.{get_or, length, take, drop, set, length-map, length-append, length-set}
-use lib.Seq.{length-take-le, take_all, take-suc, drop-cons, append_snoc, set_at, take_at, drop_at, drop-drop, drop-set-lt}
+use lib.Seq.{length-take-le, take-suc, drop-cons, append_snoc, set_at, take_at, drop_at, drop-drop}
 use Rattle.graph.specs.Graph.{number_at}
 use Rattle.answer.specs.Entries.{entry_numbers}
 
@@ -74,20 +74,6 @@ module _ (t : ℕ) (slots chosen before answer : List ℕ) (i : ℕ) (so_far : E
             ∙ set_behind before ns t n i v few (omega arith)
             ∙ rw (three, one) (ap (λ (l : List ℕ). t ∷ n ∷ l) next);
       }
-
--- When all are written: what stood in the buffer behind them is kept.
-pub entries_end :
-    (t : ℕ) (slots chosen before answer : List ℕ) (i : ℕ) → EntriesWritten t slots chosen (headed before t (length chosen)) answer i → length chosen ≤ i
-    → answer ≡ t ∷ length chosen ∷ (entry_numbers slots chosen ++ drop (length chosen + 2) before)
-entries_end t slots chosen before answer i so_far h =
-    let n = length chosen in
-    let w = so_far.within in
-    let end : i ≡ n = omega arith in
-    let all = take_all i chosen h in
-    let kept = drop-set-lt (n + 2) (set before 0 t) 1 n (omega arith) ∙ drop-set-lt (n + 2) before 0 t (omega arith) in
-    so_far.written ∙ ap (λ (l : List ℕ). t ∷ n ∷ (entry_numbers slots l ++ drop (i + 2) (headed before t n))) all
-    ∙ ap (λ (k : ℕ). t ∷ n ∷ (entry_numbers slots chosen ++ drop (k + 2) (headed before t n))) end
-    ∙ ap (λ (l : List ℕ). t ∷ n ∷ (entry_numbers slots chosen ++ l)) kept
 
 -- The count is written behind the entries.
 counted_parts :

@@ -1,17 +1,20 @@
 -- Document 01, "When the screen says no", from 15 on: what reading answers, and what the answer buffer holds then.
-use Rattle.std.specs.Prelude.{ℕ, ◌+◌, ◌≡◌, cond, List, ◌∷◌, ◌++◌, ltb, length, take, drop}
+use Rattle.std.specs.Prelude.{Result, Ok, Err, ℕ, ◌+◌, ◌≡◌, cond, List, ◌∷◌, ◌++◌, ltb, length, take, drop}
 use Rattle.std.proofs.Math.Option.{Option, none, some}
 use Rattle.figures.specs.Limits.{answer_head}
-use Rattle.figures.specs.Refusals.{Reply, refusal, no_reading, buffer_too_short}
+use Rattle.figures.specs.declared.refusals.Refusal.{Refusal}
+use Rattle.figures.specs.Refusals.{Reply, refusal, Refused, no_reading, buffer_too_short}
 use Rattle.linking.specs.Reading.{Answer}
-use Rattle.answer.specs.declared.LineAnswer.{LineAnswer}
-use Rattle.answer.specs.declared.LineAnswer.TheVariants.{Read, Refused}
+
+-- What reading a line answers: how many values of the buffer are the answer's, or the refusal.
+abbrev pub LineAnswer : Type 0
+LineAnswer = Result ℕ Refusal
 
 -- The paper's number and values for each answer, with the buffer behind it: 0 and the values written, or the number of the refusal and the
 -- value returned with it.
 abbrev pub line_reply : LineAnswer → List ℕ → Reply
-line_reply (Read n) buffer = record { number = 0; values = take n buffer }
-line_reply (Refused number value) buffer = refusal number value
+line_reply (Ok n) buffer = record { number = 0; values = take n buffer }
+line_reply (Err r) buffer = refusal r.number r.value
 
 -- What an entry that answers an A returns, and what the buffer holds then.
 pub record Outcome (A : Type 0) : Type 0 where
@@ -36,7 +39,7 @@ given none buffer = record { answer = Refused no_reading 0; buffer = buffer }
 given (some a) buffer =
     let values = values_of a in
     cond (ltb (length buffer) (length values)) (record { answer = Refused buffer_too_short (length values); buffer = buffer })
-    (record { answer = Read (length values); buffer = values ++ drop (length values) buffer })
+    (record { answer = Ok (length values); buffer = values ++ drop (length values) buffer })
 
 -- This is returned, and the buffer holds that.
 pub record Gives {A : Type 0} (o : Outcome A) (answer : A) (after : List ℕ) : Type 0 where

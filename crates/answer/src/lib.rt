@@ -1,4 +1,4 @@
-// What reading answers, and an answer written into the lent buffer of 16-bit numbers: the target's number, the number of words, the numbers of their entries, the number
+// An answer written into the lent buffer of 16-bit numbers: the target's number, the number of words, the numbers of their entries, the number
 // of simple types, and their partners, which are found and written by `links`.
 #![tactic(auto)]
 
@@ -23,14 +23,6 @@ const WORDS: usize = ANSWER_HEAD - 2;
 // How many values stand before the number of simple types, beside the entries.
 const BEFORE_SIMPLES: usize = ANSWER_HEAD - 1;
 
-// What reading answers. `Read`: the buffer holds the answer, and `values` of its values are the answer's. `Refused`: the number
-// of the refusal and the value returned with it; the buffer is as it was.
-#[derive(Drop)]
-pub enum LineAnswer {
-    Read { values: usize },
-    Refused { number: u32, value: usize },
-}
-
 // How many values an answer has.
 pub fn answer_length(words: usize, simples: usize) -> usize
     requires { (words ≤ max_words) × (simples ≤ max_places) }
@@ -47,10 +39,8 @@ fn write_entries(t: usize, slots: &[u64], chosen: &[u16], answer: &mut [u16])
 {
     answer[TARGET] = t as u16;
     answer[WORDS] = chosen.len() as u16;
-    let mut i = 0;
-    while i < chosen.len() {
-        answer[i + BEFORE_SIMPLES] = number_at(slots, chosen[i] as usize);
-        i += 1;
+    for (i, slot) in chosen.iter().enumerate() {
+        answer[i + BEFORE_SIMPLES] = number_at(slots, usize::from(*slot));
     }
 }
 

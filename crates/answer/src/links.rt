@@ -10,7 +10,7 @@ ghost use Rattle.answer.specs.Links.{Stays, Closes, NearestLink, EndRowThere, wi
 
 use bits::rows;
 use bits::rows::Row;
-use figures::limits::{ROW_BITS, ROW_WORDS};
+use figures::limits::ROW_BITS;
 use pregroup::LinkKind;
 
 // Whether i may stay unlinked: its simple type may remain, and what stands behind it vanishes.
@@ -21,10 +21,7 @@ fn may_stay(order: &[u64], string: &[u16], target: u8, table: &[u64], i: usize) 
     ensures { (result ≡ true)
         ↔ Stays (InRows order.now) target string.now table.now (length string.now) i }
 {
-    if pregroup::may_remain(order, string[i], target) {
-        return rows::member(table, string.len(), i + 1);
-    }
-    false
+    pregroup::may_remain(order, string[i], target) && rows::member(table, string.len(), i + 1)
 }
 
 // Whether i may be linked to k: they could contract, and what stands between them vanishes.
@@ -46,18 +43,16 @@ fn nearest(order: &[u64], string: &[u16], table: &[u64], ends: &[u64], e: usize,
     requires end_row_there { EndRowThere string.now table.now ends.now e }
     ensures { NearestLink (InRows order.now) string.now table.now ends.now e i result }
 {
-    let mut found = ROW_BITS;
-    let mut j = rows::next_member(ends, e, i + 2);
-    while j < found {
+    for j in rows::members(ends, e, i + 2) {
         if may_close(order, string, table, i, j - 1) {
-            found = j - 1;
+            return j - 1;
         }
-        j = rows::next_member(ends, e, j + 1);
     }
-    found
+    // `ROW_BITS` says that there is none, as `NearestLink` has it.
+    ROW_BITS
 }
 
-// Writes i as its own partner.
+// Writes i as its own partner. The whole buffer goes with the place `at` of the partners, since the definitions of specs/Links name both.
 fn write_stay(answer: &mut [u16], at: usize, i: usize)
     requires i_lt_max_places { i < max_places }
     requires i_in_bounds { at + i < length answer.old }
@@ -83,17 +78,9 @@ fn staying(order: &[u64], string: &[u16], target: u8, table: &[u64]) -> Row
     ensures { RowSays result.words 0
         (Stays (InRows order.now) target string.now table.now (length string.now)) }
 {
-    let mut words = [0u64; ROW_WORDS];
-    let mut j = rows::next_member(table, string.len(), 1);
-    while j < ROW_BITS {
-        rows::put_where(
-            &mut words,
-            j - 1,
-            pregroup::may_remain(order, string[j - 1], target),
-        );
-        j = rows::next_member(table, string.len(), j + 1);
-    }
-    Row { words }
+    rows::members_where(table, string.len(), 1, 1, |i| {
+        pregroup::may_remain(order, string[i], target)
+    })
 }
 
 // Writes the partners of the stretch from i up to j, which vanishes: each the nearest that leaves the rest vanishing.

@@ -4,7 +4,7 @@ ghost use Rattle.std.specs.Prelude.{◌≡◌, take};
 ghost use Rattle.answer.specs.Parts.{target_part, counted as Parts·counted, entries_part, partners_part};
 
 use crate::{BEFORE_SIMPLES, TARGET, WORDS};
-use bytewise::widths::{value_at, wide_number};
+use bytewise::widths::value_at;
 
 // The target's number.
 pub fn target_of(values: &[u16]) -> usize
@@ -17,20 +17,18 @@ pub fn target_of(values: &[u16]) -> usize
 pub fn first_values(values: &[u16], most: usize) -> &[u16]
     ensures { result.now ≡ take most values.now }
 {
-    if values.len() < most {
-        return values;
-    }
-    &values[..most]
+    &values[..most.min(values.len())]
 }
 
 // The values that stand behind their count.
 fn counted(values: &[u16], at: usize) -> &[u16]
     ensures { result.now ≡ Parts·counted values.now at }
 {
-    if values.len() <= at {
-        return &values[..0];
+    if at < values.len() {
+        first_values(&values[at + 1..], usize::from(values[at]))
+    } else {
+        &[]
     }
-    first_values(&values[at + 1..], wide_number(values[at]))
 }
 
 // The entry numbers.

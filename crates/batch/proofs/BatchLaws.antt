@@ -12,8 +12,9 @@ use Rattle.figures.specs.Refusals.{bad_batch, answers_too_long}
 use Rattle.format.specs.Records.{Bytes}
 use Rattle.book.specs.Format.{Book, accepted, refused, parse}
 use Rattle.answer.specs.Answers.{Outcome, Gives}
-use Rattle.batch.specs.declared.BatchAnswer.{BatchAnswer}
-use Rattle.batch.specs.declared.BatchAnswer.TheVariants.{Answered, Refused}
+use Rattle.batch.specs.Batch.{BatchAnswer}
+use Rattle.std.specs.Prelude.{Ok}
+use Rattle.figures.specs.Refusals.{Refused}
 use Rattle.batch_lines.specs.Lines.{batch_lines}
 use Rattle.batch_parts.specs.Parts.{parts_of}
 use Rattle.batch.specs.Batch.{given_parts, read_lines, read_batch, batch_outcome}
@@ -56,9 +57,9 @@ module _ (book batch : Bytes) (before : List ℕ) (lines : List Bytes) (split : 
         (rw (needed, lt-ltb (length before) used h) (record { returned = refl; left = refl }))
 
     pub gives_answers : (n : ℕ) → length lines ≡ n → used ≤ length before
-        → Gives (batch_outcome book batch before) (Answered n) (take used store ++ drop (length (take used store)) before)
+        → Gives (batch_outcome book batch before) (Ok n) (take used store ++ drop (length (take used store)) before)
     unfolding given_parts
     gives_answers n count h =
         let so-many = length-take-le used store stored.within in
-        subst (λ (o : Outcome BatchAnswer). Gives o (Answered n) (take used store ++ drop (length (take used store)) before)) (sym outcome_is)
-        (rw (needed, le-ltb (length before) used h, so-many) (record { returned = ap Answered (sym count); left = ap (λ (l : List ℕ). l ++ drop used before) parts }))
+        subst (λ (o : Outcome BatchAnswer). Gives o (Ok n) (take used store ++ drop (length (take used store)) before)) (sym outcome_is)
+        (rw (needed, le-ltb (length before) used h, so-many) (record { returned = ap Ok (sym count); left = ap (λ (l : List ℕ). l ++ drop used before) parts }))

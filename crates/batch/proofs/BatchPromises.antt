@@ -21,8 +21,10 @@ use Rattle.reader.proofs.Refusals.{book_some, NamedParse, parse_named}
 use Rattle.book.specs.Check.{BookNumber}
 use Rattle.reader.proofs.Promises.{outcome_promised, other_number, same_value}
 use Rattle.reader.proofs.Ample.{not_short, reading_within}
-use Rattle.batch.specs.declared.BatchAnswer.{BatchAnswer}
-use Rattle.batch.specs.declared.BatchAnswer.TheVariants.{Answered, Refused}
+use Rattle.answer.proofs.GivenLaws.{refused_number}
+use Rattle.batch.specs.Batch.{BatchAnswer}
+use Rattle.std.specs.Prelude.{Ok}
+use Rattle.figures.specs.Refusals.{Refused}
 use Rattle.batch_lines.specs.Lines.{lines_of, up_to, batch_lines, IsLines, IsBatch, BadBatch, more_bytes, more_lines, not_closed}
 use Rattle.batch_parts.specs.Parts.{alone_reply, part_of, parts_of}
 use Rattle.batch.specs.Batch.{batch_reply, given_parts, read_lines, read_batch, batch_outcome}
@@ -127,7 +129,7 @@ module _ (book batch : Bytes) (buffer : List ℕ) where
         → BatchCame (Refused number value) buffer
     too_many : {lines : List Bytes} {values : List ℕ} → GoodBatch book batch lines values → length buffer < length values → BatchCame (Refused answers_too_long (length values)) buffer
     all_answered : {lines : List Bytes} {values : List ℕ} → GoodBatch book batch lines values → length values ≤ length buffer
-        → BatchCame (Answered (length lines)) (values ++ drop (length values) buffer)
+        → BatchCame (Ok (length lines)) (values ++ drop (length values) buffer)
 
   came_given : {lines : List Bytes} (values : List ℕ) → GoodBatch book batch lines values
       → BatchCame (given_parts values (length lines) buffer).answer (given_parts values (length lines) buffer).buffer
@@ -138,7 +140,7 @@ module _ (book batch : Bytes) (buffer : List ℕ) where
       long = record { answer = Refused answers_too_long (length values); buffer = buffer }
 
       whole : Outcome BatchAnswer
-      whole = record { answer = Answered (length lines); buffer = values ++ drop (length values) buffer }
+      whole = record { answer = Ok (length lines); buffer = values ++ drop (length values) buffer }
 
       go : (t : Bool) → ltb (length buffer) (length values) ≡ t → BatchCame (cond t long whole).answer (cond t long whole).buffer
       go true q = too_many good (ltb-true _ _ q)
@@ -213,9 +215,9 @@ module _ (book batch : Bytes) (buffer : List ℕ) where
   )
 
   named_of : {answer : BatchAnswer} {after : List ℕ} → BatchCame answer after → (number value : ℕ) → answer ≡ Refused number value → BookNumber number ⊎ ((number ≡ bad_batch) ⊎ (number ≡ answers_too_long))
-  named_of (refused_batch b) number value h = inr (inl cc)
-  named_of (refused_book {number = n} i e named) number value h = let same : n ≡ number = cc in inl (subst BookNumber same named)
-  named_of (too_many g l) number value h = inr (inr cc)
+  named_of (refused_batch b) number value h = inr (inl (sym (refused_number h)))
+  named_of (refused_book {number = n} i e named) number value h = inl (subst BookNumber (refused_number h) named)
+  named_of (too_many g l) number value h = inr (inr (sym (refused_number h)))
   named_of (all_answered g l) number value h = let z : ◌≡◌ {A = ℕ} 0 1 = cc in absurd (omega arith)
 
   pub batch_promised : BatchPromised book batch buffer (batch_outcome book batch buffer).answer (batch_outcome book batch buffer).buffer

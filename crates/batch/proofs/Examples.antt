@@ -26,8 +26,9 @@ use Rattle.lookup.specs.Entries.{entries_from, simples_in, simples_of_words}
 use Rattle.answer.specs.Answers.{Outcome, given}
 use Rattle.reader.specs.Outcome.{read_against, read_parsed}
 use Rattle.reader.proofs.Table.{line_of}
-use Rattle.batch.specs.declared.BatchAnswer.{BatchAnswer}
-use Rattle.batch.specs.declared.BatchAnswer.TheVariants.{Answered, Refused}
+use Rattle.batch.specs.Batch.{BatchAnswer}
+use Rattle.std.specs.Prelude.{Ok}
+use Rattle.figures.specs.Refusals.{Refused}
 use Rattle.batch_lines.specs.Lines.{line_break, lines_of, up_to, batch_lines, close_each, Unbroken}
 use Rattle.batch_parts.specs.Parts.{parts_of}
 use Rattle.batch.specs.Batch.{given_parts, read_lines, read_batch, batch_outcome}
@@ -87,6 +88,6 @@ answers = 9 ∷ 0 ∷ 0 ∷ 2 ∷ 0 ∷ 2 ∷ 3 ∷ 1 ∷ 3 ∷ 2 ∷ 2 ∷ 15 �
 
 pub morning_lines :
     map (batch_outcome first_book morning) (replicate 21 7 ∷ replicate 19 7 ∷ replicate 18 7 ∷ [])
-    ≡ record { answer = Answered 4; buffer = answers ++ (7 ∷ 7 ∷ []) } ∷ record { answer = Answered 4; buffer = answers } ∷ refused answers_too_long 19 (replicate 18 7) ∷ []
+    ≡ record { answer = Ok 4; buffer = answers ++ (7 ∷ 7 ∷ []) } ∷ record { answer = Ok 4; buffer = answers } ∷ refused answers_too_long 19 (replicate 18 7) ∷ []
 unfolding every two_bytes name_byte is_name exponent_of simples_of is_worded is_entry exponent_listed same_bytes number_of body_rules record_rules first_broken add ended records_from parse even same_exponent contracts first_some linked_to first_within unlinked_at first_from first_linking first_entry first_behind first_target first_reading below small same_word words_from entries_from byte_fault word_fault entry_fault simples_in simples_of_words line_check given read_against read_parsed lines_of batch_lines parts_of given_parts read_lines read_batch
 morning_lines = refl

@@ -11,13 +11,13 @@ use Rattle.figures.specs.Refusals.{refusal, no_reading, buffer_too_short, bad_ba
 use Rattle.format.specs.Records.{Bytes}
 use Rattle.book.specs.Format.{Book}
 use Rattle.linking.specs.Reading.{Words, HasChain}
-use Rattle.answer.specs.declared.LineAnswer.TheVariants.{Refused as RefusedLine}
+use Rattle.figures.specs.Refusals.{Refused as RefusedLine}
 use Rattle.answer.specs.Answers.{line_reply, outcome_reply}
 use Rattle.reader.specs.Outcome.{outcome}
 use Rattle.reader.specs.Demands.{OrderOf, Readable}
 use Rattle.book.specs.Check.{BookNumber}
 use Rattle.reader.proofs.Ample.{ample_reply_lem, never_short}
-use Rattle.batch.specs.declared.BatchAnswer.TheVariants.{Refused}
+use Rattle.figures.specs.Refusals.{Refused}
 use Rattle.batch_lines.specs.Lines.{lines_of, IsLines, NotClosed, IsBatch, BadBatch}
 use Rattle.batch_parts.specs.Parts.{alone_reply, part_of, parts_of}
 use Rattle.batch.specs.Batch.{batch_outcome}

@@ -1,26 +1,29 @@
 -- Document 02, 2.2, in one definition: what is returned of a batch, and what the buffer holds then, for any bytes as book, any bytes as batch and any
 -- lent buffer. 17 comes first, then the book, then the answers, then 18; a refusal leaves the buffer as it was.
-use Rattle.std.specs.Prelude.{ℕ, cond, List, [], ◌∷◌, ◌++◌, ltb, length, drop}
+use Rattle.std.specs.Prelude.{Result, Ok, Err, ℕ, cond, List, [], ◌∷◌, ◌++◌, ltb, length, drop}
 use Rattle.std.proofs.Math.Option.{Option, none, some}
-use Rattle.figures.specs.Refusals.{Reply, refusal, bad_batch, answers_too_long}
+use Rattle.figures.specs.declared.refusals.Refusal.{Refusal}
+use Rattle.figures.specs.Refusals.{Refused, Reply, refusal, bad_batch, answers_too_long}
 use Rattle.format.specs.Records.{Bytes}
 use Rattle.book.specs.Format.{Parsed, accepted, refused, parse}
 use Rattle.answer.specs.Answers.{Outcome}
 use Rattle.batch_lines.specs.Lines.{batch_lines}
 use Rattle.batch_parts.specs.Parts.{parts_of}
-use Rattle.batch.specs.declared.BatchAnswer.{BatchAnswer}
-use Rattle.batch.specs.declared.BatchAnswer.TheVariants.{Answered, Refused}
+
+-- What reading a batch answers: how many lines are answered, or the refusal.
+abbrev pub BatchAnswer : Type 0
+BatchAnswer = Result ℕ Refusal
 
 -- The paper's number and values for each answer: 0 and the number of lines, or the number of the refusal and the value returned with it.
 abbrev pub batch_reply : BatchAnswer → Reply
-batch_reply (Answered lines) = record { number = 0; values = lines ∷ [] }
-batch_reply (Refused number value) = refusal number value
+batch_reply (Ok lines) = record { number = 0; values = lines ∷ [] }
+batch_reply (Err r) = refusal r.number r.value
 
 -- 18: answers do not fit, with the values needed. Values behind the answers stay.
 unfoldable pub given_parts : List ℕ → ℕ → List ℕ → Outcome BatchAnswer
 given_parts values lines buffer =
     cond (ltb (length buffer) (length values)) (record { answer = Refused answers_too_long (length values); buffer = buffer })
-    (record { answer = Answered lines; buffer = values ++ drop (length values) buffer })
+    (record { answer = Ok lines; buffer = values ++ drop (length values) buffer })
 
 -- The book's refusals.
 unfoldable pub read_lines : Parsed → Bytes → List Bytes → List ℕ → Outcome BatchAnswer

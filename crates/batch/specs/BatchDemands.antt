@@ -9,8 +9,8 @@ use Rattle.linking.specs.Reading.{Words, IsReading, HasChain}
 use Rattle.answer.specs.Answers.{outcome_reply}
 use Rattle.reader.specs.Outcome.{outcome}
 use Rattle.reader.specs.Demands.{OrderOf, Readable, FirstWhole}
-use Rattle.batch.specs.declared.BatchAnswer.{BatchAnswer}
-use Rattle.batch.specs.declared.BatchAnswer.TheVariants.{Answered}
+use Rattle.batch.specs.Batch.{BatchAnswer}
+use Rattle.std.specs.Prelude.{Ok}
 use Rattle.batch_lines.specs.Lines.{IsBatch, BadBatch}
 use Rattle.batch_parts.specs.Parts.{part_of}
 use Rattle.batch.specs.Batch.{batch_reply}
@@ -47,7 +47,7 @@ pub record BatchWritten (book batch : Bytes) (buffer : List ℕ) (answer : Batch
   pub lines : List Bytes
   pub values : List ℕ
   pub good : GoodBatch book batch lines values
-  pub counted : answer ≡ Answered (length lines)
+  pub counted : answer ≡ Ok (length lines)
   pub room : length values ≤ length buffer
   pub behind : after ≡ values ++ drop (length values) buffer
 

@@ -1,7 +1,6 @@
 -- The lines of a buffer: `lines_of` gives those that the paper means, as many as there are bytes 10, and none exactly where the last is not closed.
 use Prim.Native.Nat.{ℕ, zero, suc, ◌+◌, ◌≤◌, ◌<◌}
 use native.Mathlib.Omega.{arith}
-use native.Mathlib.Numerals.{add-one}
 use mathlib.Core.Path.{◌≡◌, refl, sym, ap, subst, ◌∙◌}
 use mathlib.Core.Bool.{Bool, true, false, cond}
 use mathlib.Core.Logic.{⊎_elim}
@@ -9,13 +8,14 @@ use mathlib.Core.List.Memᴰ
 use mathlib.Core.List.{List, [], ◌∷◌, ◌++◌, Memᴰ}
 use mathlib.Core.Option.{Option, none, some}
 use lib.Dec.{eqb}
-use lib.ListN.{length, get_or, take, drop, drop_of_length-le}
-use lib.Seq.{drop-cons, split_at}
-use borrow.Author.Tests.{eqb-true, eqb-false, eq-eqb, ne_eqb, lt-ltb, le-ltb}
+use lib.ListN.{length, get_or, take, drop_of_length-le}
+use lib.Seq.{split_at}
+use borrow.Author.Tests.{eqb-true, eqb-false, ne_eqb, lt-ltb, le-ltb}
+use Rattle.std.specs.Prelude.{Some, ◌==◌, count_by}
+use Rattle.std.proofs.lemmas.List.Sums.{sum_by-cons}
 use Rattle.figures.specs.Limits.{max_batch, max_lines}
 use Rattle.bits.proofs.Cases.{some_same, none_some}
 use Rattle.format.specs.Records.{Bytes}
-use Rattle.batch_lines.specs.declared.LineCount.TheVariants.{Lines}
 use Rattle.batch_lines.specs.Lines.{line_break, put_line, put_byte, lines_of, up_to, batch_lines, Unbroken, close_each, IsLines, NotClosed}
 use Rattle.batch_lines.specs.Counts.{breaks, ClosedSays, CountSays}
 
@@ -118,20 +118,16 @@ lines_counted (b ∷ bytes) lines h = go (eqb b line_break) (λ ls e. lines_coun
     go true rest k = count_put (lines_of bytes) lines (breaks bytes) rest k
     go false rest k = count_kept b (lines_of bytes) lines (breaks bytes) rest k
 
-breaks_here : (bytes : Bytes) (i : ℕ) → i < length bytes
-    → breaks (drop i bytes) ≡ cond (eqb (get_or {A = ℕ} bytes i 0) line_break) (1 + breaks (drop (i + 1) bytes)) (breaks (drop (i + 1) bytes))
+-- The count of the bytes 10 is that of the specifications.
+pub count_breaks_is : (bytes : Bytes) → count_by (λ (byte : ℕ). byte == line_break) bytes ≡ breaks bytes
 unfolding breaks
-breaks_here bytes i h = rw (add-one, drop-cons bytes i 0)
-
-pub breaks_more : (bytes : Bytes) (i : ℕ) → i < length bytes → get_or {A = ℕ} bytes i 0 ≡ line_break → breaks (drop i bytes) ≡ 1 + breaks (drop (i + 1) bytes)
-breaks_more bytes i h e = rw (eq-eqb _ _ e) at (breaks_here bytes i h)
-
-pub breaks_same : (bytes : Bytes) (i : ℕ) → i < length bytes → (get_or {A = ℕ} bytes i 0 ≡ line_break → ⊥) → breaks (drop i bytes) ≡ breaks (drop (i + 1) bytes)
-breaks_same bytes i h e = rw (ne_eqb _ _ e) at (breaks_here bytes i h)
-
-pub breaks_end : (bytes : Bytes) (i : ℕ) → length bytes ≤ i → breaks (drop i bytes) ≡ 0
-unfolding breaks
-breaks_end bytes i h = rw (drop_of_length-le bytes {i = i} h)
+count_breaks_is [] = refl
+count_breaks_is (b ∷ bytes) = sum_by-cons (λ (byte : ℕ). cond (byte == line_break) 1 0) b bytes ∙ go (eqb b line_break) (count_breaks_is bytes)
+  where
+    go : (t : Bool) → count_by (λ (byte : ℕ). byte == line_break) bytes ≡ breaks bytes
+        → cond t 1 0 + count_by (λ (byte : ℕ). byte == line_break) bytes ≡ cond t (1 + breaks bytes) (breaks bytes)
+    go true e = omega arith
+    go false e = omega arith
 
 -- A buffer that ends with a byte 10, and one that does not.
 
@@ -216,7 +212,7 @@ module _ (batch : Bytes) where
         let count = lines_counted batch c.0 c.1 in
         batch_short ∙ ap (up_to max_lines) c.1 ∙ ap (λ (t : Bool). cond t none (some c.0)) (lt-ltb max_lines (length c.0) (omega arith))
 
-    pub batch_counted : ClosedSays batch true → breaks batch ≤ max_lines → CountSays batch (Lines (breaks batch))
+    pub batch_counted : ClosedSays batch true → breaks batch ≤ max_lines → CountSays batch (Some (breaks batch))
     batch_counted c h =
         let count = lines_counted batch c.0 c.1 in
         (c.0, batch_short ∙ ap (up_to max_lines) c.1 ∙ ap (λ (t : Bool). cond t none (some c.0)) (le-ltb max_lines (length c.0) (omega arith)), count)

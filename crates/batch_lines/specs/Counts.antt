@@ -1,9 +1,7 @@
 -- How many lines there are, as it is counted.
-use Rattle.std.specs.Prelude.{ℕ, ◌+◌, ◌≡◌, Bool, true, false, cond, List, [], ◌∷◌, eqb, length}
+use Rattle.std.specs.Prelude.{Option, Some, None, ℕ, ◌+◌, ◌≡◌, Bool, true, false, cond, List, [], ◌∷◌, eqb, length}
 use Rattle.std.proofs.Math.Option.{none, some}
 use Rattle.format.specs.Records.{Bytes}
-use Rattle.batch_lines.specs.declared.LineCount.{LineCount}
-use Rattle.batch_lines.specs.declared.LineCount.TheVariants.{Lines, Bad}
 use Rattle.batch_lines.specs.Lines.{line_break, lines_of, batch_lines}
 
 -- How many bytes close a line.
@@ -17,6 +15,6 @@ ClosedSays batch true = (lines : List Bytes) × (lines_of batch ≡ some lines)
 ClosedSays batch false = lines_of batch ≡ none
 
 -- How many lines a batch has, or 17.
-abbrev pub CountSays : Bytes → LineCount → Type 0
-CountSays batch (Lines n) = (lines : List Bytes) × (batch_lines batch ≡ some lines) × (length lines ≡ n)
-CountSays batch Bad = batch_lines batch ≡ none
+abbrev pub CountSays : Bytes → Option ℕ → Type 0
+CountSays batch (Some n) = (lines : List Bytes) × (batch_lines batch ≡ some lines) × (length lines ≡ n)
+CountSays batch None = batch_lines batch ≡ none

@@ -1,17 +1,17 @@
 -- A line's part as it is stored: what `read_open` gives with an ample rest of the store, with the two values in front of it.
-use Prim.Native.Nat.{ℕ, suc, ◌+◌, ◌-◌, ◌≤◌, ◌<◌}
+use Prim.Native.Nat.{ℕ, ◌+◌, ◌-◌, ◌≤◌, ◌<◌}
 use native.Mathlib.Omega.{arith}
-use native.Mathlib.Numerals.{add-one}
 use mathlib.Core.Path.{◌≡◌, refl, sym, ap, subst, ◌∙◌}
 use mathlib.Core.List.{List, [], ◌∷◌, ◌++◌}
-use lib.ListN.{length, get_or, set, take, drop, replicate, length-append, length-take, length-drop, length-replicate}
-use lib.Seq.{drop-cons, take-suc, set_at, append_snoc, sets, sets-eq, take_at, drop_at, take-append-le, take-append-add, length-take-le}
+use lib.ListN.{length, get_or, take, drop, replicate, length-append, length-take, length-drop, length-replicate}
+use lib.Seq.{sets, sets-eq, take_at, drop_at, take-append-le, take-append-add, length-take-le}
 use Rattle.figures.specs.Limits.{max_values, max_batch, max_part, value_bound}
 use Rattle.figures.specs.Refusals.{Reply, refusal}
 use Rattle.format.specs.Records.{Bytes}
 use Rattle.book.specs.Format.{Book, accepted, parse}
-use Rattle.answer.specs.declared.LineAnswer.{LineAnswer}
-use Rattle.answer.specs.declared.LineAnswer.TheVariants.{Read, Refused}
+use Rattle.answer.specs.Answers.{LineAnswer}
+use Rattle.std.specs.Prelude.{Ok}
+use Rattle.figures.specs.Refusals.{Refused}
 use Rattle.answer.specs.Answers.{line_reply, outcome_reply, Gives}
 use Rattle.reader.specs.Outcome.{outcome}
 use Rattle.reader.proofs.Promises.{refusals_within}
@@ -53,17 +53,6 @@ alone_few book line = omega (arith, values_of (alone_is book line))
 pub lent_room : (part : List ℕ) → max_part ≤ length part → max_values ≤ length (take (length part - 2) (drop 2 part))
 lent_room part h = omega (arith, length-take (length part - 2) (drop 2 part), length-drop 2 part)
 
--- A copy of one value more.
-pub copy_more : (values answers : List ℕ) (i : ℕ) → i < length values → i < length answers
-    → set (take i values ++ drop i answers) i (get_or {A = ℕ} values i 0) ≡ take (i + 1) values ++ drop (i + 1) answers
-copy_more values answers i h k =
-    let value : ℕ = get_or values i 0 in
-    ap (λ (l : List ℕ). set (take i values ++ l) i value) (drop-cons answers i 0 k)
-    ∙ set_at (take i values) (get_or answers i 0) (drop (suc i) answers) value i (length-take-le i values (omega arith))
-    ∙ sym (append_snoc (take i values) value (drop (suc i) answers))
-    ∙ ap (λ (l : List ℕ). l ++ drop (suc i) answers) (sym (take-suc values i 0 h))
-    ∙ ap (λ (n : ℕ). take n values ++ drop n answers) (sym (add-one i))
-
 -- Values that are stored from the first place on stand in front.
 take_sets : (vs l : List ℕ) → length vs ≤ length l → take (length vs) (sets l 0 vs) ≡ vs
 take_sets vs l h = ap (take (length vs)) (sets-eq vs l 0 (omega arith)) ∙ take_at vs (drop (0 + length vs) l) (length vs) refl
@@ -91,12 +80,12 @@ module _ (book line : Bytes) (lent : List ℕ) (enough : max_values ≤ length l
       (record { counted = refl; short = omega arith; stored = take_sets (2 ∷ number ∷ value ∷ []) (take 2 before ++ (after ++ post)) room })
 
   -- An answered line: it has at most so many values, and they are there.
-  pub read_counted : (n : ℕ) {after : List ℕ} → Gives (outcome book line lent) (Read n) after → (n ≤ max_values) × (n ≡ length (take n after))
+  pub read_counted : (n : ℕ) {after : List ℕ} → Gives (outcome book line lent) (Ok n) after → (n ≤ max_values) × (n ≡ length (take n after))
   read_counted n g =
       let counted = (gives_promised book line lent g).counted n refl in
       (omega (arith, counted, ap (λ (r : Reply). length r.values) (gives_alone g), values_of (alone_is book line)), counted)
 
-  pub put_read : (before post : List ℕ) (n : ℕ) {after : List ℕ} → 2 ≤ length before → Gives (outcome book line lent) (Read n) after
+  pub put_read : (before post : List ℕ) (n : ℕ) {after : List ℕ} → 2 ≤ length before → Gives (outcome book line lent) (Ok n) after
       → Put (part_of (alone_reply book line)) (2 + n) (sets (take 2 before ++ (after ++ post)) 0 ((1 + n) ∷ 0 ∷ []))
   put_read before post n {after} h g =
       let l : List ℕ = take 2 before ++ (after ++ post) in

@@ -1,39 +1,37 @@
--- The laws of `bit`, from the recursion that takes the lowest bit off: what a bit can be, and the members of a union, of a difference and
--- of a power of two.
-use Prim.Native.Nat.{ℕ, zero, suc, ◌+◌, ◌*◌, ◌/◌, ◌%◌, ◌^◌, ◌≤◌, ◌<◌, min, max, zero-le}
-use native.Mathlib.Nat.{lt_of_lt_of_le, div-eq_of_lt, mod-lt, pow-suc, mul-div_cancel, mul-mod_left, zero-lt-suc, div-one}
-use native.Mathlib.Numerals.{one-add}
+-- The laws of `bit`: what a bit can be, and the members of a union, of a difference and of a power of two.
+use Prim.Native.Nat.{ℕ, suc, zero, ◌+◌, ◌-◌, ◌/◌, ◌%◌, ◌^◌, ◌≤◌, ◌<◌, min, max}
 use native.Mathlib.Omega.{arith}
-use mathlib.Core.Path.{◌≡◌, refl, sym, ap, ap₂, ◌∙◌}
+use mathlib.Core.Path.{◌≡◌, refl, sym, ap, ◌∙◌}
 use mathlib.Core.Logic.{◌↔◌, ◌⊎◌, inl, inr, ⊎_elim}
-use lib.Arith.{digits_div, digits_mod}
-use lib.Pow.{pow_mono, shr-shr}
-use lib.Bits.{bit_and, bit_or, bit_xor, differ, and_step, or_step, xor_step}
+use lib.Pow.{shr-shr}
+use lib.Bits.{bit_and, bit_or}
+use mir.Syntax.{w64}
+use Rattle.std.specs.Int.{bit_not}
+use Rattle.std.proofs.lemmas.Nat.Bits.{bit_at_lowest, bit_at-suc, bit_at-lt, bit_at-zero, bit_at_above, bit_at_or, bit_at_and, bit_at_not, bit_at-pow_same, bit_at-pow_other}
 use Rattle.bits.specs.Bits.{bit, Has, Members}
+use Rattle.bits.proofs.Cases.{less_or_not, same_or_not}
 
 pub bit_zero : (x : ℕ) → bit x 0 ≡ x % 2
 unfolding bit
-bit_zero x = ap (λ (n : ℕ). n % 2) (div-one x)
+bit_zero x = bit_at_lowest x
 
 pub bit_suc : (x q : ℕ) → bit x (suc q) ≡ bit (x / 2) q
 unfolding bit
-bit_suc x q = ap (λ (n : ℕ). x / 2 ^ n % 2) (sym (one-add q)) ∙ ap (λ (n : ℕ). n % 2) (sym (shr-shr x 1 q))
+bit_suc x q = bit_at-suc x q
 
 pub bit_small : (x q : ℕ) → bit x q < 2
 unfolding bit
-bit_small x q = mod-lt (x / 2 ^ q) (zero-lt-suc 1)
+bit_small x q = bit_at-lt x q
 
 -- A number of k bits has no bit from k on.
 pub no_bit_past : (k x q : ℕ) → x < 2 ^ k → k ≤ q → Has x q → ⊥
 unfolding bit
-no_bit_past k x q small past h =
-    let none : x / 2 ^ q ≡ 0 = div-eq_of_lt (lt_of_lt_of_le small (pow_mono past)) in
-    let z : 0 % 2 ≡ 1 = rw none at h in
-    omega arith
+no_bit_past k x q small past h = omega (arith, bit_at_above x k q small past)
 
 -- The empty set has no member.
 pub empty_has_none : (q : ℕ) → Has 0 q → ⊥
-empty_has_none q h = no_bit_past 0 0 q (zero-lt-suc 0) zero-le h
+unfolding bit
+empty_has_none q h = omega (arith, bit_at-zero q)
 
 -- What holds of the four pairs of binary digits holds of any two.
 on_digits : (P : ℕ → ℕ → Type 0) → P 0 0 → P 0 1 → P 1 0 → P 1 1 → (x y : ℕ) → x < 2 → y < 2 → P x y
@@ -48,13 +46,13 @@ on_digits P p q r s (suc (suc x)) y hx hy = absurd (omega arith)
 -- A bit that is not 1 is 0.
 pub bit_absent : (x q : ℕ) → (Has x q → ⊥) → bit x q ≡ 0
 bit_absent x q =
-    on_digits (λ i j. (i ≡ 1 → ⊥) → i ≡ 0) (λ h. refl) (λ h. refl) (λ h. absurd (h refl)) (λ h. absurd (h refl)) (bit x q) 0 (bit_small x q) (zero-lt-suc 1)
+    on_digits (λ i j. (i ≡ 1 → ⊥) → i ≡ 0) (λ h. refl) (λ h. refl) (λ h. absurd (h refl)) (λ h. absurd (h refl)) (bit x q) 0 (bit_small x q) (omega arith)
 
 -- A number is a member or not.
 pub has_or_not : (x q : ℕ) → Has x q ⊎ (Has x q → ⊥)
 has_or_not x q =
     on_digits (λ i j. (i ≡ 1) ⊎ (i ≡ 1 → ⊥)) (inr (λ h. omega arith)) (inr (λ h. omega arith)) (inl refl) (inl refl) (bit x q) 0 (bit_small x q)
-    (zero-lt-suc 1)
+    (omega arith)
 
 -- A word has q where another has it: the bit is no larger.
 pub bit_le : (x y q : ℕ) → (Has x q → Has y q) → bit x q ≤ bit y q
@@ -62,31 +60,11 @@ bit_le x y q =
     on_digits (λ i j. (i ≡ 1 → j ≡ 1) → i ≤ j) (λ h. omega arith) (λ h. omega arith) (λ h. omega (arith, h refl)) (λ h. omega arith) (bit x q) (bit y q)
     (bit_small x q) (bit_small y q)
 
--- An operation that works on the digits one by one works on the bits.
-module _ (op digit : ℕ → ℕ → ℕ) (step : (a b : ℕ) → op a b ≡ op (a / 2) (b / 2) * 2 + digit (a % 2) (b % 2))
-    (small : (x y : ℕ) → x < 2 → y < 2 → digit x y < 2) where
-  bit_of_op : (q a b : ℕ) → bit (op a b) q ≡ digit (bit a q) (bit b q)
-  bit_of_op zero a b =
-      let d = small (a % 2) (b % 2) (mod-lt a (zero-lt-suc 1)) (mod-lt b (zero-lt-suc 1)) in
-      bit_zero (op a b) ∙ ap (λ (n : ℕ). n % 2) (step a b) ∙ digits_mod (op (a / 2) (b / 2)) d ∙ sym (ap₂ digit (bit_zero a) (bit_zero b))
-  bit_of_op (suc q) a b =
-      let d = small (a % 2) (b % 2) (mod-lt a (zero-lt-suc 1)) (mod-lt b (zero-lt-suc 1)) in
-      bit_suc (op a b) q ∙ ap (λ (n : ℕ). bit (n / 2) q) (step a b) ∙ ap (λ (n : ℕ). bit n q) (digits_div (op (a / 2) (b / 2)) d)
-      ∙ bit_of_op q (a / 2) (b / 2) ∙ sym (ap₂ digit (bit_suc a q) (bit_suc b q))
-
-pub bit_or_lem : (q a b : ℕ) → bit (bit_or a b) q ≡ max (bit a q) (bit b q)
-bit_or_lem = bit_of_op bit_or max or_step (on_digits (λ x y. max x y < 2) (omega arith) (omega arith) (omega arith) (omega arith))
-
-pub bit_and_lem : (q a b : ℕ) → bit (bit_and a b) q ≡ min (bit a q) (bit b q)
-bit_and_lem = bit_of_op bit_and min and_step (on_digits (λ x y. min x y < 2) (omega arith) (omega arith) (omega arith) (omega arith))
-
-pub bit_xor_lem : (q a b : ℕ) → bit (bit_xor a b) q ≡ differ (bit a q) (bit b q)
-bit_xor_lem = bit_of_op bit_xor differ xor_step (on_digits (λ x y. differ x y < 2) (omega arith) (omega arith) (omega arith) (omega arith))
-
 -- The members of `a | b`.
 pub or_members : (a b : ℕ) → Members (bit_or a b) (λ k. Has a k ⊎ Has b k)
+unfolding bit
 or_members a b k =
-    rw (bit_or_lem k a b)
+    rw (bit_at_or a b k)
     (on_digits (λ x y. (max x y ≡ 1) ↔ ((x ≡ 1) ⊎ (y ≡ 1)))
     (λ h. inl h, ⊎_elim (λ h. h) (λ h. h))
     (λ h. inr h, λ h. refl)
@@ -96,8 +74,9 @@ or_members a b k =
 
 -- The members of `a & b`.
 pub and_members : (a b : ℕ) → Members (bit_and a b) (λ k. Has a k × Has b k)
+unfolding bit
 and_members a b k =
-    rw (bit_and_lem k a b)
+    rw (bit_at_and a b k)
     (on_digits (λ x y. (min x y ≡ 1) ↔ ((x ≡ 1) × (y ≡ 1)))
     (λ h. (h, h), λ h. h.0)
     (λ h. (h, refl), λ h. h.0)
@@ -105,29 +84,32 @@ and_members a b k =
     (λ h. (refl, refl), λ h. refl)
     (bit a k) (bit b k) (bit_small a k) (bit_small b k))
 
--- The members of `a ^ (a & b)`.
-pub difference_members : (a b : ℕ) → Members (bit_xor a (bit_and a b)) (λ k. Has a k × (Has b k → ⊥))
-difference_members a b k =
-    rw (bit_xor_lem k a (bit_and a b), bit_and_lem k a b)
-    (on_digits (λ x y. (differ x (min x y) ≡ 1) ↔ ((x ≡ 1) × (y ≡ 1 → ⊥)))
-    (λ h. (h, λ e. omega arith), λ h. h.0)
-    (λ h. absurd (omega arith), λ h. h.0)
-    (λ h. (refl, λ e. omega arith), λ h. refl)
-    (λ h. absurd (omega arith), λ h. absurd (h.1 refl))
-    (bit a k) (bit b k) (bit_small a k) (bit_small b k))
+-- The members of `a & !b`.
+pub difference_members : (a b : ℕ) → a < 2 ^ 64 → b < 2 ^ 64 → Members (bit_and a (bit_not w64 b)) (λ k. Has a k × (Has b k → ⊥))
+unfolding bit
+difference_members a b ha hb k = of (less_or_not k 64)
+  where
+    of : (k < 64) ⊎ (64 ≤ k) → Has (bit_and a (bit_not w64 b)) k ↔ (Has a k × (Has b k → ⊥))
+    of (inl h) =
+        rw (bit_at_and a (bit_not w64 b) k, bit_at_not w64 b k hb h)
+        (on_digits (λ x y. (min x (1 - y) ≡ 1) ↔ ((x ≡ 1) × (y ≡ 1 → ⊥)))
+        (λ h. absurd (omega arith), λ h. h.0)
+        (λ h. absurd (omega arith), λ h. h.0)
+        (λ h. (refl, λ e. omega arith), λ h. refl)
+        (λ h. absurd (omega arith), λ h. absurd (h.1 refl))
+        (bit a k) (bit b k) (bit_small a k) (bit_small b k))
+    of (inr h) =
+        let none : bit a k ≡ 0 = bit_at_above a 64 k ha h in
+        (λ m. absurd (omega (arith, bit_at_and a (bit_not w64 b) k)), λ m. absurd (omega (arith, m.0)))
 
 -- The one member of `2 ^ q`.
 pub power_members : (q : ℕ) → Members (2 ^ q) (λ k. k ≡ q)
-power_members zero zero = (λ h. refl, λ h. bit_zero 1)
-power_members zero (suc k) = (λ h. absurd (empty_has_none k (sym (bit_suc 1 k) ∙ h)), λ h. absurd (omega arith))
-power_members (suc q) zero =
-    let even : bit (2 ^ suc q) 0 ≡ 0 = bit_zero (2 ^ suc q) ∙ ap (λ (n : ℕ). n % 2) (pow-suc 2 q) ∙ mul-mod_left (2 ^ q) 2 in
-    (λ h. absurd (omega arith), λ h. absurd (omega arith))
-power_members (suc q) (suc k) =
-    let half : bit (2 ^ suc q) (suc k) ≡ bit (2 ^ q) k =
-    bit_suc (2 ^ suc q) k ∙ ap (λ (n : ℕ). bit (n / 2) k) (pow-suc 2 q) ∙ ap (λ (n : ℕ). bit n k) (mul-div_cancel (2 ^ q) (zero-lt-suc 1)) in
-    let rest = power_members q k in
-    (λ h. ap suc (rest.0 (sym half ∙ h)), λ h. half ∙ rest.1 (omega arith))
+unfolding bit
+power_members q k = (λ h. of (same_or_not k q) h, λ e. rw e (bit_at-pow_same q))
+  where
+    of : (k ≡ q) ⊎ (k ≡ q → ⊥) → Has (2 ^ q) k → k ≡ q
+    of (inl e) h = e
+    of (inr apart) h = absurd (omega (arith, bit_at-pow_other q k apart))
 
 -- The members of `word | 2 ^ q`.
 pub with_members : (word q : ℕ) → Members (bit_or word (2 ^ q)) (λ k. Has word k ⊎ (k ≡ q))

@@ -1,10 +1,11 @@
--- Cases of numbers and tests; the laws of bits, of sums, of counted members, of rows and of what is gathered in them, for the crates above.
+-- Cases of numbers and tests; the laws of bits, of sums, of counted members, of rows, of what is gathered in them and of the members that pass a test, for
+-- the crates above.
 pub mod Cases
 pub mod BitLaws
-pub mod Subtraction
 pub mod Trailing
 pub mod TotalLaws
 pub mod CountLaws
 pub mod RowLaws
 pub mod Gathering
-pub mod Walking
+pub mod MemberWalks
+pub mod Testing

@@ -6,11 +6,14 @@ use mathlib.Core.Logic.{◌↔◌, ◌⊎◌, inl, inr, ⊎_elim}
 use mathlib.Core.List.{List}
 use lib.ListN.{get_or, length, set, length-set, replicate, get_or-replicate}
 use lib.Seq.{get_or-set_same, get_or-set_other}
+use Rattle.std.proofs.Common.{rules}
+use borrow.Rule.Slice.PartMut.{put_mid}
+use Rattle.std.proofs.lemmas.List.{places}
 use Rattle.bits.specs.Bits.{Has, Members, Lowest}
 use Rattle.bits.proofs.Cases.{less_or_not, same_or_not}
 use Rattle.bits.proofs.BitLaws.{empty_has_none, no_bit_past}
 use Rattle.figures.specs.Limits.{row_words, row_bits}
-use Rattle.bits.specs.Rows.{InRow, RowSays, NextMember, Stored}
+use Rattle.bits.specs.Rows.{InRow, HasRow, RowSays, NextMember, Stored}
 
 -- A row in a struct, by its own words.
 zero_index : (j : ℕ) → row_words * 0 + j ≡ j
@@ -87,52 +90,36 @@ unite_ends start rows words u all v = (
       (λ (h : InRow rows u v). row_of_word words v h.small ((all.united (v / 64) (omega arith) (v % 64)).1 (inr h.member))),
 )
 
--- The first k words are stored from `at` on.
-pub record Storing (before words : List ℕ) (at : ℕ) (rows : List ℕ) (k : ℕ) : Type 0 where
-  pub whole : length rows ≡ length before
-  pub stored : (j : ℕ) → j < k → get_or rows (at + j) 0 ≡ get_or words j 0
-  pub others : (i : ℕ) → (i < at) ⊎ (at + k ≤ i) → get_or rows i 0 ≡ get_or before i 0
+-- Row u is overwritten by the nine words of `words`.
+module _ (before words : List ℕ) (u : ℕ) (room : HasRow before u) (nine : length words ≡ row_words) where
+  abbrev overwritten : List ℕ
+  overwritten = put_mid (row_words * u) (row_words * u + row_words - row_words * u) before words
 
-pub store_starts : (rows words : List ℕ) (at : ℕ) → Storing rows words at rows 0
-store_starts rows words at = record { whole = refl; stored = λ j h. absurd (omega arith); others = λ i h. refl }
+  same_in_row : (j : ℕ) → j < row_words → get_or overwritten (row_words * u + j) 0 ≡ get_or words j 0
+  same_in_row j h = search (rules, places)
 
-module _ (start words : List ℕ) (at : ℕ) (rows : List ℕ) (k : ℕ) (before : Storing start words at rows k) (room : at + k < length start) where
-  store_at : (j : ℕ) → j < k + 1 → (j < k) ⊎ (k ≤ j) → get_or (set rows (at + k) (get_or words k 0)) (at + j) 0 ≡ get_or words j 0
-  store_at j l (inl h) = get_or-set_other rows (at + k) (at + j) (get_or words k 0) 0 (λ e. omega arith) ∙ before.stored j h
-  store_at j l (inr h) =
-      let e : j ≡ k = omega arith in
-      rw (e, get_or-set_same rows (at + k) (get_or words k 0) 0 (omega (arith, before.whole)))
+  outside : (i : ℕ) → (i < row_words * u) ⊎ (row_words * u + row_words ≤ i) → get_or overwritten i 0 ≡ get_or before i 0
+  outside i (inl h) = search (rules, places)
+  outside i (inr h) = search (rules, places)
 
-  store_other : (i : ℕ) → (i < at) ⊎ (at + (k + 1) ≤ i) → get_or (set rows (at + k) (get_or words k 0)) i 0 ≡ get_or start i 0
-  store_other i (inl h) = get_or-set_other rows (at + k) i (get_or words k 0) 0 (λ e. omega arith) ∙ before.others i (inl h)
-  store_other i (inr h) = get_or-set_other rows (at + k) i (get_or words k 0) 0 (λ e. omega arith) ∙ before.others i (inr (omega arith))
+  elsewhere : (w v : ℕ) → v < row_bits → (w < u) ⊎ (u ≤ w) → (w ≡ u → ⊥) → (row_words * w + v / 64 < row_words * u) ⊎ (row_words * u + row_words ≤ row_words * w + v / 64)
+  elsewhere w v h (inl l) apart = inl (omega arith)
+  elsewhere w v h (inr l) apart = ⊎_elim (λ (e : w ≡ u). absurd (apart e)) (λ (n : w ≡ u → ⊥). inr (omega arith)) (same_or_not w u)
 
-  pub store_one : Storing start words at (set rows (at + k) (get_or words k 0)) (k + 1)
-  store_one = record {
-    whole = length-set rows (at + k) (get_or words k 0) ∙ before.whole;
-    stored = λ j h. store_at j h (less_or_not j k);
-    others = λ i h. store_other i h;
-  }
+  word_elsewhere : (w v : ℕ) → v < row_bits → (w ≡ u → ⊥) → get_or overwritten (row_words * w + v / 64) 0 ≡ get_or before (row_words * w + v / 64) 0
+  word_elsewhere w v h apart = outside (row_words * w + v / 64) (elsewhere w v h (less_or_not w u) apart)
 
-module _ (before words rows : List ℕ) (u : ℕ) (all : Storing before words (row_words * u) rows row_words) where
-  same_in_row : (v : ℕ) → v < row_bits → get_or rows (row_words * u + v / 64) 0 ≡ get_or words (v / 64) 0
-  same_in_row v h = all.stored (v / 64) (omega arith)
-
-  outside : (w v : ℕ) → v < row_bits → (w < u) ⊎ (u ≤ w) → (w ≡ u → ⊥) → (row_words * w + v / 64 < row_words * u) ⊎ (row_words * u + row_words ≤ row_words * w + v / 64)
-  outside w v h (inl l) apart = inl (omega arith)
-  outside w v h (inr l) apart = ⊎_elim (λ (e : w ≡ u). absurd (apart e)) (λ (n : w ≡ u → ⊥). inr (omega arith)) (same_or_not w u)
-
-  pub store_ends : Stored before rows words u
-  store_ends = record {
+  pub store_says : Stored before overwritten words u
+  store_says = record {
     stored = λ v. (
-      λ h. row_of_word words v h.small (rw (same_in_row v h.small) at h.member),
-      λ h. record { small = h.small; member = rw (same_in_row v h.small) (word_of_row words v h) },
+      λ h. row_of_word words v h.small (rw (same_in_row (v / 64) (omega (arith, h.small))) at h.member),
+      λ h. record { small = h.small; member = rw (same_in_row (v / 64) (omega (arith, h.small))) (word_of_row words v h) },
     );
     others = λ w apart v. (
-      λ h. record { small = h.small; member = rw (all.others (row_words * w + v / 64) (outside w v h.small (less_or_not w u) apart)) at h.member },
-      λ h. record { small = h.small; member = rw (all.others (row_words * w + v / 64) (outside w v h.small (less_or_not w u) apart)) h.member },
+      λ h. record { small = h.small; member = rw (word_elsewhere w v h.small apart) at h.member },
+      λ h. record { small = h.small; member = rw (word_elsewhere w v h.small apart) h.member },
     );
-    length_kept = all.whole;
+    length_kept = search (rules, places);
   }
 
 -- The walk of row u from `from` on has come to `at`, and met no member.

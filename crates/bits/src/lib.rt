@@ -10,10 +10,7 @@ ghost use Rattle.bits.specs.Bits.{Has, Members, Lowest, Counted};
 pub fn has(word: u64, q: u8) -> bool
     ensures { (result ≡ true) ↔ Has word q }
 {
-    if 64 <= q {
-        return false;
-    }
-    (word >> q) % 2 == 1
+    q < 64 && (word >> q) % 2 == 1
 }
 
 // The set with q put in.
@@ -21,7 +18,7 @@ pub fn with(word: u64, q: u8) -> u64
     requires { q < 64 }
     ensures { Members result (λ k. Has word k ⊎ (k ≡ q)) }
 {
-    word | (1u64 << q)
+    word | 1 << q
 }
 
 // The members of either set.
@@ -42,7 +39,7 @@ pub fn both(a: u64, b: u64) -> u64
 pub fn minus(a: u64, b: u64) -> u64
     ensures { Members result (λ k. Has a k × (Has b k → ⊥)) }
 {
-    a ^ (a & b)
+    a & !b
 }
 
 // The members from q on, lowered by q.
@@ -58,12 +55,12 @@ pub fn lowest(word: u64) -> u8
     requires { 0 < word }
     ensures { Lowest word result }
 {
-    u64::trailing_zeros(word) as u8
+    word.trailing_zeros() as u8
 }
 
 // How many members the set has.
 pub fn count(word: u64) -> u64
     ensures { Counted word result }
 {
-    u64::count_ones(word) as u64
+    u64::from(word.count_ones())
 }

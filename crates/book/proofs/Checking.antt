@@ -4,6 +4,7 @@ use mathlib.Core.Path.{◌≡◌, refl, ap, ◌∙◌}
 use mathlib.Core.List.{List}
 use lib.ListN.{length, get_or, take, replicate, length-map}
 use lib.Seq.{length-take-le}
+use Rattle.figures.specs.Refusals.{Refused}
 use Rattle.bits.proofs.BitLaws.{empty_has_none}
 use Rattle.pregroup.specs.Held.{InRows}
 use Rattle.order.specs.Closed.{Closed, Listed, DeclaredPairs}
@@ -13,8 +14,7 @@ use Rattle.order.proofs.Counting.{pairs_in_closed}
 use Rattle.format.specs.Records.{Bytes}
 use Rattle.book.specs.Format.{Book, refused, parse}
 use Rattle.book.specs.Kept.{entry_from, Store, NoPairs, Opened}
-use Rattle.book.specs.Check.{book_check}
-use Rattle.book.specs.declared.BookCheck.TheVariants.{Accepted, Refused}
+use Rattle.book.specs.Check.{Accepted, book_check}
 use Rattle.format.proofs.NameLaws.{bodies_length}
 
 pub zeros : (n p : ℕ) → get_or {A = ℕ} (replicate n 0) p 0 ≡ 0

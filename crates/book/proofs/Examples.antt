@@ -6,6 +6,9 @@ use mathlib.Core.Path.{◌≡◌, refl}
 use mathlib.Core.List.{List, [], ◌∷◌, ◌++◌, map}
 use lib.ListN.{replicate}
 use lib.IntN.{pos, negsuc}
+use Rattle.figures.specs.declared.refusals.Refusal.{Refusal}
+use Rattle.std.specs.Prelude.{Result}
+use Rattle.figures.specs.Refusals.{Refused}
 use Rattle.bits.specs.Totals.{total}
 use Rattle.pregroup.specs.Types.{PregroupType, ◌⁽◌⁾, plain, adjoint_by}
 use Rattle.order.specs.Closed.{below, closed_count}
@@ -18,9 +21,8 @@ use Rattle.rules.specs.Layouts.{entry_body, exponent_of, simples_of, is_worded, 
 use Rattle.rules.specs.Rules.{exponent_listed, body_rules, record_rules, first_broken}
 use Rattle.book.specs.Format.{Entry, accepted, nothing_yet, add, ended, records_from, parse}
 use Rattle.book.specs.Notation.{DifferInNotation, same_rest, same_record, in_slashes}
-use Rattle.book.specs.Check.{book_check, AcceptedCounts, Cause}
+use Rattle.book.specs.Check.{Accepted, book_check, AcceptedCounts, Cause}
 use Rattle.book.specs.declared.BookCheck.{BookCheck}
-use Rattle.book.specs.declared.BookCheck.TheVariants.{Accepted, Refused}
 use Rattle.book.proofs.Promises.{check_promised}
 use Rattle.book.proofs.PaperBooks.{type_record, pair_record, entry_record, slashed_record, target_record, fetch, bed4, ward7, urgently, admit, site, go, please, first_book, second_book}
 
@@ -108,7 +110,7 @@ two_notations =
 
 -- A book, and what its check answers.
 abbrev Row : Type 0
-Row = Bytes × BookCheck
+Row = Bytes × Result BookCheck Refusal
 
 -- As many basic types as wanted, with names of a letter and two digits.
 types_of : ℕ → Bytes

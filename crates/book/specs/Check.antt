@@ -1,27 +1,30 @@
 -- What the book check answers: document 01's three numbers for an accepted book, or the number of the refusal and the value returned with it.
 -- `book_check` computes the answer; `BookPromised` is what the paper promises of it, in the paper's own terms.
-use Rattle.std.specs.Prelude.{ℕ, suc, ◌≤◌, ◌<◌, ◌≡◌, ◌↔◌, ◌⊎◌, true, cond, eqb, length}
+use Rattle.std.specs.Prelude.{Result, Ok, Err, ℕ, suc, ◌≤◌, ◌<◌, ◌≡◌, ◌↔◌, ◌⊎◌, true, cond, eqb, length}
 use mathlib.Core.List.{List, [], ◌∷◌, Memᴰ}
 use Rattle.figures.specs.Limits.{max_book}
-use Rattle.figures.specs.Refusals.{Reply, refusal, book_too_long, cut_short, kind_not_listed, bad_layout, undeclared_type, exponent_outside, name_used, too_many_targets, too_many_records, no_target, brackets_too_deep, not_a_type, type_too_long}
+use Rattle.figures.specs.declared.refusals.Refusal.{Refusal}
+use Rattle.figures.specs.Refusals.{Reply, refusal, Refused, book_too_long, cut_short, kind_not_listed, bad_layout, undeclared_type, exponent_outside, name_used, too_many_targets, too_many_records, no_target, brackets_too_deep, not_a_type, type_too_long}
 use Rattle.order.specs.Closed.{Closed, Listed, HasPairs, closed_count}
 use Rattle.format.specs.Records.{Bytes, next_at}
 use Rattle.book.specs.Format.{Book, Parsed, accepted, refused, parse, nothing_yet, next_rules, with_next}
 use Rattle.book.specs.declared.BookCheck.{BookCheck}
-use Rattle.book.specs.declared.BookCheck.TheVariants.{Accepted, Refused}
 
 -- The number of basic types, of entries, and of pairs p ≤ q in the closed order.
-abbrev pub answer_for : Parsed → BookCheck
+abbrev pub Accepted : ℕ → ℕ → ℕ → Result BookCheck Refusal
+Accepted types entries pairs = Ok (record { types = types; entries = entries; pairs = pairs })
+
+abbrev pub answer_for : Parsed → Result BookCheck Refusal
 answer_for (accepted B) = Accepted (length B.names) (length B.entries) (closed_count (length B.names) B.pairs)
 answer_for (refused number value) = Refused number value
 
-abbrev pub book_check : Bytes → BookCheck
+abbrev pub book_check : Bytes → Result BookCheck Refusal
 book_check bytes = answer_for (parse bytes)
 
 -- An answer of the book check as the paper gives it.
-abbrev pub check_reply : BookCheck → Reply
-check_reply (Accepted types entries pairs) = record { number = 0; values = types ∷ entries ∷ pairs ∷ [] }
-check_reply (Refused number value) = refusal number value
+abbrev pub check_reply : Result BookCheck Refusal → Reply
+check_reply (Ok check) = record { number = 0; values = check.types ∷ check.entries ∷ check.pairs ∷ [] }
+check_reply (Err r) = refusal r.number r.value
 
 -- The record at an offset, behind records that hold B, breaks the rule with this number.
 abbrev pub Breaks : Bytes → ℕ → Book → ℕ → Type 0

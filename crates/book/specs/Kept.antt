@@ -1,9 +1,12 @@
 -- What the code keeps of a book while it reads it: where each basic type's and each entry's record starts, the order pairs as rows, the
 -- targets, and how far it has come.
-use Rattle.std.specs.Prelude.{ℕ, ◌%◌, ◌≤◌, ◌<◌, ◌≡◌, true, false, List, map, length, get_or, take}
+use Rattle.std.specs.Prelude.{Result, Ok, Err, ℕ, ◌%◌, ◌≤◌, ◌<◌, ◌≡◌, true, false, List, map, length, get_or, take}
 use Rattle.pregroup.specs.Held.{InRows}
 use Rattle.order.specs.Closed.{Within, Listed}
 use Rattle.figures.specs.Limits.{max_types, max_entries, max_targets, max_book, max_entry_simples}
+use Rattle.figures.specs.declared.refusals.Cause.{Cause}
+use Rattle.figures.specs.declared.refusals.Refusal.{Refusal}
+use Rattle.figures.specs.Refusals.{number_of}
 use Rattle.order.specs.Rows.{Hold}
 use Rattle.format.specs.Records.{Bytes, every, kind_at, body_at, next_at, bodies_at, Whole}
 use Rattle.format.specs.Names.{name_places, Named}
@@ -16,10 +19,7 @@ use Rattle.rules.specs.Rules.{declared_among, bases, exponents, exponent_listed,
 use Rattle.book.specs.Format.{Book, Entry, accepted, refused, parse, entry_of, next_rules, with_next}
 use Rattle.book.specs.declared.EntryType.{EntryType}
 use Rattle.book.specs.declared.Progress.{Progress}
-use Rattle.book.specs.declared.Taken.{Taken}
-use Rattle.book.specs.declared.Taken.TheVariants.{Next, Bad}
-use Rattle.book.specs.declared.Scan.{Scan}
-use Rattle.book.specs.declared.Scan.TheVariants.{Accepted, Refused}
+use Rattle.book.specs.declared.Counts.{Counts}
 
 -- The entry whose record starts at an offset, where basic types have these names.
 abbrev pub entry_from : Bytes → List Bytes → ℕ → Entry
@@ -125,9 +125,9 @@ pub record Refusing (bytes : Bytes) (s : Store) (p : Progress) (number : ℕ) : 
   pub some_number : number ≡ 0 → ⊥
   pub faulty : (B : Book) → Keeps bytes s p B → next_fault bytes p.at B ≡ number
 
-abbrev pub TakenSays : Bytes → Store → Progress → Store → Taken → Type 0
-TakenSays bytes s p s' (Next p') = Taking bytes s p s' p'
-TakenSays bytes s p s' (Bad number) = Refusing bytes s p number
+abbrev pub TakenSays : Bytes → Store → Progress → Store → Result Progress Cause → Type 0
+TakenSays bytes s p s' (Ok p') = Taking bytes s p s' p'
+TakenSays bytes s p s' (Err cause) = Refusing bytes s p (number_of cause)
 
 -- What is kept of an accepted book B.
 pub record Opened (bytes : Bytes) (s : Store) (types count goals : ℕ) (B : Book) : Type 0 where
@@ -145,6 +145,6 @@ pub record Opened (bytes : Bytes) (s : Store) (types count goals : ℕ) (B : Boo
   pub entries : B.entries ≡ entries_at bytes B.names s.entries count
   pub targets : B.targets ≡ take goals s.targets
 
-abbrev pub ScanSays : Bytes → Store → Scan → Type 0
-ScanSays bytes s (Accepted types count goals) = (B : Book) × Opened bytes s types count goals B
-ScanSays bytes s (Refused number value) = parse bytes ≡ refused number value
+abbrev pub ScanSays : Bytes → Store → Result Counts Refusal → Type 0
+ScanSays bytes s (Ok counts) = (B : Book) × Opened bytes s counts.types counts.entries counts.targets B
+ScanSays bytes s (Err refusal) = parse bytes ≡ refused refusal.number refusal.value

@@ -18,7 +18,7 @@ use figures::limits::{MAX_ENTRY_SIMPLES, MAX_TEXT_SIMPLES};
 use format::layout::body_at;
 use notation::brackets::count_simples;
 use pregroup::{EXPONENT_BIAS, hold};
-use rules::layout::{LEAST_EXPONENT, SLASHED_ENTRY, type_part, word_part};
+use rules::layout::{SLASHED_ENTRY, type_part, word_part};
 use slash::read_text;
 
 // An exponent of the book, a byte in two's complement, as it is held: raised, so that it is never negative.
@@ -26,11 +26,7 @@ fn raise(exponent: u8) -> u8
     requires { exponent_listed (exponent_of exponent) ≡ true }
     ensures { pos result -ℤ pos bias ≡ exponent_of exponent }
 {
-    if exponent < LEAST_EXPONENT {
-        exponent + EXPONENT_BIAS
-    } else {
-        exponent - LEAST_EXPONENT
-    }
+    exponent.wrapping_add(EXPONENT_BIAS)
 }
 
 // A simple type of the book as it is held: a type number and an exponent, a byte each.
@@ -49,29 +45,22 @@ fn pairs_type(part: &[u8]) -> EntryType
 {
     let mut simples = [0u16; MAX_ENTRY_SIMPLES];
     let count = part.len() / 2;
-    let mut i = 0;
-    while i < count {
-        let simple = hold_simple(part[2 * i], part[2 * i + 1]);
-        simples[i] = simple;
-        i += 1;
+    for i in 0..count {
+        simples[i] = hold_simple(part[2 * i], part[2 * i + 1]);
     }
     EntryType { count, simples }
 }
 
-// The type that stands as a text.
+// The type that stands as a text; the empty type, where it is no type.
 fn text_type(text: &[u8], book: &[u8], names: &[u16], types: usize) -> EntryType
     requires { Named book.now names.now types × (too_deep text.now ≡ false)
         × (length (text_type (bodies_at book.now names.now types) text.now) ≤ max_entry_simples) }
     ensures { HeldType result (text_type (bodies_at book.now names.now types) text.now) }
 {
     let mut places = [0u16; MAX_TEXT_SIMPLES];
-    let count = read_text(text, book, names, types, &mut places);
+    let count = read_text(text, book, names, types, &mut places).unwrap_or(0);
     let mut simples = [0u16; MAX_ENTRY_SIMPLES];
-    let mut i = 0;
-    while i < count {
-        simples[i] = places[i];
-        i += 1;
-    }
+    simples[..count].copy_from_slice(&places[..count]);
     EntryType { count, simples }
 }
 

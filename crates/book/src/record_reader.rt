@@ -1,11 +1,13 @@
-// The record reader: made at an offset of a book, it says what the next record is refused with. The work is left to `record_fault`, on the
-// book and the number, and callers use `fault_at`.
+// The record reader: made at an offset of a book, it says why the next record is refused. The work is left to `record_fault`, on the
+// book and the offset, and callers use `fault_at`.
 ghost use Rattle.std.specs.Prelude.{◌≡◌, ◌≤◌, length};
+ghost use Rattle.figures.specs.Refusals.{fault_number};
 ghost use Rattle.rules.specs.Rules.{record_rules, first_broken};
 ghost use Rattle.format.specs.Records.{bodies_at};
 ghost use Rattle.format.specs.Names.{Named};
 
 use crate::RecordReader;
+use figures::refusals::Cause;
 use rules::record_fault;
 
 // A reader at an offset of the book.
@@ -15,16 +17,16 @@ pub fn reader_at<'a>(book: &'a [u8], at: usize) -> RecordReader<'a>
     RecordReader { book, at }
 }
 
-// The number that the next record is refused with, or 0.
+// The fault of the next record, if it has one.
 pub fn next_fault<'a, 'b>(
     r: RecordReader<'a>,
     names: &'b [u16],
     types: usize,
     entries: usize,
     targets: usize,
-) -> u32
+) -> Result<(), Cause>
     requires { (r.at ≤ length r.book.now) × Named r.book.now names.now types }
-    ensures { result ≡ first_broken (record_rules r.entry.book.now r.entry.at
+    ensures { fault_number result ≡ first_broken (record_rules r.entry.book.now r.entry.at
         (bodies_at r.entry.book.now names.now types) entries targets) }
 {
     record_fault(r.book, r.at, names, types, entries, targets)
@@ -38,9 +40,9 @@ pub fn fault_at(
     types: usize,
     entries: usize,
     targets: usize,
-) -> u32
+) -> Result<(), Cause>
     requires { (at ≤ length book.now) × Named book.now names.now types }
-    ensures { result ≡ first_broken (record_rules book.now at (bodies_at book.now names.now types) entries
+    ensures { fault_number result ≡ first_broken (record_rules book.now at (bodies_at book.now names.now types) entries
         targets) }
 {
     next_fault(reader_at(book, at), names, types, entries, targets)

@@ -3,10 +3,10 @@ ghost use Rattle.std.specs.Prelude.{◌+◌, ◌<◌};
 ghost use Rattle.book.specs.Kept.{store, StoreRoomy, NoPairs, Sound, TakenSays, ScanSays};
 
 use crate::record_reader::fault_at;
-use crate::{Progress, Scan, Taken};
+use crate::{Counts, Progress};
 use bytewise::widths::{two_bytes, wide_byte};
 use figures::limits::MAX_BOOK;
-use figures::refusals::{BOOK_TOO_LONG, KIND_NOT_LISTED, NO_TARGET};
+use figures::refusals::{Cause, Refusal};
 use format::layout::{HEAD, body_at};
 use format::names::keep_name;
 use rules::layout::{BASIC_TYPE, ENTRY, ORDER_PAIR, SLASHED_ENTRY, TARGET};
@@ -19,62 +19,47 @@ fn take_record(
     direct: &mut [u64],
     targets: &mut [u8],
     p: Progress,
-) -> Taken
+) -> Result<Progress, Cause>
     requires { Sound book.now (store names.old entries.old direct.old targets.old) p }
     ensures { TakenSays book.now (store names.old entries.old direct.old targets.old) p
         (store names.new entries.new direct.new targets.new) result }
 {
-    let at = p.at;
-    let types = p.types;
-    let count = p.entries;
-    let goals = p.targets;
-    let fault = fault_at(book, at, names, types, count, goals);
-    if fault != 0 {
-        return Taken::Bad(fault);
-    }
-    let body = body_at(book, at);
-    let next = at + HEAD + body.len();
-    let kind = two_bytes(book, at + 2);
+    fault_at(book, p.at, names, p.types, p.entries, p.targets)?;
+    let body = body_at(book, p.at);
+    let at = p.at + HEAD + body.len();
+    let kind = two_bytes(book, p.at + 2);
     match kind {
         BASIC_TYPE => {
-            keep_name(names, types, at, body);
-            Taken::Next(Progress {
-                at: next,
-                types: types + 1,
-                entries: count,
-                targets: goals,
+            keep_name(names, p.types, p.at, body);
+            Ok(Progress {
+                at,
+                types: p.types + 1,
+                ..p
             })
         }
         ORDER_PAIR => {
             let lower = wide_byte(body[0]);
             direct[lower] = bits::with(direct[lower], body[1]);
-            Taken::Next(Progress {
-                at: next,
-                types,
-                entries: count,
-                targets: goals,
-            })
+            Ok(Progress { at, ..p })
         }
         ENTRY | SLASHED_ENTRY => {
-            entries[count] = at as u16;
-            Taken::Next(Progress {
-                at: next,
-                types,
-                entries: count + 1,
-                targets: goals,
+            entries[p.entries] = p.at as u16;
+            Ok(Progress {
+                at,
+                entries: p.entries + 1,
+                ..p
             })
         }
         TARGET => {
-            targets[goals] = body[0];
-            Taken::Next(Progress {
-                at: next,
-                types,
-                entries: count,
-                targets: goals + 1,
+            targets[p.targets] = body[0];
+            Ok(Progress {
+                at,
+                targets: p.targets + 1,
+                ..p
             })
         }
-        // Never taken: a record of any other kind has a fault.
-        _ => Taken::Bad(KIND_NOT_LISTED),
+        // A record of any other kind has a fault.
+        _ => unreachable!(),
     }
 }
 
@@ -85,15 +70,12 @@ pub fn scan_book(
     entries: &mut [u16],
     direct: &mut [u64],
     targets: &mut [u8],
-) -> Scan
+) -> Result<Counts, Refusal>
     requires { StoreRoomy (store names.old entries.old direct.old targets.old) × NoPairs direct.old }
     ensures { ScanSays book.now (store names.new entries.new direct.new targets.new) result }
 {
     if MAX_BOOK < book.len() {
-        return Scan::Refused {
-            number: BOOK_TOO_LONG,
-            value: 0,
-        };
+        return Err(Cause::BookTooLong.with(0));
     }
     let mut p = Progress {
         at: 0,
@@ -101,25 +83,19 @@ pub fn scan_book(
         entries: 0,
         targets: 0,
     };
+    // Each record tells where the next one starts, so there is no range to go over.
     while p.at < book.len() {
-        let taken = take_record(book, names, entries, direct, targets, p);
-        match taken {
-            Taken::Next(next) => p = next,
-            Taken::Bad(number) => return Scan::Refused {
-                number,
-                value: p.at,
-            },
+        match take_record(book, names, entries, direct, targets, p) {
+            Ok(next) => p = next,
+            Err(cause) => return Err(cause.with(p.at)),
         }
     }
     if p.targets == 0 {
-        return Scan::Refused {
-            number: NO_TARGET,
-            value: book.len(),
-        };
+        return Err(Cause::NoTarget.with(book.len()));
     }
-    Scan::Accepted {
+    Ok(Counts {
         types: p.types,
         entries: p.entries,
         targets: p.targets,
-    }
+    })
 }

@@ -1,48 +1,35 @@
--- Comparing bytes by little-endian numbers: a number is joined from two shorter ones, equal numbers have equal bytes, and lists of one
--- length are told apart by the first eight bytes that differ.
-use Prim.Native.Nat.{ℕ, zero, suc, ◌+◌, ◌*◌, ◌^◌, ◌≤◌, ◌<◌}
-use native.Mathlib.Nat.{add-zero, zero-add, suc-add, pow-zero, pow-succ', mul_assoc, mul_comm}
+-- Comparing bytes by little-endian numbers: a number is written out, equal numbers have equal bytes, and lists of one length are told
+-- apart by the first eight bytes that differ.
+use Prim.Native.Nat.{ℕ, zero, suc, ◌+◌, ◌*◌, ◌≤◌, ◌<◌}
+use native.Mathlib.Numerals.{add-one}
 use native.Mathlib.Omega.{arith}
 use native.Mathlib.Decide.{dec_lt}
 use mathlib.Core.Path.{◌≡◌, refl, sym, ap, ap₂, ◌∙◌}
-use mathlib.Core.Bool.{Bool, true, false, false≢true}
+use mathlib.Core.Bool.{Bool, true}
 use mathlib.Core.List.{List}
-use lib.Arith.{digits_lt}
 use lib.Dec.{eqb}
 use lib.ListN.{length, get_or}
-use lib.Pow.{pow-add}
 use lib.Seq.{ext_get_or}
 use borrow.Author.Tests.{eqb-true, eq-eqb}
 use Rattle.bytewise.specs.Compare.{little_endian, ReadsNumber, FirstOther}
 
-pub one_byte : {bytes : List ℕ} {at r : ℕ} → r ≡ get_or {A = ℕ} bytes at 0 → r < 256 → ReadsNumber 1 bytes at r
+-- The number of two bytes, and that of eight, written out.
+pub number_of_two : (bytes : List ℕ) (at : ℕ) → little_endian 2 bytes at ≡ get_or {A = ℕ} bytes at 0 + get_or {A = ℕ} bytes (at + 1) 0 * 256
 unfolding little_endian
-one_byte {bytes} {at} {r} e h = record {
-  value = omega arith;
-  below = h;
-  byte = λ k f l. let same : k ≡ at = omega arith in rw same (omega arith);
-}
+number_of_two bytes at = rw (add-one at) (omega arith)
 
-number_joined : (n m : ℕ) (bytes : List ℕ) (at : ℕ) →
-    little_endian (n + m) bytes at ≡ little_endian n bytes at + 256 ^ n * little_endian m bytes (at + n)
+pub number_of_eight :
+    (bytes : List ℕ) (at : ℕ) → little_endian 8 bytes at ≡ get_or {A = ℕ} bytes at 0 + get_or {A = ℕ} bytes (at + 1) 0 * 256 + get_or {A = ℕ} bytes (at + 2) 0 * 65536 + get_or {A = ℕ} bytes (at + 3) 0 * 16777216 + get_or {A = ℕ} bytes (at + 4) 0 * 4294967296 + get_or {A = ℕ} bytes (at + 5) 0 * 1099511627776 + get_or {A = ℕ} bytes (at + 6) 0 * 281474976710656 + get_or {A = ℕ} bytes (at + 7) 0 * 72057594037927936
 unfolding little_endian
-number_joined zero m bytes at = rw (zero-add m, add-zero at, pow-zero 256) (omega arith)
-number_joined (suc n) m bytes at =
-    let e : suc at + n ≡ at + suc n = omega arith in
-    let t = number_joined n m bytes (suc at) in
-    rw (suc-add n m, t, pow-succ' 256 n, mul_assoc, e) (omega arith)
-
--- A number of n bytes with the number of the m behind it is the number of all n + m.
-pub joined : (n m : ℕ) {bytes : List ℕ} {at r s : ℕ} → ReadsNumber n bytes at r → ReadsNumber m bytes (at + n) s → ReadsNumber (n + m) bytes at (r + 256 ^ n * s)
-joined n m {bytes} {at} {r} {s} low high = record {
-  value = rw (number_joined n m bytes at, low.value, high.value);
-  below = rw (pow-add 256 n m, mul_comm (256 ^ n) (256 ^ m), mul_comm (256 ^ n) s) (omega (arith, digits_lt high.below low.below));
-  byte = λ k f h. go k f h (dec_lt k (at + n));
-}
-  where
-    go : (k : ℕ) → at ≤ k → k < at + (n + m) → Dec (k < at + n) → get_or {A = ℕ} bytes k 0 < 256
-    go k f h (yes l) = low.byte k f l
-    go k f h (no l) = high.byte k (omega (arith, l)) (omega arith)
+number_of_eight bytes at =
+    let e1 : at + 1 ≡ suc at = omega arith in
+    let e2 : at + 2 ≡ suc (suc at) = omega arith in
+    let e3 : at + 3 ≡ suc (suc (suc at)) = omega arith in
+    let e4 : at + 4 ≡ suc (suc (suc (suc at))) = omega arith in
+    let e5 : at + 5 ≡ suc (suc (suc (suc (suc at)))) = omega arith in
+    let e6 : at + 6 ≡ suc (suc (suc (suc (suc (suc at))))) = omega arith in
+    let e7 : at + 7 ≡ suc (suc (suc (suc (suc (suc (suc at)))))) = omega arith in
+    rw (e1, e2, e3, e4, e5, e6, e7) (omega arith)
 
 -- The n numbers of a list from i on are bytes.
 abbrev pub Bytewise : ℕ → List ℕ → ℕ → Type 0
@@ -81,9 +68,6 @@ Agree a b i = (k : ℕ) → k < i → get_or {A = ℕ} a k 0 ≡ get_or {A = ℕ
 -- What a comparison promises.
 abbrev pub Tells : List ℕ → List ℕ → Bool → Type 0
 Tells a b t = (t ≡ true → a ≡ b) × (a ≡ b → t ≡ true)
-
-pub tells_apart : (a b : List ℕ) → (a ≡ b → ⊥) → Tells a b false
-tells_apart a b h = (λ e. absurd (false≢true e), λ e. absurd (h e))
 
 module _ {n i r s : ℕ} {a b : List ℕ} (first : ReadsNumber n a i r) (second : ReadsNumber n b i s) where
   pub equal_stretch : r ≡ s → (k : ℕ) → i ≤ k → k < i + n → get_or {A = ℕ} a k 0 ≡ get_or {A = ℕ} b k 0

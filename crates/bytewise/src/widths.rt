@@ -6,30 +6,28 @@ ghost use Rattle.bytewise.specs.Compare.{ReadsNumber};
 pub fn wide_byte(byte: u8) -> usize
     ensures { (result ≡ byte) × (result < 256) }
 {
-    byte as usize
+    usize::from(byte)
 }
 
 // A number of 16 bits: a kept offset, an entry's number or a value of an answer.
 pub fn wide_number(number: u16) -> usize
     ensures { result ≡ number }
 {
-    number as usize
+    usize::from(number)
 }
 
 // The number at a place of a list of 16-bit ones, 0 where the list has no such place.
 pub fn value_at(values: &[u16], at: usize) -> usize
     ensures { result ≡ get_or values.now at 0 }
 {
-    if values.len() <= at {
-        return 0;
-    }
-    wide_number(values[at])
+    values.get(at).map_or(0, |value| usize::from(*value))
 }
 
 // The little-endian number of the two bytes from `at` on.
+#[tactic(auto, using(crate::proofs::Comparing::number_of_two))]
 pub fn two_bytes(bytes: &[u8], at: usize) -> usize
     requires { at + 1 < length bytes.now }
     ensures { ReadsNumber 2 bytes.now at result }
 {
-    wide_byte(bytes[at]) + 256 * wide_byte(bytes[at + 1])
+    usize::from(u16::from_le_bytes([bytes[at], bytes[at + 1]]))
 }

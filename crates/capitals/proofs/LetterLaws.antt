@@ -111,12 +111,6 @@ letters_more {a} {b} {from} {i} {j} {to} s t m = record { alike = λ k h l. go k
 pub letters_before : {a b : Bytes} {at : ℕ} → FirstOther a b at → SameLetters a b 0 at
 letters_before f = record { alike = λ k h l. ap small (f.equal k l) }
 
-pub no_letters : {a b : Bytes} {from : ℕ} → SameLetters a b from from
-no_letters = record { alike = λ k h l. absurd (omega arith) }
-
-pub one_letter : (a b : Bytes) (i : ℕ) → small (get_or {A = ℕ} a i 0) ≡ small (get_or {A = ℕ} b i 0) → SameLetters a b i (i + 1)
-one_letter a b i e = record { alike = λ k h l. let here : k ≡ i = omega arith in rw here e }
-
 module _ (a b : Bytes) where
   pub letter_of : small_bytes a ≡ small_bytes b → (k : ℕ) → small (get_or {A = ℕ} a k 0) ≡ small (get_or {A = ℕ} b k 0)
   letter_of e k = sym (small_at a k) ∙ ap (λ (w : Bytes). get_or {A = ℕ} w k 0) e ∙ small_at b k
@@ -144,7 +138,15 @@ module _ (a b : Bytes) where
   pub other_somewhere : {from to : ℕ} → (SameLetters a b from to → ⊥) → false ≡ same_word a b
   other_somewhere {from} {to} h = other_word (λ e. h (letters_of from to e))
 
-  -- .. and where the letters up to a place are the same, the rest decides.
+  -- .. at one place say ..
+  pub other_letter : (k : ℕ) → (small (get_or {A = ℕ} a k 0) ≡ small (get_or {A = ℕ} b k 0) → ⊥) → false ≡ same_word a b
+  other_letter k h = other_word (λ e. h (letter_of e k))
+
+  -- .. and words of one length with the same letters are.
+  pub all_letters : {to : ℕ} → length a ≡ length b → length a ≤ to → SameLetters a b 0 to → true ≡ same_word a b
+  all_letters e f s = told true (λ h. word_of e f s, λ h. refl)
+
+  -- Where the letters up to a place are the same, the rest decides.
   pub rest_tells : {from i to : ℕ} {t : Bool} → length a ≡ length b → SameLetters a b 0 i → from ≤ i → length a ≤ to → (t ≡ true) ↔ SameLetters a b from to → t ≡ same_word a b
   rest_tells {from} {i} {to} {t} e s h f d =
       told t (λ u. word_of e f (letters_more s (d.0 u) h), λ u. d.1 (letters_of from to u))

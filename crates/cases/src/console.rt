@@ -1,28 +1,20 @@
-// Standard input and output, as the programs of cases use them.
-use crate::buffer::{ROOM, Space};
-use std::io;
-use std::io::{Read, Write};
+// Input, as the programs of cases and the program `reading` take it.
+ghost use Rattle.std.specs.Prelude.{◌≡◌, ◌≤◌, length, take};
 
-// Writes bytes.
-pub fn write(rt: &HostRuntime, bytes: &[u8]) -> io::Result<()> {
-    io::writer(rt).write_all(bytes)
-}
+use std::io::Read;
 
-// Writes a number in decimal.
-pub fn write_number(rt: &HostRuntime, value: u64) -> io::Result<()> {
-    print!(rt; "{value}")
-}
-
-// Puts standard input, or as much of it as there is room for and can be read, at the start of `buf`.
-pub fn take_input(rt: &HostRuntime, buf: &mut Space) {
-    let mut done = 0;
-    while done < ROOM {
-        let Ok(got) = rt.stdin().read(&mut buf[done..]) else {
-            return;
-        };
-        if got == 0 {
-            return;
+// Puts what a reader gives, or as much of it as there is room for and can be read, at the start of `buf`, and gives the number of its bytes there.
+// It is a loop of its own, since `read_to_end` of std takes a `Vec`, which allocates.
+pub fn fill<R: Read>(reader: &mut R, buf: &mut [u8]) -> usize
+    ensures within { result ≤ length buf.new }
+    ensures counted { result ≡ length (take result buf.new) }
+{
+    let mut count = 0;
+    while count < buf.len() {
+        match reader.read(&mut buf[count..]) {
+            Ok(0) | Err(_) => break,
+            Ok(got) => count += got,
         }
-        done += got;
     }
+    count
 }

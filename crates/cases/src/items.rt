@@ -8,100 +8,55 @@
 //     N>PQRS     N order pairs: the first of the types P and Q, and each further one with them moved on by R and S
 //     N=         goes to offset N; the bytes before it are what the buffer holds
 //     N*ITEM     N times an item
-use crate::buffer::{Space, head, moving_pairs, numbered_types, put_all, record, slashed_entry};
-use crate::text::{digits, find, number};
+use crate::buffer::Buffer;
+use crate::text::{number, split_number, split_once};
 
 // Puts the pairs that four bytes give.
-fn pairs(buf: &mut Space, at: usize, count: usize, body: &[u8]) -> usize {
-    if body.len() != 4 {
-        return at;
+fn put_pairs(buf: &mut Buffer, count: usize, body: &[u8]) {
+    if let [p, q, r, s] = body {
+        buf.moving_pairs(count, [*p, *q], [*r, *s]);
     }
-    moving_pairs(buf, at, count, body[0], body[1], body[2], body[3])
 }
 
 // Puts the slashed entry that a word and a text give, with a space between them.
-fn slashed(buf: &mut Space, at: usize, body: &[u8]) -> usize {
-    let space = find(body, b' ');
-    if space >= body.len() {
-        return at;
+fn put_slashed(buf: &mut Buffer, body: &[u8]) {
+    if let Some((word, text)) = split_once(body, b' ') {
+        buf.slashed_entry(word, text);
     }
-    let text = space + 1;
-    slashed_entry(buf, at, &body[0..space], &body[text..])
 }
 
-// Puts what a mark stands for, with the number before it and the bytes behind it.
-fn marked(buf: &mut Space, at: usize, n: usize, mark: u8, body: &[u8]) -> usize {
-    if mark == b' ' {
-        return record(buf, at, n, body);
+// Puts what a number, a mark and the bytes behind it stand for. No mark, and one that is not known, stands for nothing.
+fn put_marked(buf: &mut Buffer, n: usize, marked: &[u8]) {
+    let Some((mark, body)) = marked.split_first() else {
+        return;
+    };
+    match *mark {
+        b' ' => buf.record(n, body),
+        b'/' => buf.head(n, number(body)),
+        b'\'' => buf.put_all(body),
+        b'@' => put_slashed(buf, body),
+        b'#' => buf.numbered_types(n),
+        b'>' => put_pairs(buf, n, body),
+        b'=' => buf.go_to(n),
+        _ => {}
     }
-    if mark == b'/' {
-        return head(buf, at, n, number(body));
-    }
-    if mark == b'\'' {
-        return put_all(buf, at, body);
-    }
-    if mark == b'@' {
-        return slashed(buf, at, body);
-    }
-    if mark == b'#' {
-        return numbered_types(buf, at, n);
-    }
-    if mark == b'>' {
-        return pairs(buf, at, n, body);
-    }
-    if mark == b'=' {
-        return n;
-    }
-    at
 }
 
-// Puts an item that has no star.
-fn single(buf: &mut Space, at: usize, item: &[u8]) -> usize {
-    let mark = digits(item);
-    if mark >= item.len() {
-        return at;
+// Puts an item: once, or as many times as a number before a star says.
+fn put_item(buf: &mut Buffer, item: &[u8]) {
+    let (count, single) = match split_number(item) {
+        (count, [b'*', single @ ..]) => (count, single),
+        _ => (1, item),
+    };
+    let (n, marked) = split_number(single);
+    for _ in 0..count {
+        put_marked(buf, n, marked);
     }
-    let body = mark + 1;
-    marked(buf, at, number(item), item[mark], &item[body..])
-}
-
-// Puts an item so many times.
-fn copies(buf: &mut Space, start: usize, count: usize, item: &[u8]) -> usize {
-    let mut at = start;
-    let mut i = 0;
-    while i < count {
-        at = single(buf, at, item);
-        i += 1;
-    }
-    at
-}
-
-// Puts an item.
-fn put_item(buf: &mut Space, at: usize, item: &[u8]) -> usize {
-    let star = digits(item);
-    if star >= item.len() {
-        return at;
-    }
-    if item[star] != b'*' {
-        return single(buf, at, item);
-    }
-    let rest = star + 1;
-    copies(buf, at, number(item), &item[rest..])
 }
 
 // Puts the items of a text.
-pub fn put_items(buf: &mut Space, start: usize, text: &[u8]) -> usize {
-    let mut at = start;
-    let mut from = 0;
-    let mut i = 0;
-    while i < text.len() {
-        if text[i] == b',' {
-            at = put_item(buf, at, &text[from..i]);
-            i += 1;
-            from = i;
-        } else {
-            i += 1;
-        }
+pub fn put_items(buf: &mut Buffer, text: &[u8]) {
+    for item in text.split(|byte| *byte == b',') {
+        put_item(buf, item);
     }
-    put_item(buf, at, &text[from..])
 }

@@ -3,7 +3,9 @@
 
 pub mod books;
 pub mod buffer;
+pub mod case;
 pub mod console;
 pub mod items;
 pub mod script;
 pub mod text;
+pub mod values;

@@ -1,112 +1,96 @@
 // A script: the text of a program's cases, line by line, which ends at its first byte 0. A backslash stands for what follows it: `\xNN` for the byte that
 // two digits and letters from a to f give, `\n` for a line's end, and any other byte for itself. At a line's end it joins the next line to this one, without
-// the spaces that begin that.
-use crate::buffer::{ROOM, Space, put};
+// the spaces that begin that. An empty line, and one that begins with a number sign, counts for nothing.
+ghost use Rattle.std.specs.Prelude.{◌<◌, ◌≤◌, length, IfSome};
 
-// How much of a line has been taken: how many bytes it has, and the place of the script that comes next.
-#[derive(Drop)]
-pub struct Taken {
-    pub length: usize,
-    pub next: usize,
-}
-
-// The byte at a place of a script, or 0 behind it.
-pub fn byte_at(script: &Space, at: usize) -> u8 {
-    if at < ROOM {
-        return script[at];
-    }
-    0
-}
-
-// The place behind a place of a script; there is none behind its last one.
-fn behind(at: usize) -> usize {
-    if at < ROOM {
-        return at + 1;
-    }
-    at
-}
+use crate::buffer::{Buffer, ROOM};
+use crate::console::fill;
+use std::io;
 
 // The number that a digit or a letter from a to f stands for.
-fn digit(sign: u8) -> u8 {
-    if sign >= b'a' && sign <= b'f' {
-        return sign - b'a' + 10;
-    }
-    sign % 16
-}
-
-// The place behind the spaces that stand at a place.
-fn behind_spaces(script: &Space, at: usize) -> usize {
-    let mut i = at;
-    while i < ROOM {
-        if script[i] != b' ' {
-            return i;
-        }
-        i += 1;
-    }
-    i
-}
-
-// Puts the byte of two digits at a place.
-fn take_digits(script: &Space, at: usize, line: &mut Space, length: usize) -> Taken {
-    let second = behind(at);
-    let high = digit(byte_at(script, at));
-    let low = digit(byte_at(script, second));
-    Taken {
-        length: put(line, length, high % 16 * 16 + low % 16),
-        next: behind(second),
-    }
-}
-
-// Puts what a backslash before a place stands for.
-fn take_escaped(script: &Space, at: usize, line: &mut Space, length: usize) -> Taken {
-    let sign = byte_at(script, at);
-    let next = behind(at);
+fn digit(sign: u8) -> u8
+    ensures { result < 16 }
+{
     match sign {
-        b'x' => take_digits(script, next, line, length),
-        b'n' => Taken {
-            length: put(line, length, b'\n'),
-            next,
-        },
-        b'\n' => Taken {
-            length,
-            next: behind_spaces(script, next),
-        },
-        _ => Taken {
-            length: put(line, length, sign),
-            next,
-        },
+        b'a'..=b'f' => sign - b'a' + 10,
+        _ => sign % 16,
     }
 }
 
-// Puts a byte of a script that stands before a place, or what it stands for.
-fn take_byte(script: &Space, byte: u8, next: usize, line: &mut Space, length: usize) -> Taken {
-    if byte == b'\\' {
-        return take_escaped(script, next, line, length);
-    }
-    Taken {
-        length: put(line, length, byte),
-        next,
-    }
+// Takes the first byte of a text, or 0 where it has none.
+fn take_byte(text: &mut &[u8]) -> u8
+    ensures { length text.new.now ≤ length text.old.now }
+{
+    text.split_off_first().copied().unwrap_or(0)
 }
 
-// Puts the line of a script that begins at a place at the start of `line`. Gives its length, and where the next one begins.
-pub fn take_line(script: &Space, start: usize, line: &mut Space) -> Taken {
-    let mut length = 0;
-    let mut at = start;
-    let mut left = ROOM;
-    while 0 < left {
-        let byte = byte_at(script, at);
-        if byte == 0 {
-            return Taken { length, next: at };
+// What stands behind the spaces that a text begins with.
+fn behind_spaces(text: &[u8]) -> &[u8]
+    ensures { length result.now ≤ length text.now }
+{
+    let spaces = text.iter().take_while(|byte| **byte == b' ').count();
+    &text[spaces..]
+}
+
+// Puts what a backslash before a text stands for, and gives what stands behind that.
+fn take_escaped<'a>(text: &'a [u8], line: &mut Buffer) -> &'a [u8]
+    ensures { length result.now ≤ length text.now }
+{
+    let mut rest = text;
+    match take_byte(&mut rest) {
+        b'x' => {
+            let high = digit(take_byte(&mut rest));
+            let low = digit(take_byte(&mut rest));
+            line.put(high * 16 + low);
         }
-        let next = behind(at);
-        if byte == b'\n' {
-            return Taken { length, next };
-        }
-        let taken = take_byte(script, byte, next, line, length);
-        length = taken.length;
-        at = taken.next;
-        left -= 1;
+        b'n' => line.put(b'\n'),
+        b'\n' => rest = behind_spaces(rest),
+        sign => line.put(sign),
     }
-    Taken { length, next: at }
+    rest
+}
+
+// Puts the line that a script begins with in the place of the one before it, and gives what stands behind it. A script at its end has none.
+fn take_line<'a>(script: &'a [u8], line: &mut Buffer) -> Option<&'a [u8]>
+    ensures { IfSome result (λ rest. length rest.now < length script.now) }
+{
+    line.clear();
+    let mut rest = script;
+    while let Some((byte, behind)) = rest.split_first() {
+        rest = match *byte {
+            0 => break,
+            b'\n' => return Some(behind),
+            b'\\' => take_escaped(behind, line),
+            other => {
+                line.put(other);
+                behind
+            }
+        };
+    }
+    (rest.len() < script.len()).then_some(rest)
+}
+
+// Hands the lines of a script on, one by one.
+fn each_line_of<F: FnMut(&[u8]) -> io::Result<()>>(script: &[u8], mut visit: F) -> io::Result<()>
+    requires { F.IsAlwaysCallable visit }
+{
+    let mut line = Buffer::new();
+    let mut rest = script;
+    while let Some(behind) = take_line(rest, &mut line) {
+        match line.written() {
+            None | Some([] | [b'#', ..]) => {}
+            Some(text) => visit(text)?,
+        }
+        rest = behind;
+    }
+    Ok(())
+}
+
+// Hands the lines of the script on standard input on, one by one. Of a longer one it takes the first `ROOM` bytes.
+pub fn each_line<F: FnMut(&[u8]) -> io::Result<()>>(rt: &impl Input, visit: F) -> io::Result<()>
+    requires { F.IsAlwaysCallable visit }
+{
+    let mut script = [0; ROOM];
+    let length = fill(&mut rt.reader(), &mut script);
+    each_line_of(&script[..length], visit)
 }

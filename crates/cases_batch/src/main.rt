@@ -4,14 +4,11 @@
 
 mod rows;
 
-use cases::buffer::ROOM;
-use cases::console::take_input;
+use cases::script::each_line;
+use rows::Buffers;
 use std::io;
 
 fn main(rt: HostRuntime) -> io::Result<()> {
-    let mut script = [0u8; ROOM];
-    take_input(&rt, &mut script);
-    let mut book = [0u8; ROOM];
-    let mut lines = [0u8; ROOM];
-    rows::rows(&rt, &script, &mut book, &mut lines)
+    let mut buffers = Buffers::new();
+    each_line(&rt, |line| buffers.take_line(&rt, line))
 }

@@ -4,13 +4,11 @@
 
 mod rows;
 
-use cases::buffer::ROOM;
-use cases::console::take_input;
+use cases::buffer::Buffer;
+use cases::script::each_line;
 use std::io;
 
 fn main(rt: HostRuntime) -> io::Result<()> {
-    let mut script = [0u8; ROOM];
-    take_input(&rt, &mut script);
-    let mut book = [0u8; ROOM];
-    rows::rows(&rt, &script, &mut book)
+    let mut book = Buffer::new();
+    each_line(&rt, |line| rows::row(&rt, &mut book, line))
 }

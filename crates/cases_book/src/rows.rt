@@ -4,91 +4,40 @@
 //     NAME:BOOK    a case: its name, which holds no colon, and its book, as `cases::books` reads it
 use book::BookCheck;
 use cases::books::put_book;
-use cases::buffer::{ROOM, Space};
-use cases::console::{write, write_number};
-use cases::script::{byte_at, take_line};
-use cases::text::find;
-use std::io;
+use cases::buffer::Buffer;
+use cases::text::split_once;
+use figures::refusals::Refusal;
+use std::io::Write;
+use std::{fmt, io};
 
-// Writes a space and a number.
-fn number(rt: &HostRuntime, value: u64) -> io::Result<()> {
-    write(rt, b" ")?;
-    write_number(rt, value)
-}
+// What the check answers, as a row shows it: three numbers, or a refusal.
+#[derive(Drop)]
+struct Answer(Result<BookCheck, Refusal>);
 
-// Writes what the check answers: three numbers, or no, a number and a value.
-fn answer(rt: &HostRuntime, check: BookCheck) -> io::Result<()> {
-    match check {
-        BookCheck::Accepted {
-            types,
-            entries,
-            pairs,
-        } => {
-            number(rt, types as u64)?;
-            number(rt, entries as u64)?;
-            number(rt, pairs)
-        }
-        BookCheck::Refused {
-            number: cause,
-            value,
-        } => {
-            write(rt, b" no")?;
-            number(rt, cause as u64)?;
-            number(rt, value as u64)
+impl fmt::Display for Answer {
+    fn fmt<W: fmt::Write>(&self, f: &mut fmt::Formatter<W>) -> fmt::Result {
+        match self.0 {
+            Ok(
+                BookCheck {
+                    types,
+                    entries,
+                    pairs,
+                },
+            ) => write!(f, "{types} {entries} {pairs}"),
+            Err(refusal) => write!(f, "{refusal}"),
         }
     }
 }
 
-// Writes the answer for the book that the first bytes of a slice are.
-fn answer_of_part(rt: &HostRuntime, bytes: &[u8], length: usize) -> io::Result<()> {
-    if length <= bytes.len() {
-        answer(rt, book::check_book(&bytes[0..length]))?;
-    }
-    Ok(())
-}
-
-// Writes the row of a book.
-fn row(rt: &HostRuntime, buf: &mut Space, case: &[u8]) -> io::Result<()> {
-    let colon = find(case, b':');
-    if colon >= case.len() {
+// Writes the row of a case. A book longer than its buffer has no answer.
+pub fn row(rt: &impl Print, buf: &mut Buffer, case: &[u8]) -> io::Result<()> {
+    let Some((name, items)) = split_once(case, b':') else {
         return Ok(());
+    };
+    put_book(buf, items);
+    io::writer(rt).write_all(name)?;
+    match buf.written() {
+        Some(bytes) => println!(rt; " {}", Answer(book::check_book(bytes))),
+        None => println!(rt),
     }
-    let end = put_book(buf, &case[colon + 1..]);
-    write(rt, &case[0..colon])?;
-    answer_of_part(rt, buf, end)?;
-    write(rt, b"\n")
-}
-
-// Takes a line of a script, which the first bytes of a slice are: a comment or a case.
-fn take_part(rt: &HostRuntime, buf: &mut Space, bytes: &[u8], end: usize) -> io::Result<()> {
-    if end == 0 || bytes.len() < end {
-        return Ok(());
-    }
-    let part = &bytes[0..end];
-    if part[0] != b'#' {
-        row(rt, buf, part)?;
-    }
-    Ok(())
-}
-
-// The same for a buffer.
-fn take_from(rt: &HostRuntime, buf: &mut Space, part: &Space, end: usize) -> io::Result<()> {
-    take_part(rt, buf, part, end)
-}
-
-// Writes the rows of a script's cases. It has no more lines than bytes.
-pub fn rows(rt: &HostRuntime, script: &Space, buf: &mut Space) -> io::Result<()> {
-    let mut part = [0u8; ROOM];
-    let mut at = 0;
-    let mut left = ROOM;
-    while 0 < left {
-        if byte_at(script, at) == 0 {
-            return Ok(());
-        }
-        let taken = take_line(script, at, &mut part);
-        take_from(rt, buf, &part, taken.length)?;
-        at = taken.next;
-        left -= 1;
-    }
-    Ok(())
 }

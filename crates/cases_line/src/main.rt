@@ -3,13 +3,11 @@
 
 mod rows;
 
-use cases::buffer::ROOM;
-use cases::console::take_input;
+use cases::script::each_line;
+use rows::Setting;
 use std::io;
 
 fn main(rt: HostRuntime) -> io::Result<()> {
-    let mut script = [0u8; ROOM];
-    take_input(&rt, &mut script);
-    let mut book = [0u8; ROOM];
-    rows::rows(&rt, &script, &mut book)
+    let mut setting = Setting::new();
+    each_line(&rt, |line| setting.take_line(&rt, line))
 }

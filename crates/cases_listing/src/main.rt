@@ -6,14 +6,12 @@ mod refusals;
 mod rooms;
 mod rows;
 
-use cases::buffer::ROOM;
-use cases::console::take_input;
+use cases::script::each_line;
+use rows::Setting;
 use std::io;
 
 fn main(rt: HostRuntime) -> io::Result<()> {
-    refusals::rows(&rt)?;
-    let mut script = [0u8; ROOM];
-    take_input(&rt, &mut script);
-    let mut book = [0u8; ROOM];
-    rows::rows(&rt, &script, &mut book)
+    refusals::list_refusals(&rt)?;
+    let mut setting = Setting::new();
+    each_line(&rt, |line| setting.take_line(&rt, line))
 }

@@ -1,8 +1,9 @@
-// One listing in buffers of every length, with a row for each: a label and the length, what rendering gave, and the bytes of the buffer and
+// One listing in buffers of every length, with a row for each: a name and the length, what rendering gave, and the bytes of the buffer and
 // of what stands behind it.
-use crate::rows::{VALUES, counted, outcome};
-use cases::console::write;
+use crate::rows::{Outcome, VALUES};
+use cases::case::Case;
 use std::io;
+use std::io::Write;
 
 // The longest buffer that is lent.
 const LAST: usize = 28;
@@ -13,48 +14,27 @@ const SHOWN: usize = 30;
 // What stands in each byte before a listing is rendered.
 const MARK: u8 = b'.';
 
-const ROW_END: u8 = 10;
-
-// Puts a slash in the place of each row's end.
-fn show_ends(text: &mut [u8; SHOWN]) {
-    let mut i = 0;
-    while i < SHOWN {
-        if text[i] == ROW_END {
-            text[i] = b'/';
+// Writes bytes with a slash in the place of each row's end.
+fn show(rt: &impl Print, mut text: [u8; SHOWN]) -> io::Result<()> {
+    for byte in &mut text {
+        if *byte == b'\n' {
+            *byte = b'/';
         }
-        i += 1;
     }
+    io::writer(rt).write_all(&text)
 }
 
-// Writes the bytes that end a row.
-fn show(rt: &HostRuntime, text: &[u8; SHOWN]) -> io::Result<()> {
-    write(rt, b" ")?;
-    write(rt, text)?;
-    write(rt, b"\n")
-}
-
-// Writes the row of a length.
-fn row(rt: &HostRuntime, label: &[u8], book: &[u8], line: &[u8], room: usize) -> io::Result<()> {
-    if room <= SHOWN {
-        let mut values = [0u16; VALUES];
-        let answer = reader::read_line(book, line, &mut values);
+// Writes the rows of all lengths.
+pub fn list_rooms(rt: &impl Print, case: Case<'_>) -> io::Result<()> {
+    for room in 0..=LAST {
+        let mut values = [0; VALUES];
+        let answer = reader::read_line(case.book, case.text, &mut values);
         let mut text = [MARK; SHOWN];
-        let result = listing::render(book, line, answer, &values, &mut text[..room]);
-        write(rt, label)?;
-        counted(rt, b" in ", room)?;
-        outcome(rt, result)?;
-        show_ends(&mut text);
-        show(rt, &text)?;
-    }
-    Ok(())
-}
-
-// The rows of all lengths.
-pub fn rooms(rt: &HostRuntime, book: &[u8], label: &[u8], line: &[u8]) -> io::Result<()> {
-    let mut room = 0;
-    while room <= LAST {
-        row(rt, label, book, line, room)?;
-        room += 1;
+        let result = listing::render(case.book, case.text, answer, &values, &mut text[..room]);
+        io::writer(rt).write_all(case.name)?;
+        print!(rt; " in {room}{} ", Outcome(result))?;
+        show(rt, text)?;
+        println!(rt)?;
     }
     Ok(())
 }

@@ -8,210 +8,113 @@
 //                          values of the buffer
 //
 // No name and no line holds a colon.
-use crate::rooms::rooms;
-use answer::LineAnswer;
+use crate::rooms::list_rooms;
 use cases::books::put_book;
-use cases::buffer::{ROOM, Space};
-use cases::console::{write, write_number};
-use cases::script::{byte_at, take_line};
-use cases::text::{find, number};
-use listing::{MAX_LISTING, Rendered};
-use std::io;
+use cases::buffer::Buffer;
+use cases::case::Case;
+use cases::text::{number, split_once};
+use figures::refusals::Refusal;
+use listing::{MAX_LISTING, TooShort};
+use std::io::Write;
+use std::{fmt, io};
 
 // How many values there are to lend.
 pub const VALUES: usize = 512;
 
-// What the lines of a script before a case say: the length of the book, and whether one listing is rendered in buffers of every length.
-#[derive(Clone, Copy)]
-struct Setting {
-    length: usize,
-    rooms: bool,
-}
+// What rendering gave, as a row shows it.
+#[derive(Drop)]
+pub struct Outcome(pub Result<usize, TooShort>);
 
-// Writes a word and a number.
-pub fn counted(rt: &HostRuntime, word: &[u8], count: usize) -> io::Result<()> {
-    write(rt, word)?;
-    write_number(rt, count as u64)
-}
-
-// Writes what rendering gave.
-pub fn outcome(rt: &HostRuntime, res: Rendered) -> io::Result<()> {
-    match res {
-        Rendered::Written { bytes } => counted(rt, b" written ", bytes),
-        Rendered::TooShort { needed } => counted(rt, b" short ", needed),
+impl fmt::Display for Outcome {
+    fn fmt<W: fmt::Write>(&self, f: &mut fmt::Formatter<W>) -> fmt::Result {
+        match self.0 {
+            Ok(bytes) => write!(f, " written {bytes}"),
+            Err(TooShort { needed }) => write!(f, " short {needed}"),
+        }
     }
 }
 
 // Writes the row of a listing, and behind it the listing, where it is not longer than an answer's can be.
 pub fn list(
-    rt: &HostRuntime,
-    label: &[u8],
-    book: &[u8],
-    line: &[u8],
-    answer: LineAnswer,
+    rt: &impl Print,
+    case: Case<'_>,
+    answer: Result<usize, Refusal>,
     buffer: &[u16],
 ) -> io::Result<()> {
-    let mut text = [0u8; MAX_LISTING];
-    let result = listing::render(book, line, answer, buffer, &mut text);
-    write(rt, label)?;
-    outcome(rt, result)?;
-    write(rt, b"\n")?;
-    let Rendered::Written { bytes } = result else {
-        return Ok(());
-    };
-    write(rt, &text[0..bytes])
+    let mut text = [0; MAX_LISTING];
+    let result = listing::render(case.book, case.text, answer, buffer, &mut text);
+    io::writer(rt).write_all(case.name)?;
+    println!(rt; "{}", Outcome(result))?;
+    match result {
+        Ok(bytes) => io::writer(rt).write_all(&text[..bytes]),
+        Err(_) => Ok(()),
+    }
 }
 
 // Lists what the reader answers.
-fn list_read(rt: &HostRuntime, label: &[u8], book: &[u8], line: &[u8]) -> io::Result<()> {
-    let mut values = [0u16; VALUES];
-    let answer = reader::read_line(book, line, &mut values);
-    list(rt, label, book, line, answer, &values)
+fn list_read(rt: &impl Print, case: Case<'_>) -> io::Result<()> {
+    let mut values = [0; VALUES];
+    let answer = reader::read_line(case.book, case.text, &mut values);
+    list(rt, case, answer, &values)
 }
 
-// Puts the number that a text starts with as a value, where there is room, and gives the place behind it.
-fn put_value(values: &mut [u16], at: usize, text: &[u8]) -> usize {
-    if at < values.len() {
-        values[at] = (number(text) % 65536) as u16;
-        return at + 1;
+// Lists values that are given: how many were read, and the values of the buffer, as many as there is room for.
+fn list_given(rt: &impl Print, case: Case<'_>, numbers: &[u8]) -> io::Result<()> {
+    let mut buffer = [0; VALUES];
+    let values = numbers.split(|byte| *byte == b' ').skip(1);
+    for (place, value) in buffer.iter_mut().zip(values) {
+        *place = (number(value) % 65536) as u16;
     }
-    at
+    let spaces = numbers.iter().filter(|byte| **byte == b' ').count();
+    list(rt, case, Ok(number(numbers)), &buffer[..VALUES.min(spaces)])
 }
 
-// Puts the numbers that stand behind a space, and gives how many there are.
-fn put_values(values: &mut [u16], text: &[u8]) -> usize {
-    let mut count = 0;
-    let mut i = 0;
-    while i < text.len() {
-        let space = text[i] == b' ';
-        i += 1;
-        if space {
-            count = put_value(values, count, &text[i..]);
+// What is shown of a case: one listing, or one in buffers of every length.
+#[derive(Clone, Copy)]
+enum Show {
+    Listing,
+    Rooms,
+}
+
+// What the lines of a script before a case say: the book, and what is shown.
+#[derive(Drop)]
+pub struct Setting {
+    book: Buffer,
+    show: Show,
+}
+
+impl Setting {
+    pub fn new() -> Self {
+        Setting {
+            book: Buffer::new(),
+            show: Show::Listing,
         }
     }
-    count
-}
 
-// Lists values that are given.
-fn list_given(
-    rt: &HostRuntime,
-    label: &[u8],
-    book: &[u8],
-    line: &[u8],
-    numbers: &[u8],
-) -> io::Result<()> {
-    let mut values = [0u16; VALUES];
-    let lent = put_values(&mut values, numbers);
-    let answer = LineAnswer::Read {
-        values: number(numbers),
-    };
-    if lent <= VALUES {
-        list(rt, label, book, line, answer, &values[0..lent])?;
+    // Takes a line of a script: a book, what is shown, or a case.
+    pub fn take_line(&mut self, rt: &impl Print, line: &[u8]) -> io::Result<()> {
+        match line {
+            [b'=', book @ ..] => put_book(&mut self.book, book),
+            [b'>', b'r', ..] => self.show = Show::Rooms,
+            [b'>', ..] => self.show = Show::Listing,
+            _ => {
+                if let Some(case) = Case::new(&self.book, line) {
+                    return self.list_case(rt, case);
+                }
+            }
+        }
+        Ok(())
     }
-    Ok(())
-}
 
-// Lists a case, of which the name and what stands behind its colon are given.
-fn list_line(rt: &HostRuntime, label: &[u8], book: &[u8], rest: &[u8]) -> io::Result<()> {
-    let colon = find(rest, b':');
-    if colon >= rest.len() {
-        return list_read(rt, label, book, rest);
-    }
-    let numbers = colon + 1;
-    list_given(rt, label, book, &rest[0..colon], &rest[numbers..])
-}
-
-// Lists a case, or shows its listing in buffers of every length.
-fn list_case(rt: &HostRuntime, book: &[u8], case: &[u8], every: bool) -> io::Result<()> {
-    let colon = find(case, b':');
-    if colon >= case.len() {
-        return Ok(());
-    }
-    let label = &case[0..colon];
-    let rest = &case[colon + 1..];
-    if every {
-        rooms(rt, book, label, rest)
-    } else {
-        list_line(rt, label, book, rest)
-    }
-}
-
-// The same against the book that the first bytes of a slice are.
-fn list_against(
-    rt: &HostRuntime,
-    bytes: &[u8],
-    length: usize,
-    case: &[u8],
-    every: bool,
-) -> io::Result<()> {
-    if length <= bytes.len() {
-        list_case(rt, &bytes[0..length], case, every)?;
-    }
-    Ok(())
-}
-
-// Whether a line that says what is shown begins with r.
-fn says_rooms(part: &[u8]) -> bool {
-    part.len() > 1 && part[1] == b'r'
-}
-
-// Takes a line of a script, which the first bytes of a slice are: a comment, a book, what is shown, or a case.
-fn take_part(
-    rt: &HostRuntime,
-    book: &mut Space,
-    setting: Setting,
-    bytes: &[u8],
-    end: usize,
-) -> io::Result<Setting> {
-    if end == 0 || bytes.len() < end {
-        return Ok(setting);
-    }
-    let part = &bytes[0..end];
-    match part[0] {
-        b'#' => Ok(setting),
-        b'=' => Ok(Setting {
-            length: put_book(book, &part[1..]),
-            rooms: setting.rooms,
-        }),
-        b'>' => Ok(Setting {
-            length: setting.length,
-            rooms: says_rooms(part),
-        }),
-        _ => {
-            list_against(rt, book, setting.length, part, setting.rooms)?;
-            Ok(setting)
+    // Lists a case as it is shown.
+    fn list_case(&self, rt: &impl Print, case: Case<'_>) -> io::Result<()> {
+        match (self.show, split_once(case.text, b':')) {
+            (Show::Rooms, _) => list_rooms(rt, case),
+            (Show::Listing, Some((text, numbers))) => {
+                let case = Case { text, ..case };
+                list_given(rt, case, numbers)
+            }
+            (Show::Listing, None) => list_read(rt, case),
         }
     }
-}
-
-// The same for a buffer.
-fn take_from(
-    rt: &HostRuntime,
-    book: &mut Space,
-    setting: Setting,
-    part: &Space,
-    end: usize,
-) -> io::Result<Setting> {
-    take_part(rt, book, setting, part, end)
-}
-
-// Lists a script's cases. It has no more lines than bytes.
-pub fn rows(rt: &HostRuntime, script: &Space, book: &mut Space) -> io::Result<()> {
-    let mut part = [0u8; ROOM];
-    let mut setting = Setting {
-        length: 0,
-        rooms: false,
-    };
-    let mut at = 0;
-    let mut left = ROOM;
-    while 0 < left {
-        if byte_at(script, at) == 0 {
-            return Ok(());
-        }
-        let taken = take_line(script, at, &mut part);
-        setting = take_from(rt, book, setting, &part, taken.length)?;
-        at = taken.next;
-        left -= 1;
-    }
-    Ok(())
 }

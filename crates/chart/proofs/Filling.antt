@@ -11,7 +11,7 @@ use Rattle.pregroup.specs.Types.{Simple}
 use Rattle.pregroup.specs.Order.{Relation}
 use Rattle.pregroup.specs.Vanish.{Contracts}
 use Rattle.figures.specs.Limits.{row_bits}
-use Rattle.bits.specs.Rows.{InRow, HasRow, RowSays, NextMember, Stored}
+use Rattle.bits.specs.Rows.{InRow, HasRow, RowSays, Stored}
 use Rattle.graph.specs.Graph.{Graph, next_at, from_at, to_at, entered_at, label_of, Labelled, EntersBy, by, Upward, VanishTo}
 use Rattle.chart.specs.Chart.{FilledFrom, Fillable, SlotPart, SlotsThere, LinkPart, LinksThere}
 use Rattle.bits.specs.Gathered.{Gathered, Only, itself, within}
@@ -142,12 +142,6 @@ module _ (Le : Relation) (g : Graph) (chart : List ℕ) (up : Upward g) (room : 
       fill_one : FilledFrom Le g chart' u
       fill_one w h k = stored_at w h k (same_or_not w u)
 
--- The first member of the row behind a node is the node behind it.
-pub first_behind_lem :
-    {nodes chart : List ℕ} {u : ℕ} → LinksThere nodes chart u → NextMember chart (next_at nodes u) (next_at nodes u) (next_at nodes u)
-first_behind_lem there =
-    record { from_on = omega arith; within = omega (arith, there.first.small); member = λ h. there.first; least = λ v h l. absurd (omega arith) }
-
 -- One turn: the rows from u on are filled, and the row before it is next.
 pub record Turn (Le : Relation) (g : Graph) (start chart : List ℕ) (u : ℕ) : Type 0 where
   pub fillable : Fillable g start
@@ -158,10 +152,10 @@ pub record Turn (Le : Relation) (g : Graph) (start chart : List ℕ) (u : ℕ) :
 
 -- What the loop of `fill` keeps, where it goes on.
 pub turn_at :
-    (Le : Relation) (g : Graph) (start chart : List ℕ) (u : ℕ) → Fillable g start → 0 < u
-    → (u ≤ length g.nodes) × (length chart ≡ length start) × FilledFrom Le g chart u → Turn Le g start chart u
-turn_at Le g start chart u fillable more kept =
-    record { fillable = fillable; few = kept.0; more = more; whole = kept.1; filled = kept.2 }
+    (Le : Relation) (g : Graph) (start chart : List ℕ) (u : ℕ) → Fillable g start → 0 < u → u ≤ length g.nodes → length chart ≡ length start
+    → FilledFrom Le g chart u → Turn Le g start chart u
+turn_at Le g start chart u fillable more few whole filled =
+    record { fillable = fillable; few = few; more = more; whole = whole; filled = filled }
 
 module _ {Le : Relation} {g : Graph} {start chart : List ℕ} {u : ℕ} (t : Turn Le g start chart u) where
   turn_room : (w : ℕ) → w < length g.nodes → HasRow chart w
@@ -185,23 +179,19 @@ module _ {Le : Relation} {g : Graph} {start chart : List ℕ} {u : ℕ} (t : Tur
   simple_asks s =
       (omega (arith, t.fillable.upward.few), links_there Le g chart t.fillable.upward turn_room (u - 1) turn_small turn_filled (omega arith))
 
-  module _ (chart' row : List ℕ) (stored : Stored chart chart' row (u - 1)) where
-    turned :
-        RowSays row 0 (VanishTo Le g (u - 1)) → (u - 1 ≤ length g.nodes) × (length chart' ≡ length start) × FilledFrom Le g chart' (u - 1)
-    turned says = (
-      omega arith,
-      omega (arith, stored.length_kept),
-      fill_one Le g chart t.fillable.upward turn_room (u - 1) turn_small turn_filled chart' row stored says,
-    )
-
-    pub boundary_turn :
+  -- The row that is made holds what vanishes from its node.
+  module _ (row : List ℕ) where
+    pub boundary_made :
         next_at g.nodes (u - 1) ≡ 0
         → RowSays row 0 (Gathered (Only (u - 1)) (SlotPart g.slots chart (from_at g.nodes (u - 1)) (to_at g.nodes (u - 1))))
-        → (u - 1 ≤ length g.nodes) × (length chart' ≡ length start) × FilledFrom Le g chart' (u - 1)
-    boundary_turn b says = turned (boundary_says Le g chart t.fillable.upward turn_room (u - 1) turn_small turn_filled b row says)
+        → RowSays row 0 (VanishTo Le g (u - 1))
+    boundary_made b says = boundary_says Le g chart t.fillable.upward turn_room (u - 1) turn_small turn_filled b row says
 
-    pub simple_turn :
-        (next_at g.nodes (u - 1) ≡ 0 → ⊥)
-        → RowSays row 0 (Gathered (Only (u - 1)) (LinkPart Le g.nodes chart (u - 1)))
-        → (u - 1 ≤ length g.nodes) × (length chart' ≡ length start) × FilledFrom Le g chart' (u - 1)
-    simple_turn s says = turned (simple_says Le g chart t.fillable.upward turn_room (u - 1) turn_small turn_filled (omega arith) row says)
+    pub simple_made :
+        (next_at g.nodes (u - 1) ≡ 0 → ⊥) → RowSays row 0 (Gathered (Only (u - 1)) (LinkPart Le g.nodes chart (u - 1)))
+        → RowSays row 0 (VanishTo Le g (u - 1))
+    simple_made s says = simple_says Le g chart t.fillable.upward turn_room (u - 1) turn_small turn_filled (omega arith) row says
+
+  -- It is stored.
+  pub turned : (chart' row : List ℕ) → Stored chart chart' row (u - 1) → RowSays row 0 (VanishTo Le g (u - 1)) → FilledFrom Le g chart' (u - 1)
+  turned chart' row stored says = fill_one Le g chart t.fillable.upward turn_room (u - 1) turn_small turn_filled chart' row stored says

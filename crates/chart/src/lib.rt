@@ -12,7 +12,6 @@ ghost use Rattle.bits.specs.Gathered.{Gathered, Only};
 
 use bits::rows;
 use bits::rows::Row;
-use figures::limits::ROW_BITS;
 use graph::{entered_at, from_at, next_at, simple_at, to_at};
 use pregroup::LinkKind;
 
@@ -23,10 +22,8 @@ fn boundary_row(slots: &[u64], chart: &[u64], u: usize, from: usize, to: usize) 
     ensures { RowSays result.words 0 (Gathered (Only u) (SlotPart slots.now chart.now from to)) }
 {
     let mut row = rows::put(rows::empty(), u);
-    let mut s = from;
-    while s < to {
+    for s in from..to {
         row = rows::unite(row, chart, entered_at(slots, s));
-        s += 1;
     }
     row
 }
@@ -37,15 +34,11 @@ fn join_row(order: &[u64], nodes: &[u64], chart: &[u64], row: Row, x: u16, y: us
     ensures { RowSays result.words 0 (λ v. InRow row.words 0 v
         ⊎ Joined (InRows order.now) nodes.now chart.now x y v) }
 {
-    match pregroup::may_contract(order, x, simple_at(nodes, y)) {
-        LinkKind::Not => row,
-        _ => {
-            let next = next_at(nodes, y);
-            if next == 0 {
-                return row;
-            }
-            rows::unite(row, chart, next)
-        }
+    let next = next_at(nodes, y);
+    if next == 0 || pregroup::may_contract(order, x, simple_at(nodes, y)) == LinkKind::Not {
+        row
+    } else {
+        rows::unite(row, chart, next)
     }
 }
 
@@ -59,10 +52,8 @@ fn simple_row(order: &[u64], nodes: &[u64], chart: &[u64], u: usize) -> Row
     let behind = next_at(nodes, u);
     let x = simple_at(nodes, u);
     let mut row = rows::put(rows::empty(), u);
-    let mut y = behind;
-    while y < ROW_BITS {
+    for y in rows::members(chart, behind, behind) {
         row = join_row(order, nodes, chart, row, x, y);
-        y = rows::next_member(chart, behind, y + 1);
     }
     row
 }
@@ -72,15 +63,12 @@ pub fn fill(order: &[u64], nodes: &[u64], slots: &[u64], chart: &mut [u64])
     requires { Fillable (graph nodes.now slots.now) chart.old }
     ensures { FilledFrom (InRows order.now) (graph nodes.now slots.now) chart.new 0 }
 {
-    let mut u = nodes.len();
-    while 0 < u {
-        u -= 1;
-        if next_at(nodes, u) == 0 {
-            let row = boundary_row(slots, chart, u, from_at(nodes, u), to_at(nodes, u));
-            rows::store(chart, u, row);
+    for u in (0..nodes.len()).rev() {
+        let row = if next_at(nodes, u) == 0 {
+            boundary_row(slots, chart, u, from_at(nodes, u), to_at(nodes, u))
         } else {
-            let row = simple_row(order, nodes, chart, u);
-            rows::store(chart, u, row);
-        }
+            simple_row(order, nodes, chart, u)
+        };
+        rows::store(chart, u, row);
     }
 }

@@ -214,6 +214,32 @@ module _ {Le : Relation} {g : Graph} {chart string chosen table needs : List ℕ
       spell = λ after X a. rw (slots_more chosen words r after word_room) (now.spell (r ∷ after) X (ahead_enter entered a));
     }
 
+-- What the search at the boundary u finds: a slot r that is there and leads up.
+pub record Found (g : Graph) (chart needs : List ℕ) (places u r : ℕ) : Type 0 where
+  pub boundary : next_at g.nodes u ≡ 0
+  pub first : FirstSlot g.slots chart needs places (from_at g.nodes u) (to_at g.nodes u) r
+  pub before : r < to_at g.nodes u
+  pub there : r < length g.slots
+  pub up : (u < entered_at g.slots r) × (entered_at g.slots r < length g.nodes)
+
+-- The same, where the node and the ends of the search are read before.
+module _ {Le : Relation} {g : Graph} {chart string chosen table needs : List ℕ} {end u words places : ℕ} (pre : Choosable Le g chart end)
+    (now : Choosing Le g string chosen table needs end u words places) (away : u ≡ end → ⊥) where
+  pub found_by_search :
+      {next from to r : ℕ} → next ≡ next_at g.nodes u → next ≡ 0 → from ≡ from_at g.nodes u → to ≡ to_at g.nodes u
+      → FirstSlot g.slots chart needs places from to r → Found g chart needs places u r
+  found_by_search {r = r} n last f t given =
+      let boundary : next_at g.nodes u ≡ 0 = sym n ∙ last in
+      let first = rw (f, t) at given in
+      let before : r < to_at g.nodes u = slot_found pre now away boundary r first in
+      record {
+        boundary = boundary;
+        first = first;
+        before = before;
+        there = omega (arith, pre.upward.slots_there u now.below boundary);
+        up = slot_up pre now away boundary r first;
+      }
+
 -- At the end the chosen string vanishes, and the slots are the first choice.
 module _ {Le : Relation} {g : Graph} where
   ends_here : {P X : PregroupType} {u v : ℕ} → u ≡ v → Boundary g u → ((s w : ℕ) → EntersBy g u s w → ⊥) → Path g u X v → Vanish Le (P ++ X) → Vanish Le P

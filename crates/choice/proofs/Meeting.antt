@@ -1,9 +1,9 @@
 -- Two rows that meet, word by word: what the word of both tells, and the words that are passed.
 use Prim.Native.Nat.{ℕ, ◌+◌, ◌*◌, ◌/◌, ◌%◌, ◌^◌, ◌≤◌, ◌<◌}
 use native.Mathlib.Omega.{arith}
-use mathlib.Core.Path.{◌≡◌, ap}
+use mathlib.Core.Path.{◌≡◌, refl, ap, ◌∙◌}
 use mathlib.Core.Logic.{◌↔◌, ◌⊎◌, inl, inr}
-use mathlib.Core.Bool.{true, not}
+use mathlib.Core.Bool.{Bool, true, false, not}
 use mathlib.Core.List.{List}
 use lib.Dec.{eqb}
 use lib.ListN.{get_or}
@@ -14,7 +14,11 @@ use Rattle.bits.specs.Bits.{Has, Members}
 use Rattle.bits.specs.Rows.{InRow}
 use Rattle.bits.proofs.BitLaws.{empty_has_none}
 use Rattle.bits.proofs.Trailing.{trailing_lowest}
-use Rattle.bits.proofs.Cases.{less_or_not}
+use Rattle.bits.proofs.Cases.{less_or_not, false_iff}
+use Rattle.bits.proofs.Testing.{Tells, told_yes, told_no}
+use Rattle.std.specs.Bool.{MatchBool}
+use Rattle.std.specs.List.{range_with_len, AllWithin, HoldsAt}
+use Rattle.std.proofs.lemmas.List.FromFn.{get_or-range_with_len}
 use Rattle.choice.specs.Sets.{Meets, meets, MeetsIn, meets_in}
 
 module _ (chart : List ℕ) (u : ℕ) (needs : List ℕ) (n : ℕ) where
@@ -34,6 +38,20 @@ module _ (chart : List ℕ) (u : ℕ) (needs : List ℕ) (n : ℕ) where
 
   pub meets_whole : {k : ℕ} → MeetsIn chart u needs n k → Meets chart u needs n
   meets_whole (meets_in v e a b) = meets v a b
+
+  -- The words, asked one after another.
+  pub meets_any :
+      (r : Bool) → MatchBool r ((k : ℕ) × (k < row_words) × HoldsAt (λ w. Tells (MeetsIn chart u needs n w) true) (range_with_len 0 row_words) k)
+      (AllWithin (λ w. Tells (MeetsIn chart u needs n w) false) (range_with_len 0 row_words) 0 row_words)
+      → (r ≡ true) ↔ Meets chart u needs n
+  meets_any true met = (λ e. meets_whole (told_yes (met.2 0)), λ m. refl)
+  meets_any false apart = false_iff none
+    where
+      none : Meets chart u needs n → ⊥
+      none (meets v a b) =
+          let small : v / 64 < row_words = omega (arith, a.small) in
+          let here : get_or (range_with_len 0 row_words) (v / 64) 0 ≡ v / 64 = get_or-range_with_len 0 row_words (v / 64) 0 small ∙ omega arith in
+          told_no (rw here at (apart (v / 64) 0 (omega arith) small)) (meets_in v refl a b)
 
   -- The rows meet in word k exactly where the word of both has a member.
   module _ (k word : ℕ) (small : k < row_words) (fits : word < 2 ^ 64)

@@ -1,5 +1,5 @@
 -- The search for the first slot: no slot that is passed leads to a node from which the chart reaches what is needed.
-use Prim.Native.Nat.{ℕ, ◌+◌, ◌≤◌, ◌<◌}
+use Prim.Native.Nat.{ℕ, ◌+◌, max, ◌≤◌, ◌<◌}
 use native.Mathlib.Omega.{arith}
 use mathlib.Core.Path.{◌≡◌}
 use mathlib.Core.Logic.{◌⊎◌, inl, inr}
@@ -25,5 +25,5 @@ module _ (slots chart needs : List ℕ) (n from s : ℕ) (before : Passed slots 
   pub search_found : (to : ℕ) → Meets chart (entered_at slots s) needs n → FirstSlot slots chart needs n from to s
   search_found to p = record { from_on = before.from_on; found = λ h. p; none = before.none }
 
-  pub search_fails : (to : ℕ) → to ≤ s → FirstSlot slots chart needs n from to s
-  search_fails to h = record { from_on = before.from_on; found = λ l. absurd (omega arith); none = before.none }
+  pub search_fails : (to r : ℕ) → to ≤ s → r ≡ max from to → FirstSlot slots chart needs n from to r
+  search_fails to r h e = record { from_on = omega arith; found = λ l. absurd (omega arith); none = λ q on l. before.none q on (omega arith) }

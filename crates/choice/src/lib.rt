@@ -45,7 +45,8 @@ fn grow(
 }
 
 // The first slot from whose node the string of n places is finished: a search over slots and over the nodes that are needed, which part the rest into
-// what vanishes and what the open link closes on; 64 nodes at a time, and left from inside once one is found.
+// what vanishes and what the open link closes on; 64 nodes at a time, and left from inside once one is found. Where there is none, which no caller
+// meets, the result is not below `to`.
 fn first_slot(
     slots: &[u64],
     chart: &[u64],
@@ -57,19 +58,17 @@ fn first_slot(
     requires { Searchable slots.now chart.now needs.now n from to }
     ensures { FirstSlot slots.now chart.now needs.now n from to result }
 {
-    let mut s = from;
-    'search: while s < to {
+    let mut first = from.max(to);
+    'search: for s in from..to {
         let node = entered_at(slots, s);
-        let mut k = 0;
-        while k < ROW_WORDS {
+        for k in 0..ROW_WORDS {
             if needs::meets_in(chart, node, needs, n, k) {
+                first = s;
                 break 'search;
             }
-            k += 1;
         }
-        s += 1;
     }
-    s
+    first
 }
 
 // How many words the choice has, and how many simple types.
@@ -101,6 +100,7 @@ pub fn choose(
     let mut u = 0;
     let mut words = 0;
     let mut places = 0;
+    // A walk along the graph, so that no index counts.
     while u != end {
         let next = next_at(nodes, u);
         if next == 0 {

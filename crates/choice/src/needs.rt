@@ -9,7 +9,7 @@ ghost use Rattle.choice.specs.Sets.{Meets, MeetsIn, LinksTo, Partner};
 
 use bits::rows;
 use bits::rows::Row;
-use figures::limits::{ROW_BITS, ROW_WORDS};
+use figures::limits::ROW_WORDS;
 use graph::{next_at, simple_at};
 use pregroup::LinkKind;
 
@@ -27,14 +27,7 @@ fn meets(chart: &[u64], u: usize, needs: &[u64], n: usize) -> bool
     requires { HasRow chart.now u × HasRow needs.now n }
     ensures { (result ≡ true) ↔ Meets chart.now u needs.now n }
 {
-    let mut k = 0;
-    while k < ROW_WORDS {
-        if meets_in(chart, u, needs, n, k) {
-            return true;
-        }
-        k += 1;
-    }
-    false
+    (0..ROW_WORDS).any(|k| meets_in(chart, u, needs, n, k))
 }
 
 // Whether y is simple, x may contract with it, and what is needed after n places can be reached from behind it.
@@ -52,16 +45,9 @@ fn links_to(
     ensures { (result ≡ true)
         ↔ LinksTo (InRows order.now) nodes.now chart.now needs.now n x y }
 {
-    match pregroup::may_contract(order, x, simple_at(nodes, y)) {
-        LinkKind::Not => false,
-        _ => {
-            let next = next_at(nodes, y);
-            if next == 0 {
-                return false;
-            }
-            meets(chart, next, needs, n)
-        }
-    }
+    let kind = pregroup::may_contract(order, x, simple_at(nodes, y));
+    let next = next_at(nodes, y);
+    !matches!(kind, LinkKind::Not) && next != 0 && meets(chart, next, needs, n)
 }
 
 // The nodes that the simple node u, chosen behind n places, may be linked to. The first member of the row behind u is the node behind u.
@@ -79,11 +65,7 @@ pub(crate) fn partners(
 {
     let behind = next_at(nodes, u);
     let x = simple_at(nodes, u);
-    let mut words = [0u64; ROW_WORDS];
-    let mut y = behind;
-    while y < ROW_BITS {
-        rows::put_where(&mut words, y, links_to(order, nodes, chart, needs, n, x, y));
-        y = rows::next_member(chart, behind, y + 1);
-    }
-    Row { words }
+    rows::members_where(chart, behind, behind, 0, |y| {
+        links_to(order, nodes, chart, needs, n, x, y)
+    })
 }

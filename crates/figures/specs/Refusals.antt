@@ -1,6 +1,9 @@
 -- Document 01, "When the screen says no": the number of each refusal, and the form in which the paper gives an answer. `src/refusals.rt` has
 -- the same numbers.
-use Rattle.std.specs.Prelude.{ℕ, List, [], ◌∷◌}
+use Rattle.std.specs.Prelude.{ℕ, List, [], ◌∷◌, Result, Ok, Err}
+use Rattle.figures.specs.declared.refusals.Cause.{Cause}
+use Rattle.figures.specs.declared.refusals.Cause.TheVariants.{BookTooLong, CutShort, KindNotListed, BadLayout, UndeclaredType, ExponentOutside, NameUsed, TooManyTargets, TooManyRecords, NoTarget, BadLineByte, BadWord, UnknownWord, TooManySimples, NoReading, BufferTooShort, BadBatch, AnswersTooLong, BracketsTooDeep, NotAType, TypeTooLong}
+use Rattle.figures.specs.declared.refusals.Refusal.{Refusal}
 
 -- An answer as the paper gives it: 0 and the values of a success, or the number of a refusal and the value returned with it.
 pub record Reply : Type 0 where
@@ -94,3 +97,36 @@ not_a_type = 20
 -- Text of over 12 simple types.
 abbrev pub type_too_long : ℕ
 type_too_long = 21
+
+-- The number of a cause.
+abbrev pub number_of : Cause → ℕ
+number_of BookTooLong = book_too_long
+number_of CutShort = cut_short
+number_of KindNotListed = kind_not_listed
+number_of BadLayout = bad_layout
+number_of UndeclaredType = undeclared_type
+number_of ExponentOutside = exponent_outside
+number_of NameUsed = name_used
+number_of TooManyTargets = too_many_targets
+number_of TooManyRecords = too_many_records
+number_of NoTarget = no_target
+number_of BadLineByte = bad_line_byte
+number_of BadWord = bad_word
+number_of UnknownWord = unknown_word
+number_of TooManySimples = too_many_simples
+number_of NoReading = no_reading
+number_of BufferTooShort = buffer_too_short
+number_of BadBatch = bad_batch
+number_of AnswersTooLong = answers_too_long
+number_of BracketsTooDeep = brackets_too_deep
+number_of NotAType = not_a_type
+number_of TypeTooLong = type_too_long
+
+-- The number of the fault that a check found, or 0 where it found none.
+abbrev pub fault_number : Result Unit Cause → ℕ
+fault_number (Ok _) = 0
+fault_number (Err cause) = number_of cause
+
+-- A refusal with this number and value, where a call could have given an A.
+abbrev pub Refused : {A : Type 0} → ℕ → ℕ → Result A Refusal
+Refused number value = Err (record { number = number; value = value })

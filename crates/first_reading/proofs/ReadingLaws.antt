@@ -31,7 +31,8 @@ use Rattle.answer.specs.Entries.{entry_numbers}
 use Rattle.answer.specs.Written.{Linkable, Writable, WroteAnswer}
 use Rattle.answer.proofs.ValueLaws.{entry_numbers_length}
 use Rattle.answer.proofs.GivenLaws.{gives_short, gives_read}
-use Rattle.answer.specs.declared.LineAnswer.TheVariants.{Read, Refused}
+use Rattle.std.specs.Prelude.{Ok, Err}
+use Rattle.figures.specs.Refusals.{Refused}
 use Rattle.answer.specs.Answers.{values_of, answer_length, given, Gives}
 use Rattle.reach.specs.Charted.{Drawn, Charted}
 use Rattle.first_reading.proofs.Brief.{laid_brief}
@@ -240,7 +241,7 @@ module _ {le : Test} {Le : Relation} {g : Graph} {targets : List Basic} {last : 
 
       pub answers_read :
           (before after : List ℕ) → answer_length n m ≤ length before → WroteAnswer Le string s t g.slots chosen before after
-          → Gives (given (first_reading le targets words) before) (Read (answer_length n m)) after
+          → Gives (given (first_reading le targets words) before) (Ok (answer_length n m)) after
       answers_read before after h w =
           let greedy = rw string_is at w.greedy in
           let linked = first_linking_greedy d.decides s (string_of string₀ m) (w.whole ∙ string_long ∙ sym (length_string string₀ m)) greedy in

@@ -5,13 +5,14 @@ ghost use Rattle.pregroup.specs.Held.{InRows};
 ghost use Rattle.graph.specs.Graph.{graph};
 ghost use Rattle.first_reading.specs.Reached.{IsReached, ReachGives};
 
-use answer::{LineAnswer, answer_length, write_answer};
+use answer::{answer_length, write_answer};
 use choice::choose;
 use figures::limits::{MAX_NODES, MAX_PLACES, TABLE_WORDS};
-use figures::refusals::BUFFER_TOO_SHORT;
+use figures::refusals::{Cause, Refusal};
 use layout::end_at;
 
-// Finds the first choice up to the end of target t, which the chart reaches as the first, and writes its first linking.
+// Finds the first choice up to the end of target t, which the chart reaches as the first, and writes its first linking. It gives how many values the
+// answer has.
 pub fn write_reading(
     order: &[u64],
     nodes: &[u64],
@@ -21,7 +22,7 @@ pub fn write_reading(
     last: usize,
     t: usize,
     answer: &mut [u16],
-) -> LineAnswer
+) -> Result<usize, Refusal>
     requires { IsReached (InRows order.now) (graph nodes.now slots.now) targets.now last chart.now t }
     ensures { ReachGives (InRows order.now) (graph nodes.now slots.now) targets.now last chart.now t
         answer.old result answer.new }
@@ -46,10 +47,7 @@ pub fn write_reading(
     let m = choice.places - 1;
     let needed = answer_length(words, m);
     if answer.len() < needed {
-        return LineAnswer::Refused {
-            number: BUFFER_TOO_SHORT,
-            value: needed,
-        };
+        return Err(Cause::BufferTooShort.with(needed));
     }
     write_answer(
         order,
@@ -61,5 +59,5 @@ pub fn write_reading(
         &chosen[..words],
         answer,
     );
-    LineAnswer::Read { values: needed }
+    Ok(needed)
 }

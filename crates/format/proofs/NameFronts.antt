@@ -3,7 +3,7 @@ use Prim.Native.Nat.{ℕ, suc, ◌+◌, ◌-◌, ◌≤◌, ◌<◌}
 use native.Mathlib.Numerals.{add-one}
 use native.Mathlib.Omega.{arith}
 use native.Mathlib.Decide.{ℕ_discrete}
-use mathlib.Core.Path.{◌≡◌, refl, sym, ap, ◌∙◌}
+use mathlib.Core.Path.{◌≡◌, refl, sym, subst, ap, ◌∙◌}
 use mathlib.Core.Bool.{Bool, true, false, cond}
 use mathlib.Core.List.{[], ◌∷◌, ◌++◌, append-nil, append_assoc}
 use lib.ListN.{length, get_or, take, drop, length-drop, drop_of_length-le}
@@ -13,6 +13,7 @@ use borrow.Author.Tests.{eq-eqb, ne_eqb}
 use Rattle.format.specs.Records.{Bytes, every, between}
 use Rattle.format.specs.Names.{name_byte, name_front, name_behind, NameEnds}
 use Rattle.format.proofs.Bools.{both}
+use Rattle.format.proofs.NameLaws.{name_length_no, name_first_no, name_rest}
 
 -- So far the name has gone on.
 pub record NamePassed (text : Bytes) (at i : ℕ) : Type 0 where
@@ -20,11 +21,6 @@ pub record NamePassed (text : Bytes) (at i : ℕ) : Type 0 where
   pub inside : i ≤ length text
   pub front : take (i - at) (drop at text) ++ name_front (drop i text) ≡ name_front (drop at text)
   pub behind : name_behind (drop i text) ≡ name_behind (drop at text)
-
-pub name_start : (text : Bytes) (at : ℕ) → at ≤ length text → NamePassed text at at
-name_start text at h =
-    let none : at - at ≡ 0 = omega arith in
-    record { forth = omega arith; inside = h; front = ap (λ (n : ℕ). take n (drop at text) ++ name_front (drop at text)) none; behind = refl }
 
 module _ {text : Bytes} {at i : ℕ} (p : NamePassed text at i) where
   pub name_next : i < length text → name_byte (get_or {A = ℕ} text i 0) ≡ true → NamePassed text at (i + 1)
@@ -67,9 +63,11 @@ module _ {text : Bytes} {at i : ℕ} (p : NamePassed text at i) where
   unfolding name_front name_behind
   name_stop h e = ended (rw (drop-cons text i 0 h, e)) (rw (drop-cons text i 0 h, e))
 
-  pub name_end : length text ≤ i → NameEnds text at i
+  pub name_end : length text ≤ i → NameEnds text at (length text)
   unfolding name_front name_behind
-  name_end h = ended (rw (drop_of_length-le text h)) (rw (drop_of_length-le text h))
+  name_end h =
+      let end : i ≡ length text = omega (arith, p.inside) in
+      subst (λ (n : ℕ). NameEnds text at n) end (ended (rw (drop_of_length-le text h)) (rw (drop_of_length-le text h)))
 
 -- A name that begins with a letter goes as far as the bytes behind the letter do.
 pub name_begins :
@@ -115,3 +113,6 @@ name_whole {text} {end} e = go (ℕ_discrete end (length text))
         let name : name_front text ≡ text = sym e.name ∙ take_all (end - 0) text (omega arith) in
         eq-eqb end (length text) whole ∙ sym (ap (λ (l : Bytes). every name_byte l) (sym name) ∙ front_bytes text)
     go (no ends) = ne_eqb end (length text) ends ∙ sym (fails ends (every name_byte text) refl)
+
+-- What a body is told by: its length, its first byte, and where the name ends that it begins with.
+pub ruleset name_form = (name_length_no, name_first_no, name_rest, name_whole)

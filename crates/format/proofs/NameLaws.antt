@@ -1,45 +1,35 @@
 -- The laws of names: their form, and the search for one among those of earlier records, whose bodies stand in the book at the kept offsets.
-use Prim.Native.Nat.{ℕ, zero, suc, ◌+◌, ◌≤◌, ◌<◌}
+use Prim.Native.Nat.{ℕ, zero, suc, ◌≤◌, ◌<◌}
 use native.Mathlib.Omega.{arith}
-use native.Mathlib.Decide.{ℕ_discrete}
-use mathlib.Core.Path.{◌≡◌, refl, sym, subst, ap, ap₂, ◌∙◌}
+use mathlib.Core.Path.{◌≡◌, refl, sym, ap, ◌∙◌}
 use mathlib.Core.Bool.{Bool, true, false, cond, ◌&&◌, false≢true}
 use lib.Dec.{leb}
 use mathlib.Core.List.{List, [], ◌∷◌, ◌++◌}
 use lib.ListN.{length, get_or, take, length-map, get_or-map}
 use lib.Seq.{length-take-le, get_or-take}
-use borrow.Author.Tests.{leb-true, eqb-true, eq-eqb}
+use borrow.Author.Tests.{leb-true}
+use Rattle.std.specs.Bool.{Decides}
+use Rattle.std.proofs.lemmas.Bool.Decides.{same_from_decides}
+use Rattle.std.proofs.lemmas.Slice.Eq.{compares_Decides}
 use Rattle.figures.specs.Limits.{max_name}
 use Rattle.format.specs.Names.{name_byte, is_name, number_of}
 use Rattle.format.specs.Records.{between, Bytes, every, same_bytes, body_at}
 use Rattle.format.specs.Records.{bodies_at}
 use Rattle.format.proofs.Bools.{inside, outside, and_false, both}
 
-pub same_equal : (xs ys : Bytes) → same_bytes xs ys ≡ true → xs ≡ ys
+-- A test of two lists of bytes that says when they are equal is `same_bytes`.
+same_decides : (xs ys : Bytes) → Decides (same_bytes xs ys) (xs ≡ ys)
 unfolding same_bytes
-same_equal [] [] h = refl
-same_equal [] (y ∷ ys) h = absurd (false≢true h)
-same_equal (x ∷ xs) [] h = absurd (false≢true h)
-same_equal (x ∷ xs) (y ∷ ys) h =
-    let t = both _ _ h in
-    ap₂ (λ (a : ℕ) (b : Bytes). a ∷ b) (eqb-true x y t.0) (same_equal xs ys t.1)
+same_decides = compares_Decides same_bytes (record { empty = refl; shorter = λ y ys. refl; longer = λ x xs. refl; heads = λ x y xs ys. refl })
 
-same_self : (xs : Bytes) → same_bytes xs xs ≡ true
-unfolding same_bytes
-same_self [] = refl
-same_self (x ∷ xs) = rw (eq-eqb x x refl, same_self xs)
+pub same_equal : (xs ys : Bytes) → same_bytes xs ys ≡ true → xs ≡ ys
+same_equal xs ys = (same_decides xs ys).0
 
 pub equal_same : (xs ys : Bytes) → xs ≡ ys → same_bytes xs ys ≡ true
-equal_same xs ys e = rw (← e) (same_self xs)
+equal_same xs ys = (same_decides xs ys).1
 
--- A test of two lists of bytes that says when they are equal is `same_bytes`.
 pub same_test : (xs ys : Bytes) (t : Bool) → (t ≡ true → xs ≡ ys) × (xs ≡ ys → t ≡ true) → same_bytes xs ys ≡ t
-same_test xs ys true h = equal_same xs ys (h.0 refl)
-same_test xs ys false h = go (same_bytes xs ys) refl
-  where
-    go : (s : Bool) → same_bytes xs ys ≡ s → s ≡ false
-    go true e = sym (h.1 (same_equal xs ys e))
-    go false e = refl
+same_test xs ys t h = same_from_decides (same_bytes xs ys) t (same_decides xs ys) h
 
 -- A name's number is the first place where it stands, or the length where it does not.
 pub number_first :
@@ -58,14 +48,6 @@ number_first d (n ∷ names) name i h before there = go i h before there (λ k. 
     go (suc i) h before there rest true e = absurd (before 0 (omega arith) (same_equal name n e))
     go (suc i) h before there rest false e = ap suc (rest i (omega arith) (λ j l. before (suc j) (omega arith)) (λ l. there (omega arith)))
 
--- Of none before a place and not of that place, so of none up to it.
-pub none_more : {P : ℕ → Type 0} (i : ℕ) → ((j : ℕ) → j < i → P j → ⊥) → (P i → ⊥) → (j : ℕ) → j < i + 1 → P j → ⊥
-none_more {P} i before here j h p = go (ℕ_discrete j i)
-  where
-    go : Dec (j ≡ i) → ⊥
-    go (yes e) = here (subst P e p)
-    go (no d) = before j (omega (arith, d)) p
-
 module _ (bytes : Bytes) (offsets : List ℕ) (count : ℕ) where
   pub bodies_length : count ≤ length offsets → length (bodies_at bytes offsets count) ≡ count
   bodies_length h = length-map (take count offsets) (body_at bytes) ∙ length-take-le count offsets h
@@ -82,19 +64,6 @@ module _ (bytes : Bytes) (offsets : List ℕ) (count : ℕ) where
       (λ l. let k : i < count = omega arith in there k ∙ sym (bodies_at_lem i k))
 
 -- The form of a name, by the tests in their order: the first that fails decides, and the last is the answer.
-pub name_letter : (byte : ℕ) → (97 ≤ byte) × (byte ≤ 122) → true ≡ name_byte byte
-unfolding name_byte
-name_letter byte h = rw (inside 97 122 byte h)
-
-pub name_byte_no : (byte : ℕ) → (97 ≤ byte → byte ≤ 122 → ⊥) → (48 ≤ byte → byte ≤ 57 → ⊥) → false ≡ name_byte byte
-unfolding name_byte
-name_byte_no byte h k = rw (outside 97 122 byte h, outside 48 57 byte k)
-
--- Below the letters a byte of a name is a digit, and from the first letter on it goes up to the last.
-pub name_below : (byte : ℕ) → byte < 97 → name_byte byte ≡ between 48 57 byte
-unfolding name_byte
-name_below byte h = rw (outside 97 122 byte (omega arith))
-
 module _ (body : Bytes) where
   pub name_length_no : (1 ≤ length body → length body ≤ max_name → ⊥) → false ≡ is_name body
   unfolding is_name

@@ -8,6 +8,7 @@ use bytewise::widths::two_bytes;
 pub const HEAD: usize = 4;
 
 // The body of the record at an offset, which is there whole.
+#[tactic(auto, using(crate::proofs::RecordLaws::two_bytes_read))]
 pub fn body_at(book: &[u8], at: usize) -> &[u8]
     requires { next_at book.now at ≤ length book.now }
     ensures { result.now ≡ body_at book.now at }

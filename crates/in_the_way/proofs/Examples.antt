@@ -22,7 +22,8 @@ use Rattle.line.specs.LineFaults.{byte_fault, word_fault, entry_fault, line_chec
 use Rattle.lookup.specs.Entries.{entries_from, simples_in, simples_of_words}
 use Rattle.answer.specs.Answers.{Outcome, given}
 use Rattle.reader.specs.Outcome.{read_against, read_parsed}
-use Rattle.answer.specs.declared.LineAnswer.TheVariants.{Read, Refused}
+use Rattle.std.specs.Prelude.{Ok}
+use Rattle.figures.specs.Refusals.{Refused}
 use Rattle.reader.proofs.Table.{line_of}
 use Rattle.in_the_way.specs.declared.WayAnswer.{WayAnswer}
 use Rattle.in_the_way.specs.declared.WayAnswer.TheVariants.{Ordinary, NoReading}
@@ -49,7 +50,7 @@ told_lines = refl
 -- An answer, 16 and 13 come as ever.
 pub ordinary_lines :
     outcomes ((go ∷ []) ∷ (fetch ∷ bed4 ∷ []) ∷ (go ∷ (103 ∷ []) ∷ []) ∷ [])
-    ≡ record { answer = Ordinary (Read 5); buffer = 0 ∷ 1 ∷ 7 ∷ 1 ∷ 1 ∷ 7 ∷ [] } ∷ kept (Ordinary (Refused buffer_too_short 8)) ∷ kept (Ordinary (Refused unknown_word 3)) ∷ []
+    ≡ record { answer = Ordinary (Ok 5); buffer = 0 ∷ 1 ∷ 7 ∷ 1 ∷ 1 ∷ 7 ∷ [] } ∷ kept (Ordinary (Refused buffer_too_short 8)) ∷ kept (Ordinary (Refused unknown_word 3)) ∷ []
 unfolding every two_bytes name_byte is_name exponent_of simples_of is_worded is_entry exponent_listed same_bytes number_of body_rules record_rules first_broken add ended records_from parse even same_exponent contracts first_some linked_to first_within unlinked_at first_from first_linking first_entry first_behind first_target first_reading below small same_word words_from entries_from byte_fault word_fault entry_fault simples_in simples_of_words line_check given read_against read_parsed without way_from way_against way_parsed told
 ordinary_lines = refl
 

@@ -15,8 +15,9 @@ use Rattle.book.specs.Format.{Book, parse}
 use Rattle.linking.specs.Reading.{Words}
 use Rattle.answer.specs.Answers.{Gives}
 use Rattle.reader.specs.Outcome.{outcome}
-use Rattle.answer.specs.declared.LineAnswer.{LineAnswer}
-use Rattle.answer.specs.declared.LineAnswer.TheVariants.{Read, Refused}
+use Rattle.answer.specs.Answers.{LineAnswer}
+use Rattle.std.specs.Prelude.{Ok, Err}
+use Rattle.figures.specs.Refusals.{Refused}
 use Rattle.reader.proofs.Unread.{unread_line}
 use Rattle.in_the_way.specs.declared.WayAnswer.{WayAnswer}
 use Rattle.in_the_way.specs.declared.WayAnswer.TheVariants.{Ordinary, NoReading}
@@ -49,13 +50,13 @@ module _ (book line : Bytes) (buffer : List ℕ) where
 
   -- An ordinary answer is one that is not told with the number.
   keeps : (a : LineAnswer) → a ≡ (outcome book line buffer).answer → ((a ≡ Refused no_reading 0) ↔ ((n : ℕ) × (Ordinary a ≡ NoReading n))) → told way a ≡ Ordinary a
-  keeps (Read n) e h = told_read way n
-  keeps (Refused number value) e h = ⊎_elim unread (λ d. told_other way number value d) (same_or_not number no_reading)
+  keeps (Ok n) e h = told_read way n
+  keeps (Err r) e h = ⊎_elim unread (λ d. told_other way r.number r.value d) (same_or_not r.number no_reading)
     where
-      unread : number ≡ no_reading → told way (Refused number value) ≡ Ordinary (Refused number value)
+      unread : r.number ≡ no_reading → told way (Err r) ≡ Ordinary (Err r)
       unread s =
-          let fifteen = ap (λ (n : ℕ). Refused n value) s in
-          let nothing = (unread_line book line buffer value (sym e ∙ fifteen)).no_value in
+          let fifteen : Err r ≡ Refused no_reading r.value = ap (λ (n : ℕ). Refused n r.value) s in
+          let nothing = (unread_line book line buffer r.value (sym e ∙ fifteen)).no_value in
           other_way way (h.0 (fifteen ∙ ap (Refused no_reading) nothing)).1
 
   told_as : (answer : WayAnswer) {after : List ℕ} → WayPromised book line buffer answer after → answer ≡ told way (outcome book line buffer).answer

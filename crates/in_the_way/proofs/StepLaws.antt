@@ -14,8 +14,9 @@ use Rattle.linking.specs.Reading.{Words}
 use Rattle.line.specs.LineFaults.{passed, stopped, line_check}
 use Rattle.answer.specs.Answers.{Gives}
 use Rattle.reader.specs.Outcome.{outcome}
-use Rattle.answer.specs.declared.LineAnswer.{LineAnswer}
-use Rattle.answer.specs.declared.LineAnswer.TheVariants.{Read, Refused}
+use Rattle.answer.specs.Answers.{LineAnswer}
+use Rattle.std.specs.Prelude.{Ok}
+use Rattle.figures.specs.Refusals.{Refused}
 use Rattle.reader.proofs.Given.{gives_book_refused, gives_line_refused}
 use Rattle.reader.proofs.Refusals.{NamedParse, parse_named, NamedLine, line_named}
 use Rattle.in_the_way.specs.declared.WayAnswer.{WayAnswer}
@@ -33,7 +34,7 @@ module _ (book line : Bytes) (before : List ℕ) where
   gives_told g e = record { returned = sym e ∙ ap (told way) g.returned; left = g.left }
 
   -- An answer.
-  pub gives_read : {answer : LineAnswer} {n : ℕ} {after : List ℕ} → Gives (outcome book line before) answer after → answer ≡ Read n
+  pub gives_read : {answer : LineAnswer} {n : ℕ} {after : List ℕ} → Gives (outcome book line before) answer after → answer ≡ Ok n
       → Gives (way_outcome book line before) (Ordinary answer) after
   gives_read {n = n} g e = gives_told g (ap (told way) e ∙ told_read way n ∙ ap Ordinary (sym e))
 

@@ -16,7 +16,7 @@ use Rattle.line.proofs.Remaining.{without_passes}
 use Rattle.answer.specs.Answers.{Gives}
 use Rattle.reader.specs.Outcome.{outcome}
 use Rattle.reader.specs.Demands.{Readable}
-use Rattle.answer.specs.declared.LineAnswer.TheVariants.{Refused}
+use Rattle.figures.specs.Refusals.{Refused}
 use Rattle.in_the_way.specs.declared.WayAnswer.{WayAnswer}
 use Rattle.left_out.specs.LeftOut.{way_of}
 use Rattle.in_the_way.specs.Way.{way_outcome}

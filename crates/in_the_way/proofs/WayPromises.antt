@@ -30,8 +30,9 @@ use Rattle.line.proofs.Remaining.{without_ascending, without_passes}
 use Rattle.answer.specs.Answers.{Gives}
 use Rattle.reader.specs.Outcome.{outcome}
 use Rattle.reader.specs.Demands.{OrderOf, Readable}
-use Rattle.answer.specs.declared.LineAnswer.{LineAnswer}
-use Rattle.answer.specs.declared.LineAnswer.TheVariants.{Read, Refused}
+use Rattle.answer.specs.Answers.{LineAnswer}
+use Rattle.std.specs.Prelude.{Ok, Err}
+use Rattle.figures.specs.Refusals.{Refused}
 use Rattle.reader.proofs.Given.{gives_promised}
 use Rattle.reader.proofs.Unread.{first_of_book, unread_exactly, unread_line}
 use Rattle.in_the_way.specs.declared.WayAnswer.{WayAnswer}
@@ -115,8 +116,8 @@ module _ (w : ℕ) where
 
   pub told_ordinary : (a : LineAnswer) → ((value : ℕ) → a ≡ Refused no_reading value → value ≡ 0) → ordinary (told w a) ≡ a
   unfolding told
-  told_ordinary (Read n) h = refl
-  told_ordinary (Refused number value) h = by_number number value (eqb number no_reading) refl (λ e. h value (ap (λ (n : ℕ). Refused n value) e))
+  told_ordinary (Ok n) h = refl
+  told_ordinary (Err r) h = by_number r.number r.value (eqb r.number no_reading) refl (λ e. h r.value (ap (λ (n : ℕ). Refused n r.value) e))
 
   pub told_fifteen : (value : ℕ) → told w (Refused no_reading value) ≡ NoReading w
   unfolding told
@@ -126,7 +127,7 @@ module _ (w : ℕ) where
   unfolding told
   told_other number value d = rw (ne_eqb number no_reading d)
 
-  pub told_read : (n : ℕ) → told w (Read n) ≡ Ordinary (Read n)
+  pub told_read : (n : ℕ) → told w (Ok n) ≡ Ordinary (Ok n)
   unfolding told
   told_read n = refl
 
@@ -138,22 +139,22 @@ module _ (w : ℕ) where
 
   told_number : (a : LineAnswer) (n : ℕ) → told w a ≡ NoReading n → n ≡ w
   unfolding told
-  told_number (Read m) n e = other_way e
-  told_number (Refused number value) n e = go (eqb number no_reading) e
+  told_number (Ok m) n e = other_way e
+  told_number (Err r) n e = go (eqb r.number no_reading) e
     where
-      go : (b : Bool) → cond b (NoReading w) (Ordinary (Refused number value)) ≡ NoReading n → n ≡ w
+      go : (b : Bool) → cond b (NoReading w) (Ordinary (Err r)) ≡ NoReading n → n ≡ w
       go true k = sym (same_way k)
       go false k = other_way k
 
   -- An ordinary refusal has another number than 15.
   pub ordinary_apart : (a : LineAnswer) (number value : ℕ) → told w a ≡ Ordinary (Refused number value) → number ≡ no_reading → ⊥
   unfolding told
-  ordinary_apart (Read m) number value e same = let z : ◌≡◌ {A = ℕ} 0 1 = cc in omega arith
-  ordinary_apart (Refused n v) number value e same = go (eqb n no_reading) refl e
+  ordinary_apart (Ok m) number value e same = let z : ◌≡◌ {A = ℕ} 0 1 = cc in omega arith
+  ordinary_apart (Err r) number value e same = go (eqb r.number no_reading) refl e
     where
-      go : (b : Bool) → eqb n no_reading ≡ b → cond b (NoReading w) (Ordinary (Refused n v)) ≡ Ordinary (Refused number value) → ⊥
+      go : (b : Bool) → eqb r.number no_reading ≡ b → cond b (NoReading w) (Ordinary (Err r)) ≡ Ordinary (Refused number value) → ⊥
       go true q k = other_way (sym k)
-      go false q k = let one : n ≡ number = cc in eqb-false n no_reading q (one ∙ same)
+      go false q k = let one : r.number ≡ number = cc in eqb-false r.number no_reading q (one ∙ same)
 
 module _ (book line : Bytes) (buffer : List ℕ) where
   abbrev read : LineAnswer

@@ -1,6 +1,6 @@
 -- Document 02, 2.6, in one definition: what is returned for any bytes as book, any bytes as line and any lent buffer. It is what reading the line comes
 -- to, and 15 comes with a number that tells for each word whether the line without it has a reading.
-use Rattle.std.specs.Prelude.{ℕ, cond, List, eqb, length}
+use Rattle.std.specs.Prelude.{Ok, Err, ℕ, cond, List, eqb, length}
 use Rattle.figures.specs.Refusals.{no_reading}
 use Rattle.order.specs.Closed.{below}
 use Rattle.format.specs.Records.{Bytes}
@@ -9,8 +9,7 @@ use Rattle.line.specs.LineFaults.{LineCheck, passed, stopped, line_check}
 use Rattle.left_out.specs.LeftOut.{way_of}
 use Rattle.answer.specs.Answers.{Outcome}
 use Rattle.reader.specs.Outcome.{outcome}
-use Rattle.answer.specs.declared.LineAnswer.{LineAnswer}
-use Rattle.answer.specs.declared.LineAnswer.TheVariants.{Read, Refused}
+use Rattle.answer.specs.Answers.{LineAnswer}
 use Rattle.in_the_way.specs.declared.WayAnswer.{WayAnswer}
 use Rattle.in_the_way.specs.declared.WayAnswer.TheVariants.{Ordinary, NoReading}
 
@@ -25,8 +24,8 @@ way_parsed (accepted B) line = way_against B (line_check B line)
 
 -- The number comes with 15, and any other answer is the ordinary one.
 unfoldable pub told : ℕ → LineAnswer → WayAnswer
-told words (Read n) = Ordinary (Read n)
-told words (Refused number value) = cond (eqb number no_reading) (NoReading words) (Ordinary (Refused number value))
+told words (Ok n) = Ordinary (Ok n)
+told words (Err r) = cond (eqb r.number no_reading) (NoReading words) (Ordinary (Err r))
 
 abbrev pub way_outcome : Bytes → Bytes → List ℕ → Outcome WayAnswer
 way_outcome book line buffer =

@@ -10,8 +10,8 @@ use Rattle.line.specs.Remaining.{without, IsWithout}
 use Rattle.answer.specs.Answers.{Gives}
 use Rattle.reader.specs.Outcome.{outcome}
 use Rattle.reader.specs.Demands.{OrderOf, Readable, Promised}
-use Rattle.answer.specs.declared.LineAnswer.{LineAnswer}
-use Rattle.answer.specs.declared.LineAnswer.TheVariants.{Refused}
+use Rattle.answer.specs.Answers.{LineAnswer}
+use Rattle.figures.specs.Refusals.{Refused}
 use Rattle.in_the_way.specs.declared.WayAnswer.{WayAnswer}
 use Rattle.in_the_way.specs.declared.WayAnswer.TheVariants.{Ordinary, NoReading}
 

@@ -250,8 +250,8 @@ module _ {targets : List Basic} {p : Place} {g₀ : Graph} (s : Standing p g₀)
         }
 
   pub goals_laid :
-      {g : Graph} {t : ℕ} → Ending targets p.node p.slot g₀ g t → length targets ≤ t → (new : ℕ) → next_in new ≡ 0 → from_in new ≡ p.slot → to_in new ≡ p.slot + t
+      {g : Graph} {t : ℕ} → Ending targets p.node p.slot g₀ g t → length targets ≤ t → (new : ℕ) → next_in new ≡ 0 → from_in new ≡ p.slot → to_in new ≡ p.slot + length targets
       → Ended targets p g₀ (graph (set g.nodes p.node new) g.slots)
   goals_laid {g} {t} a h new no-next first behind =
       let e : t ≡ length targets = omega (arith, a.passed) in
-      goals_ended (rw e at a) new no-next first (rw e at behind)
+      goals_ended (rw e at a) new no-next first behind

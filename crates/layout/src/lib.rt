@@ -49,22 +49,19 @@ fn lay_word(
     ensures { (es : List NumberedEntry) → Thread book.now (bodies_at book.now names.now types) entries.now same.now first es
         → (rest : Words) → Lined p (graph nodes.old slots.old) result (graph nodes.new slots.new) (es ∷ rest) rest }
 {
-    let node = p.node;
-    let slot = p.slot;
-    let boundary = node + 1 + tally(book, entries, same, first);
+    let boundary = p.node + 1 + tally(book, entries, same, first);
     let inside = Place {
-        node: node + 1,
-        slot,
+        node: p.node + 1,
+        slot: p.slot,
         seen: false,
     };
     let last = lay_entries(
         book, names, types, entries, same, first, boundary, inside, nodes, slots,
     );
-    let to = last.slot;
-    nodes[node] = boundary_node(slot, to);
+    nodes[p.node] = boundary_node(p.slot, last.slot);
     Place {
         node: boundary,
-        slot: to,
+        slot: last.slot,
         seen: false,
     }
 }
@@ -89,20 +86,18 @@ fn lay_words(
         slot: 0,
         seen: false,
     };
-    let mut k = 0;
-    while k < firsts.len() {
+    for first in firsts {
         place = lay_word(
             book,
             names,
             types,
             entries,
             same,
-            wide_number(firsts[k]),
+            wide_number(*first),
             place,
             nodes,
             slots,
         );
-        k += 1;
     }
     place
 }
@@ -123,14 +118,10 @@ fn lay_goals(targets: &[u8], p: Place, nodes: &mut [u64], slots: &mut [u64])
     requires { Standing p (graph nodes.old slots.old) × (nodes_with p.node (length targets.now) ≤ max_nodes) }
     ensures { Ended targets.now p (graph nodes.old slots.old) (graph nodes.new slots.new) }
 {
-    let node = p.node;
-    let slot = p.slot;
-    let mut t = 0;
-    while t < targets.len() {
-        lay_goal(targets[t], node + 1 + 2 * t, slot + t, nodes, slots);
-        t += 1;
+    for (t, target) in targets.iter().enumerate() {
+        lay_goal(*target, p.node + 1 + 2 * t, p.slot + t, nodes, slots);
     }
-    nodes[node] = boundary_node(slot, slot + t);
+    nodes[p.node] = boundary_node(p.slot, p.slot + targets.len());
 }
 
 // Lays a line out and returns its last boundary: a graph that goes up, from node 0 that of the line's words and the targets. The words are

@@ -9,6 +9,7 @@ use mathlib.Core.List.{List}
 use lib.ListN.{length, get_or, take, set, length-set}
 use lib.Seq.{get_or-set_same, get_or-set_other, get_or-take, length-take-le}
 use lib.Pow.{pow_mono}
+use Rattle.std.specs.Int.{from_bool}
 use Rattle.pregroup.specs.Tests.{Test}
 use Rattle.format.specs.Records.{Bytes}
 use Rattle.linking.specs.Reading.{Words, reads}
@@ -48,6 +49,11 @@ leaving_next {all} {firsts} {held} {k} l some = record {
         ap (λ (i : ℕ). get_or {A = ℕ} (set firsts (k - 1) held) i 0) e ∙ get_or-set_same firsts (k - 1) held 0 there ∙ l.in_hand (omega arith)
         ∙ ap (λ (i : ℕ). get_or {A = ℕ} all i 0) next
     go j h m (no d) = get_or-set_other firsts (k - 1) j held 0 d ∙ l.behind j (omega (arith, d)) m
+
+-- A flag as a number is its bit.
+pub flag_bit : (flag : Bool) → from_bool flag ≡ bit_of flag
+flag_bit true = refl
+flag_bit false = refl
 
 -- The number for the words from word k + 1 on.
 abbrev pub IsWayFrom : Bytes → List ℕ → List ℕ → List ℕ → List ℕ → List ℕ → List ℕ → ℕ → ℕ → Type 0
@@ -89,31 +95,17 @@ module _ {bytes : Bytes} {names entries same all order targets : List ℕ} where
       subst (λ (m : ℕ). m < 2 ^ 23) (sym (w le words f)) (lt_of_lt_of_le (way_small le targets words (length all - k) k) (pow_mono few))
 
   -- One word more is told of.
-  way_next : {firsts : List ℕ} {held k number : ℕ} {b : Bool} → LeftOut all firsts held (k - 1) → 0 < k → k ≤ length all
+  pub way_next : {firsts : List ℕ} {held k number told : ℕ} {b : Bool} → LeftOut all firsts held (k - 1) → 0 < k → k ≤ length all
       → IsWayFrom bytes names entries same all order targets k number → SaysWhether bytes names entries same (take (length all - 1) firsts) order targets b
-      → IsWayFrom bytes names entries same all order targets (k - 1) (bit_of b + 2 * number)
-  way_next {k = k} {number} {b} l some inside w says le words f =
+      → told ≡ bit_of b → IsWayFrom bytes names entries same all order targets (k - 1) (2 * number + told)
+  way_next {k = k} {number} {told} {b} l some inside w says e le words f =
       let one_more : length all - (k - 1) ≡ suc (length all - k) = omega arith in
       let back : k - 1 + 1 ≡ k = omega arith in
-      let said = says le (without (k - 1) words) (found_without f l (omega arith)) in
-      rw one_more
-      (ap (λ (x : Bool). bit_of x + 2 * number) said ∙ ap (λ (m : ℕ). bit_of (reads le targets (without (k - 1) words)) + 2 * m) (w le words f)
-      ∙ ap (λ (i : ℕ). bit_of (reads le targets (without (k - 1) words)) + 2 * way_from le targets words i (length all - k)) (sym back)
-      ∙ sym (way_step le targets words (length all - k) (k - 1)))
-
-  pub way_yes : {firsts : List ℕ} {held k number : ℕ} {b : Bool} → LeftOut all firsts held (k - 1) → 0 < k → k ≤ length all
-      → IsWayFrom bytes names entries same all order targets k number → SaysWhether bytes names entries same (take (length all - 1) firsts) order targets b
-      → b ≡ true → IsWayFrom bytes names entries same all order targets (k - 1) (2 * number + 1)
-  way_yes {number = number} {b} l some inside w says e le words f =
-      let sum : 2 * number + 1 ≡ bit_of true + 2 * number = omega arith in
-      sum ∙ ap (λ (x : Bool). bit_of x + 2 * number) (sym e) ∙ way_next l some inside w says le words f
-
-  pub way_no : {firsts : List ℕ} {held k number : ℕ} {b : Bool} → LeftOut all firsts held (k - 1) → 0 < k → k ≤ length all
-      → IsWayFrom bytes names entries same all order targets k number → SaysWhether bytes names entries same (take (length all - 1) firsts) order targets b
-      → b ≡ false → IsWayFrom bytes names entries same all order targets (k - 1) (2 * number)
-  way_no {number = number} {b} l some inside w says e le words f =
-      let sum : 2 * number ≡ bit_of false + 2 * number = omega arith in
-      sum ∙ ap (λ (x : Bool). bit_of x + 2 * number) (sym e) ∙ way_next l some inside w says le words f
+      let others = without (k - 1) words in
+      let said = says le others (found_without f l (omega arith)) in
+      let sum : 2 * number + told ≡ bit_of (reads le targets others) + 2 * way_from le targets words k (length all - k) =
+      omega (arith, w le words f, e, ap bit_of said) in
+      rw one_more (sum ∙ ap (λ (i : ℕ). bit_of (reads le targets others) + 2 * way_from le targets words i (length all - k)) (sym back) ∙ sym (way_step le targets words (length all - k) (k - 1)))
 
   -- All have been left out.
   pub way_whole : {k number : ℕ} → IsWayFrom bytes names entries same all order targets k number → k ≤ 0 → IsWay bytes names entries same all order targets number

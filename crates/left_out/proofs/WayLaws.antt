@@ -15,7 +15,7 @@ use Rattle.linking.specs.Reading.{Words, reads}
 use Rattle.line.specs.Remaining.{without}
 use Rattle.left_out.specs.LeftOut.{bit_of, way_from, way_of}
 
-bit_of_small : (b : Bool) → bit_of b < 2
+pub bit_of_small : (b : Bool) → bit_of b < 2
 bit_of_small true = omega arith
 bit_of_small false = omega arith
 

@@ -6,6 +6,7 @@ ghost use Rattle.figures.specs.Limits.{chart_words};
 ghost use Rattle.line.specs.FoundWords.{AreFound};
 ghost use Rattle.left_out.specs.LeftOut.{IsWay};
 
+use std::mem;
 use words::has_reading;
 
 // Leaves out each word in turn, from the last to the first, and tells by bit k whether the words without word k + 1 have a reading. The word left out before
@@ -28,14 +29,9 @@ pub fn try_each(
     let mut number: u32 = 0;
     let mut left_out: u16 = 0;
     let words = firsts.len();
-    let mut k = words;
-    while 0 < k {
-        k -= 1;
-        let next = firsts[k];
-        firsts[k] = left_out;
-        left_out = next;
-        number = 2 * number;
-        if has_reading(
+    for k in (0..words).rev() {
+        mem::swap(&mut firsts[k], &mut left_out);
+        let reads = has_reading(
             book,
             names,
             entries,
@@ -44,9 +40,8 @@ pub fn try_each(
             order,
             targets,
             chart,
-        ) {
-            number += 1;
-        }
+        );
+        number = 2 * number + u32::from(reads);
     }
     number
 }

@@ -17,9 +17,8 @@ fn letter_of(kind: LinkKind) -> u8
     ensures { result ≡ letter_of kind }
 {
     match kind {
-        LinkKind::Not => DIFFERENT,
         LinkKind::Same => SAME,
-        LinkKind::Different => DIFFERENT,
+        LinkKind::Not | LinkKind::Different => DIFFERENT,
     }
 }
 
@@ -31,10 +30,10 @@ fn link_at(order: &[u64], string: &[u16], target: u8, i: usize, k: usize) -> Lin
     if k == i {
         return may_contract(order, string[i - 1], hold(target, EXPONENT_BIAS + 1));
     }
-    if string.len() < k {
-        return LinkKind::Not;
+    match string.get(k - 1) {
+        Some(partner) => may_contract(order, string[i - 1], *partner),
+        None => LinkKind::Not,
     }
-    may_contract(order, string[i - 1], string[k - 1])
 }
 
 // The letter of position i, with those of the positions before it: its partner's, where that stands before it, and else that of its link.
@@ -51,9 +50,10 @@ fn next_letter(
 {
     let partner = value_at(partners, i - 1);
     if partner < i {
-        return letters[partner];
+        letters[partner]
+    } else {
+        letter_of(link_at(order, string, target, i, partner))
     }
-    letter_of(link_at(order, string, target, i, partner))
 }
 
 // Writes the letters of all positions of a string, which count from 1. Each link is asked for once.
@@ -63,9 +63,7 @@ pub fn link_letters(order: &[u64], string: &[u16], target: u8, partners: &[u16],
         ≡ Letters·letters (in_rows order.now) target (map held string.now) partners.now (length string.now) }
 {
     letters[0] = DIFFERENT;
-    let mut n = 0;
-    while n < string.len() {
-        n += 1;
-        letters[n] = next_letter(order, string, target, partners, letters, n);
+    for i in 1..=string.len() {
+        letters[i] = next_letter(order, string, target, partners, letters, i);
     }
 }

@@ -25,8 +25,8 @@ use Rattle.line.specs.LineWords.{Word, words_of}
 use Rattle.line.specs.LineFaults.{entries_of, entries_of_line, byte_fault, word_fault, entry_fault, passed, stopped, line_check}
 use Rattle.line.specs.Split.{word_at, words_kept, SplitInto, Stopped, at_byte, at_word}
 use Rattle.line.specs.LookUp.{Missing, no_entry, too_many, Known, LookedUp, LineSays}
-use Rattle.line.specs.declared.CheckedLine.{CheckedLine as Split}
-use Rattle.line.specs.declared.CheckedLine.TheVariants.{Found, Refused}
+use Rattle.figures.specs.declared.refusals.Refusal.{Refusal}
+use Rattle.std.specs.Prelude.{Result, Ok, Err}
 
 kept_length : (line : Bytes) (starts ends : List ℕ) → length ends ≡ length starts → length (words_kept line starts ends) ≡ length starts
 unfolding words_kept
@@ -189,6 +189,6 @@ module _ (B : Book) (line : Bytes) where
 
   -- What the look-up found says what the line is.
   pub looked_up : (bytes : Bytes) (entries starts ends firsts same : List ℕ) → SplitInto line starts ends
-      → (r : Split) → LookedUp bytes entries B line firsts same r → LineSays bytes entries B line firsts same r
-  looked_up bytes entries starts ends firsts same s (Found words) t = (check_passed s.bytes_fine s.words_fine t.1.found t.1.small, t.0, t.1)
-  looked_up bytes entries starts ends firsts same s (Refused number value) m = check_missing s.bytes_fine s.words_fine m
+      → (r : Result ℕ Refusal) → LookedUp bytes entries B line firsts same r → LineSays bytes entries B line firsts same r
+  looked_up bytes entries starts ends firsts same s (Ok words) t = (check_passed s.bytes_fine s.words_fine t.1.found t.1.small, t.0, t.1)
+  looked_up bytes entries starts ends firsts same s (Err r) m = check_missing s.bytes_fine s.words_fine m

@@ -10,7 +10,9 @@ use mathlib.Core.Option.{none, some}
 use lib.Dec.{eqb}
 use lib.ListN.{length, get_or, take, drop, drop_of_length-le}
 use lib.Seq.{drop-cons}
-use borrow.Author.Tests.{eq-eqb, ne_eqb}
+use borrow.Author.Tests.{eq-eqb, ne_eqb, ltb-true, ltb-false}
+use Rattle.std.specs.Prelude.{Option, Some, None, not, nat_lt, position}
+use Rattle.std.specs.List.{prefix_len}
 use Rattle.bytewise.specs.First.{First}
 use Rattle.bytewise.proofs.Searching.{Passed}
 use Rattle.format.specs.Records.{Bytes, between}
@@ -116,15 +118,59 @@ module _ (line : Bytes) where
       behind (yes l) = subst (StartFrom (end + 1)) (sym (words_space end l (found.1.stops l))) (start_from (end + 1) (drop (end + 1) line))
       behind (no l) = subst (StartFrom (end + 1)) (sym (words_end end (omega (arith, l)))) no_word
 
-  -- 11: bytes that a line may have are passed, and the first other one is found.
-  pub byte_fine : (i : ℕ) → i < length line → between 32 126 (get_or {A = ℕ} line i 0) ≡ true → byte_fault i (drop i line) ≡ byte_fault (i + 1) (drop (i + 1) line)
-  unfolding byte_fault
-  byte_fine i h e = rw (drop-cons line i 0 h, e, add-one i)
+-- 11: bytes that a line may have are passed, and the first other one is found.
 
-  pub byte_bad : (i : ℕ) → i < length line → between 32 126 (get_or {A = ℕ} line i 0) ≡ false → byte_fault i (drop i line) ≡ some i
-  unfolding byte_fault
-  byte_bad i h e = rw (drop-cons line i 0 h, e)
+abbrev fine : ℕ → Bool
+fine b = not (not (between 32 126 b))
 
-  pub bytes_end : (i : ℕ) → length line ≤ i → byte_fault i (drop i line) ≡ none
-  unfolding byte_fault
-  bytes_end i h = rw (drop_of_length-le line h)
+abbrev Placed : ℕ → Bytes → Type 0
+Placed at line = (prefix_len fine line < length line → byte_fault at line ≡ some (at + prefix_len fine line)) × (length line ≤ prefix_len fine line → byte_fault at line ≡ none)
+
+placed : (at : ℕ) (line : Bytes) → Placed at line
+unfolding byte_fault
+placed at [] = (λ h. absurd (omega arith), λ h. refl)
+placed at (b ∷ line) = go (between 32 126 b) (placed (at + 1) line)
+  where
+    n : ℕ
+    n = prefix_len fine line
+
+    go : (t : Bool) → Placed (at + 1) line
+        → (cond (not (not t)) (1 + n) 0 < suc (length line) → cond t (byte_fault (at + 1) line) (some at) ≡ some (at + cond (not (not t)) (1 + n) 0))
+        × (suc (length line) ≤ cond (not (not t)) (1 + n) 0 → cond t (byte_fault (at + 1) line) (some at) ≡ none)
+    go true rest =
+        let next : at + 1 + n ≡ at + (1 + n) = omega arith in
+        (λ h. rest.0 (omega arith) ∙ ap (λ (k : ℕ). some k) next, λ h. rest.1 (omega arith))
+    go false rest =
+        let here : at ≡ at + 0 = omega arith in
+        (λ h. ap (λ (k : ℕ). some k) here, λ h. absurd (omega arith))
+
+pub bad_found : (line : Bytes) (at : ℕ) → Some at ≡ position (λ (b : ℕ). not (between 32 126 b)) line → byte_fault 0 line ≡ some at
+bad_found line at h = go (nat_lt (prefix_len fine line) (length line)) refl h
+  where
+    n : ℕ
+    n = prefix_len fine line
+
+    value : Option ℕ → ℕ
+    value (Some k) = k
+    value None = suc at
+
+    go : (t : Bool) → nat_lt n (length line) ≡ t → Some at ≡ cond t (Some n) None → byte_fault 0 line ≡ some at
+    go true e k =
+        let same : at ≡ n = ap value k in
+        let from : 0 + n ≡ at = omega arith in
+        (placed 0 line).0 (ltb-true _ _ e) ∙ ap (λ (m : ℕ). some m) from
+    go false e k = let never : at ≡ suc at = ap value k in absurd (omega arith)
+
+pub none_bad : (line : Bytes) → None ≡ position (λ (b : ℕ). not (between 32 126 b)) line → byte_fault 0 line ≡ none
+none_bad line h = go (nat_lt (prefix_len fine line) (length line)) refl h
+  where
+    n : ℕ
+    n = prefix_len fine line
+
+    value : Option ℕ → ℕ
+    value (Some k) = suc k
+    value None = 0
+
+    go : (t : Bool) → nat_lt n (length line) ≡ t → None ≡ cond t (Some n) None → byte_fault 0 line ≡ none
+    go true e k = let never : 0 ≡ suc n = ap value k in absurd (omega arith)
+    go false e k = (placed 0 line).1 (ltb-false _ _ e)

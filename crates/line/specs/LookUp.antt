@@ -1,7 +1,8 @@
 -- What the look-up of a line's words finds: a thread of entries for each of them, or 13 or 14.
-use Rattle.std.specs.Prelude.{ℕ, ◌<◌, ◌≤◌, ◌≡◌, List, length, take}
+use Rattle.std.specs.Prelude.{Result, Ok, Err, ℕ, ◌<◌, ◌≤◌, ◌≡◌, List, length, take}
 use Rattle.std.proofs.Math.Option.{none, some}
 use Rattle.figures.specs.Limits.{max_words, max_line_simples}
+use Rattle.figures.specs.declared.refusals.Refusal.{Refusal}
 use Rattle.figures.specs.Refusals.{unknown_word, too_many_simples}
 use Rattle.format.specs.Records.{Bytes}
 use Rattle.book.specs.Format.{Book}
@@ -9,8 +10,6 @@ use Rattle.lookup.specs.Entries.{simples_of_words}
 use Rattle.lookup.specs.Threads.{Threads}
 use Rattle.line.specs.LineFaults.{entries_of_line, entry_fault, passed, stopped, line_check}
 use Rattle.line.specs.LineWords.{words_of}
-use Rattle.line.specs.declared.CheckedLine.{CheckedLine}
-use Rattle.line.specs.declared.CheckedLine.TheVariants.{Found, Refused}
 
 -- A line that breaks 13, or 14 and not 13.
 pub data Missing (B : Book) (line : Bytes) : ℕ → ℕ → Type 0 where
@@ -26,12 +25,12 @@ pub record Known (bytes : Bytes) (entries : List ℕ) (B : Book) (line : Bytes) 
   pub threads : Threads bytes B.names entries same firsts 0 (entries_of_line B line)
 
 -- The look-up of words that are split off: the first entries of so many words stand in front.
-abbrev pub LookedUp : Bytes → List ℕ → Book → Bytes → List ℕ → List ℕ → CheckedLine → Type 0
-LookedUp bytes entries B line firsts same (Found words) = (words ≤ length firsts) × Known bytes entries B line (take words firsts) same
-LookedUp bytes entries B line firsts same (Refused number value) = Missing B line number value
+abbrev pub LookedUp : Bytes → List ℕ → Book → Bytes → List ℕ → List ℕ → Result ℕ Refusal → Type 0
+LookedUp bytes entries B line firsts same (Ok words) = (words ≤ length firsts) × Known bytes entries B line (take words firsts) same
+LookedUp bytes entries B line firsts same (Err r) = Missing B line r.number r.value
 
 -- What the check of a line says, against a book whose entries are kept: the line passes with the entries that are threaded, or is stopped.
-abbrev pub LineSays : Bytes → List ℕ → Book → Bytes → List ℕ → List ℕ → CheckedLine → Type 0
-LineSays bytes entries B line firsts same (Found words) =
+abbrev pub LineSays : Bytes → List ℕ → Book → Bytes → List ℕ → List ℕ → Result ℕ Refusal → Type 0
+LineSays bytes entries B line firsts same (Ok words) =
     (line_check B line ≡ passed (entries_of_line B line)) × (words ≤ length firsts) × Known bytes entries B line (take words firsts) same
-LineSays bytes entries B line firsts same (Refused number value) = line_check B line ≡ stopped number value
+LineSays bytes entries B line firsts same (Err r) = line_check B line ≡ stopped r.number r.value

@@ -1,13 +1,12 @@
 -- What the code keeps of a line's words: where each starts and ends.
-use Rattle.std.specs.Prelude.{ℕ, ◌-◌, ◌≤◌, ◌<◌, ◌≡◌, List, [], ◌∷◌, length, get_or, take, drop}
+use Rattle.std.specs.Prelude.{Result, Ok, Err, ℕ, ◌-◌, ◌≤◌, ◌<◌, ◌≡◌, List, [], ◌∷◌, length, get_or, take, drop}
 use Rattle.std.proofs.Math.Option.{none, some}
 use Rattle.figures.specs.Limits.{max_word, max_words}
+use Rattle.figures.specs.declared.refusals.Refusal.{Refusal}
 use Rattle.figures.specs.Refusals.{bad_line_byte, bad_word}
 use Rattle.format.specs.Records.{Bytes}
 use Rattle.line.specs.LineWords.{Word, words_from, words_of}
 use Rattle.line.specs.LineFaults.{byte_fault, word_fault}
-use Rattle.line.specs.declared.CheckedLine.{CheckedLine}
-use Rattle.line.specs.declared.CheckedLine.TheVariants.{Found, Refused}
 
 -- The word that starts at `at` and ends before `end`.
 abbrev pub word_at : Bytes → ℕ → ℕ → Word
@@ -45,6 +44,6 @@ pub data Stopped (line : Bytes) : ℕ → ℕ → Type 0 where
   at_word : {value : ℕ} → byte_fault 0 line ≡ none → word_fault 0 (words_of line) ≡ some value → Stopped line bad_word value
 
 -- What splitting a line comes to: so many words, with their places in front, or a refusal.
-abbrev pub SplitSays : Bytes → List ℕ → List ℕ → CheckedLine → Type 0
-SplitSays line starts ends (Found words) = SplitInto line (take words starts) (take words ends) × (words ≤ length starts) × (words ≤ length ends)
-SplitSays line starts ends (Refused number value) = Stopped line number value
+abbrev pub SplitSays : Bytes → List ℕ → List ℕ → Result ℕ Refusal → Type 0
+SplitSays line starts ends (Ok words) = SplitInto line (take words starts) (take words ends) × (words ≤ length starts) × (words ≤ length ends)
+SplitSays line starts ends (Err r) = Stopped line r.number r.value

@@ -4,10 +4,3 @@
 
 pub mod split;
 pub mod words;
-
-// What splitting a line gives: how many words it has, or the number that it is refused with and the value returned with it.
-#[derive(Drop)]
-pub enum CheckedLine {
-    Found(usize),
-    Refused { number: u32, value: usize },
-}

@@ -7,14 +7,13 @@ ghost use Rattle.lookup.specs.Threads.{Alike, Threaded};
 ghost use Rattle.line.specs.Split.{SplitInto};
 ghost use Rattle.line.specs.LookUp.{LookedUp, LineSays};
 
-use crate::CheckedLine;
 use crate::split::split;
 use figures::limits::{MAX_LINE_SIMPLES, MAX_WORDS};
-use figures::refusals::{TOO_MANY_SIMPLES, UNKNOWN_WORD};
+use figures::refusals::{Cause, Refusal};
 use lookup::find::{find_word, tally};
 
 // Looks up all words of a line, each once: each must have an entry (13), and all entries together not too many simple types (14). The first entry of
-// each word goes into `firsts`, and `same` threads the others.
+// each word goes into `firsts`, and `same` threads the others. It gives how many words there are.
 fn look_up(
     book: &[u8],
     entries: &[u16],
@@ -24,7 +23,7 @@ fn look_up(
     ends: &[usize],
     firsts: &mut [u16],
     same: &mut [u16],
-) -> CheckedLine
+) -> Result<usize, Refusal>
     requires { ((B : Book) × KeptOf book.now entries.now B) × Alike book.now entries.now alike.now ×
         Threaded book.now entries.now same.old × SplitInto line.now starts.now ends.now ×
         (max_words ≤ length firsts.old) }
@@ -33,31 +32,25 @@ fn look_up(
         → LookedUp book.now entries.now B line.now firsts.new same.new result }
 {
     let mut sum = 0;
-    let mut k = 0;
-    while k < starts.len() {
+    // Three lists go by one number: an iterator over the three would be no plainer.
+    for k in 0..starts.len() {
         let start = starts[k];
         let end = ends[k];
         let first = find_word(book, entries, alike, &line[start..end], same);
         if entries.len() <= first {
-            return CheckedLine::Refused {
-                number: UNKNOWN_WORD,
-                value: start,
-            };
+            return Err(Cause::UnknownWord.with(start));
         }
         firsts[k] = first as u16;
         sum += tally(book, entries, same, first);
-        k += 1;
     }
     if MAX_LINE_SIMPLES < sum {
-        return CheckedLine::Refused {
-            number: TOO_MANY_SIMPLES,
-            value: 0,
-        };
+        return Err(Cause::TooManySimples.with(0));
     }
-    CheckedLine::Found(starts.len())
+    Ok(starts.len())
 }
 
-// Checks a line against a book whose entries are kept and threaded by their keys: its words by their threads, or the refusal 11 to 14 that it gets.
+// Checks a line against a book whose entries are kept and threaded by their keys: how many words it has, by their threads, or the refusal 11 to 14 that
+// it gets.
 // What `same` has is true of the book, so that the next line can go on with it.
 pub fn check_line(
     book: &[u8],
@@ -66,7 +59,7 @@ pub fn check_line(
     line: &[u8],
     firsts: &mut [u16],
     same: &mut [u16],
-) -> CheckedLine
+) -> Result<usize, Refusal>
     requires { ((B : Book) × KeptOf book.now entries.now B) × Alike book.now entries.now alike.now ×
         Threaded book.now entries.now same.old × (max_words ≤ length firsts.old) }
     ensures threaded { Threaded book.now entries.now same.new }
@@ -75,18 +68,15 @@ pub fn check_line(
 {
     let mut starts = [0usize; MAX_WORDS];
     let mut ends = [0usize; MAX_WORDS];
-    let found = split(line, &mut starts, &mut ends);
-    match found {
-        CheckedLine::Refused { number, value } => CheckedLine::Refused { number, value },
-        CheckedLine::Found(words) => look_up(
-            book,
-            entries,
-            alike,
-            line,
-            &starts[..words],
-            &ends[..words],
-            firsts,
-            same,
-        ),
-    }
+    let words = split(line, &mut starts, &mut ends)?;
+    look_up(
+        book,
+        entries,
+        alike,
+        line,
+        &starts[..words],
+        &ends[..words],
+        firsts,
+        same,
+    )
 }

@@ -21,7 +21,7 @@ use Rattle.line.specs.LineFaults.{entries_of}
 use Rattle.lookup.specs.Entries.{entries_from}
 use Rattle.capitals.specs.Capitals.{same_word}
 use Rattle.line.proofs.Passed.{line_passing}
-use Rattle.answer.specs.declared.LineAnswer.TheVariants.{Read}
+use Rattle.std.specs.Prelude.{Ok}
 use Rattle.answer.specs.Answers.{values_of}
 use Rattle.answer.specs.Parts.{partners_part}
 use Rattle.answer.proofs.PartLaws.{entries_of_answer, partners_of_answer}
@@ -83,7 +83,7 @@ answer_rows_lem a B words =
     ∙ ap (reading_rows B words a.target a.entries) (partners_of_answer a)
 
 -- What is promised of an answer makes its listing that of the first reading.
-pub answer_listed : (book line : Bytes) (buffer after : List ℕ) (n : ℕ) → Promised book line buffer (Read n) after → ListsReading book line (listing book line (Read n) after)
+pub answer_listed : (book line : Bytes) (buffer after : List ℕ) (n : ℕ) → Promised book line buffer (Ok n) after → ListsReading book line (listing book line (Ok n) after)
 answer_listed book line buffer after n p =
     let a = p.answered refl in
     let B = a.0 in

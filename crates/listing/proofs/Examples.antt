@@ -15,7 +15,8 @@ use Rattle.book.specs.Format.{add, ended, records_from, parse}
 use Rattle.book.proofs.PaperBooks.{first_book}
 use Rattle.line.specs.LineWords.{words_from}
 use Rattle.line.specs.LineFaults.{byte_fault, word_fault}
-use Rattle.answer.specs.declared.LineAnswer.TheVariants.{Read, Refused}
+use Rattle.std.specs.Prelude.{Ok}
+use Rattle.figures.specs.Refusals.{Refused}
 use Rattle.writing.specs.Decimal.{last_digits}
 use Rattle.printing.specs.Text.{signed, row}
 use Rattle.printing.specs.Rows.{word_rows, type_rows}
@@ -29,7 +30,7 @@ minus_8 = refl
 abbrev fetch_bed4_ward7 : List ℕ
 fetch_bed4_ward7 = 102 ∷ 101 ∷ 116 ∷ 99 ∷ 104 ∷ 32 ∷ 98 ∷ 101 ∷ 100 ∷ 52 ∷ 32 ∷ 119 ∷ 97 ∷ 114 ∷ 100 ∷ 55 ∷ []
 
-first_case : listing first_book fetch_bed4_ward7 (Read 11) (0 ∷ 3 ∷ 1 ∷ 2 ∷ 3 ∷ 5 ∷ 1 ∷ 5 ∷ 4 ∷ 3 ∷ 2 ∷ 7 ∷ []) ≡
+first_case : listing first_book fetch_bed4_ward7 (Ok 11) (0 ∷ 3 ∷ 1 ∷ 2 ∷ 3 ∷ 5 ∷ 1 ∷ 5 ∷ 4 ∷ 3 ∷ 2 ∷ 7 ∷ []) ≡
     (121 ∷ 101 ∷ 115 ∷ 32 ∷ 51 ∷ 32 ∷ 53 ∷ 32 ∷ 48 ∷ 10 ∷ [])
     ++ (49 ∷ 32 ∷ 102 ∷ 101 ∷ 116 ∷ 99 ∷ 104 ∷ 32 ∷ 49 ∷ 10 ∷ [])
     ++ (50 ∷ 32 ∷ 98 ∷ 101 ∷ 100 ∷ 52 ∷ 32 ∷ 50 ∷ 10 ∷ [])

@@ -5,18 +5,18 @@ use mathlib.Core.Path.{◌≡◌, refl}
 use mathlib.Core.List.{List}
 use lib.ListN.{length}
 use Rattle.format.specs.Records.{Bytes}
-use Rattle.answer.specs.declared.LineAnswer.{LineAnswer}
+use Rattle.answer.specs.Answers.{LineAnswer}
 use Rattle.listing.specs.Listing.{listing, Renders}
 use Rattle.listing.specs.ListingDemands.{ListingPromised}
-use Rattle.listing.specs.declared.Rendered.{Rendered}
-use Rattle.listing.specs.declared.Rendered.TheVariants.{Written, TooShort}
+use Rattle.listing.specs.Listing.{Rendered}
+use Rattle.std.specs.Prelude.{Ok, Err}
 use Rattle.listing.proofs.Answers.{answer_listed}
 use Rattle.listing.proofs.Longest.{answer_short}
 
 -- A text for which there is room is written.
-room_written : (text before after : Bytes) (rendered : Rendered) → Renders text before rendered after → length text ≤ length before → (bytes : ℕ) × (rendered ≡ Written bytes)
-room_written text before after (Written bytes) r room = (bytes, refl)
-room_written text before after (TooShort needed) r room = absurd (omega (arith, r.1))
+room_written : (text before after : Bytes) (rendered : Rendered) → Renders text before rendered after → length text ≤ length before → (bytes : ℕ) × (rendered ≡ Ok bytes)
+room_written text before after (Ok bytes) r room = (bytes, refl)
+room_written text before after (Err short) r room = absurd (omega (arith, r.1))
 
 pub listing_promised : (book line : Bytes) (answer : LineAnswer) (buffer : List ℕ) {before : Bytes} {rendered : Rendered} {after : Bytes}
     → Renders (listing book line answer buffer) before rendered after → ListingPromised book line answer buffer before rendered after

@@ -15,7 +15,7 @@ use Rattle.format.specs.Records.{Bytes}
 use Rattle.book.specs.Format.{Book, accepted, parse}
 use Rattle.line.specs.LineWords.{words_of}
 use Rattle.line.proofs.Passed.{Passing, line_passing}
-use Rattle.answer.specs.declared.LineAnswer.TheVariants.{Read}
+use Rattle.std.specs.Prelude.{Ok}
 use Rattle.reader.specs.Demands.{Promised}
 use Rattle.writing.specs.Decimal.{decimal}
 use Rattle.printing.specs.Rows.{yes, first_row, refusal_row}
@@ -81,9 +81,9 @@ module _ (book line text : Bytes) (r : ListsReading book line text) where
         first_row_short,
       )
 
-pub answer_short : (book line : Bytes) (buffer after : List ℕ) (n : ℕ) → Promised book line buffer (Read n) after
-    → length (listing book line (Read n) after) ≤ max_listing
-answer_short book line buffer after n p = reading_short book line (listing book line (Read n) after) (answer_listed book line buffer after n p)
+pub answer_short : (book line : Bytes) (buffer after : List ℕ) (n : ℕ) → Promised book line buffer (Ok n) after
+    → length (listing book line (Ok n) after) ≤ max_listing
+answer_short book line buffer after n p = reading_short book line (listing book line (Ok n) after) (answer_listed book line buffer after n p)
 
 pub refusal_short : (number value : ℕ) → number < place_bound → value < place_bound → length (refusal_row number value) ≤ max_listing
 refusal_short number value h i = omega (arith, refusal_row_short number value h i)

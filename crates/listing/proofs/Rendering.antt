@@ -25,19 +25,19 @@ use Rattle.answer.proofs.PartLaws.{Narrow, target_narrow, entries_narrow, partne
 use Rattle.opening.specs.Open.{Open}
 use Rattle.printing.specs.Rows.{refusal_row}
 use Rattle.listing.specs.Listing.{joined, listed_type, listed_letters, answer_rows, listed, Renders}
-use Rattle.listing.specs.declared.Rendered.TheVariants.{Written, TooShort}
+use Rattle.std.specs.Prelude.{Ok, Err}
 use Rattle.printing.specs.Kept.{kept_rows}
 use Rattle.writing.specs.Placed.{Countable, Placed}
 use Rattle.listing.proofs.Bounds.{shown_countable}
 
 -- The piece was counted, with no room at all, and is then put where there is room.
 pub renders_written : (piece text : Bytes) {after : Bytes} {needed behind : ℕ} → needed ≡ 0 + length piece → needed ≤ length text
-    → Placed text 0 piece after behind → Renders piece text (Written needed) after
+    → Placed text 0 piece after behind → Renders piece text (Ok needed) after
 renders_written piece text size room p =
     let start : 0 + length piece ≡ length piece = omega arith in
     (size ∙ start, omega arith, p.put ∙ sets-eq piece text 0 (omega arith) ∙ ap (λ (n : ℕ). piece ++ drop n text) start)
 
-pub renders_short : (piece text : Bytes) {needed : ℕ} → needed ≡ 0 + length piece → length text < needed → Renders piece text (TooShort needed) text
+pub renders_short : (piece text : Bytes) {needed : ℕ} → needed ≡ 0 + length piece → length text < needed → Renders piece text (Err (record { needed = needed })) text
 renders_short piece text size short = (omega arith, omega arith, refl)
 
 pub book_refused : (book line : Bytes) (values : List ℕ) (number value : ℕ) → parse book ≡ refused number value → refusal_row number value ≡ listed book line values

@@ -1,11 +1,11 @@
 -- How the string of a reading is written: the simple types of one entry, and those of the entries one behind another.
-use Prim.Native.Nat.{ℕ, suc, ◌+◌, ◌≤◌, ◌<◌}
+use Prim.Native.Nat.{ℕ, zero, suc, ◌+◌, ◌≤◌, ◌<◌}
 use native.Mathlib.Numerals.{add-one}
 use native.Mathlib.Omega.{arith}
-use mathlib.Core.Path.{◌≡◌, sym, ap, ◌∙◌}
+use mathlib.Core.Path.{◌≡◌, refl, sym, ap, ◌∙◌}
 use mathlib.Core.List.{List, [], ◌∷◌, ◌++◌, map, append-nil, append_assoc, map-append}
-use lib.ListN.{length, get_or, set, take, drop, drop_of_length-le}
-use lib.Seq.{take-suc, take-suc-set, take_all, drop-cons}
+use lib.ListN.{length, get_or, take, drop, drop_of_length-le}
+use lib.Seq.{drop-cons}
 use Rattle.pregroup.specs.Types.{PregroupType, plain}
 use Rattle.pregroup.specs.Held.{held}
 use Rattle.book.specs.Format.{Entry}
@@ -14,25 +14,23 @@ use Rattle.book.specs.Kept.{HeldType}
 use Rattle.rules.proofs.HeldDeclared.{holds_at}
 use Rattle.listing.specs.Listing.{type_of, joined}
 
--- The first j simple types of the type that is held stand behind the first places.
-module _ (t : EntryType) (X : PregroupType) (holds : HeldType t X) (before : List ℕ) (from : ℕ) where
-  abbrev pub Appended : List ℕ → ℕ → Type 0
-  Appended string j = map held (take (from + j) string) ≡ map held (take from before) ++ take j X
+-- The places that hold a type hold its simple types, one behind another.
+held_taken :
+    (places : List ℕ) (count : ℕ) (X : PregroupType) → count ≤ length places → count ≡ length X
+    → ((i : ℕ) → i < length X → held (get_or {A = ℕ} places i 0) ≡ get_or X i (plain 0)) → map held (take count places) ≡ X
+held_taken places zero [] room n h = refl
+held_taken places zero (x ∷ X) room n h = absurd (omega arith)
+held_taken places (suc count) [] room n h = absurd (omega arith)
+held_taken [] (suc count) (x ∷ X) room n h = absurd (omega arith)
+held_taken (p ∷ places) (suc count) (x ∷ X) room n h = rw (h 0 (omega arith), held_taken places count X (omega arith) (omega arith) (λ i l. h (suc i) (omega arith)))
 
-  pub appended_none : Appended before 0
-  appended_none = let place : from + 0 ≡ from = omega arith in rw (place, append-nil (map held (take from before)))
-
-  pub appended_next : (string : List ℕ) (j : ℕ) → j < t.count → from + j < length string → Appended string j
-      → Appended (set string (from + j) (get_or {A = ℕ} t.simples j 0)) (j + 1)
-  appended_next string j h room a =
-      let inside : j < length X = omega (arith, holds.count) in
-      let next : from + (j + 1) ≡ suc (from + j) = omega arith in
-      let x = get_or {A = ℕ} t.simples j 0 in
-      rw (next, take-suc-set string (from + j) x room, map-append held (take (from + j) string) (x ∷ []), a, holds_at holds.simples j inside, add-one j, take-suc X j (plain 0) inside)
-      (append_assoc (map held (take from before)) (take j X) (get_or X j (plain 0) ∷ []))
-
-  pub appended_all : (string : List ℕ) → Appended string t.count → map held (take (from + t.count) string) ≡ map held (take from before) ++ X
-  appended_all string a = a ∙ ap (λ (Y : PregroupType). map held (take from before) ++ Y) (take_all t.count X (omega (arith, holds.count)))
+-- So they stand behind the first places.
+pub appended :
+    (t : EntryType) (X : PregroupType) → HeldType t X → t.count ≤ length t.simples → (before after : List ℕ) (from : ℕ)
+    → take (from + t.count) after ≡ take from before ++ take t.count t.simples → map held (take (from + t.count) after) ≡ map held (take from before) ++ X
+appended t X holds room before after from e =
+    ap (λ (l : List ℕ). map held l) e ∙ map-append held (take from before) (take t.count t.simples)
+    ∙ ap (λ (Y : PregroupType). map held (take from before) ++ Y) (held_taken t.simples t.count X room holds.count (λ i l. holds_at holds.simples i l))
 
 -- The types of the entries before the i-th are written; those from it on are left.
 module _ (entries : List Entry) (chosen : List ℕ) where

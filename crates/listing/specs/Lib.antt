@@ -1,4 +1,3 @@
 -- The listing of an answer or a refusal.
 pub mod Listing
 pub mod ListingDemands
-pub mod Parts

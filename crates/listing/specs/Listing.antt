@@ -1,5 +1,5 @@
 -- Document 01, "A book to try": what `reading` prints of an answer or a refusal, in rows as `printing` defines them.
-use Rattle.std.specs.Prelude.{ℕ, ◌+◌, ◌*◌, ◌≤◌, ◌<◌, ◌≡◌, List, [], ◌∷◌, ◌++◌, length, get_or, take, drop}
+use Rattle.std.specs.Prelude.{Result, Ok, Err, ℕ, ◌+◌, ◌*◌, ◌≤◌, ◌<◌, ◌≡◌, List, [], ◌∷◌, ◌++◌, length, get_or, take, drop}
 use Rattle.std.proofs.Math.Option.{Option, none, some}
 use Rattle.figures.specs.Limits.{max_words, max_string}
 use Rattle.figures.specs.Refusals.{bad_line_byte, bad_word}
@@ -12,10 +12,8 @@ use Rattle.book.specs.Format.{Entry, Book, Parsed, accepted, refused, parse}
 use Rattle.line.specs.LineWords.{Word, words_of}
 use Rattle.line.specs.LineFaults.{byte_fault, word_fault}
 use Rattle.answer.specs.Parts.{target_part, entries_part, partners_part}
-use Rattle.answer.specs.declared.LineAnswer.{LineAnswer}
-use Rattle.answer.specs.declared.LineAnswer.TheVariants.{Read, Refused}
-use Rattle.listing.specs.declared.Rendered.{Rendered}
-use Rattle.listing.specs.declared.Rendered.TheVariants.{Written, TooShort}
+use Rattle.answer.specs.Answers.{LineAnswer}
+use Rattle.listing.specs.declared.TooShort.{TooShort}
 use Rattle.printing.specs.Rows.{refusal_row, shown_rows}
 
 -- The type of an entry. A number that the book does not have stands for the empty type.
@@ -65,16 +63,20 @@ listed book line values = parsed_rows (parse book) line values
 
 -- The listing of what reading a line against a book answers, with the buffer that it wrote to.
 abbrev pub listing : Bytes → Bytes → LineAnswer → List ℕ → Bytes
-listing book line (Read n) buffer = listed book line (take n buffer)
-listing book line (Refused number value) buffer = refusal_row number value
+listing book line (Ok n) buffer = listed book line (take n buffer)
+listing book line (Err r) buffer = refusal_row r.number r.value
 
 -- How many bytes the listing of what `read_line` answers has at most: 13 for its first row (`yes 24 288 7` and the byte that ends it),
 -- 40 for each word and 29 for each simple type. `src/lib.rt` has the same figure.
 abbrev pub max_listing : ℕ
 max_listing = 13 + 40 * max_words + 29 * max_string
 
+-- What rendering gives: how many bytes of the buffer are the listing, or that it is too short.
+abbrev pub Rendered : Type 0
+Rendered = Result ℕ TooShort
+
 -- A listing for which there is room is written whole, and the bytes behind it stay. For a longer one the bytes needed are returned, and
 -- nothing is written.
 abbrev pub Renders : Bytes → Bytes → Rendered → Bytes → Type 0
-Renders text before (Written bytes) after = (bytes ≡ length text) × (length text ≤ length before) × (after ≡ text ++ drop (length text) before)
-Renders text before (TooShort needed) after = (needed ≡ length text) × (length before < length text) × (after ≡ before)
+Renders text before (Ok bytes) after = (bytes ≡ length text) × (length text ≤ length before) × (after ≡ text ++ drop (length text) before)
+Renders text before (Err short) after = (short.needed ≡ length text) × (length before < length text) × (after ≡ before)

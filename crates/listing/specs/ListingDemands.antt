@@ -8,13 +8,12 @@ use Rattle.letters.specs.Lettered.{Lettered}
 use Rattle.format.specs.Records.{Bytes}
 use Rattle.book.specs.Format.{Book}
 use Rattle.line.specs.LineWords.{words_of}
-use Rattle.answer.specs.declared.LineAnswer.{LineAnswer}
-use Rattle.answer.specs.declared.LineAnswer.TheVariants.{Read, Refused}
+use Rattle.answer.specs.Answers.{LineAnswer}
+use Rattle.std.specs.Prelude.{Ok}
+use Rattle.figures.specs.Refusals.{Refused}
 use Rattle.reader.specs.Demands.{OrderOf, Readable, Promised}
 use Rattle.printing.specs.Rows.{refusal_row, shown_rows}
-use Rattle.listing.specs.Listing.{listed_type, max_listing, Renders}
-use Rattle.listing.specs.declared.Rendered.{Rendered}
-use Rattle.listing.specs.declared.Rendered.TheVariants.{Written}
+use Rattle.listing.specs.Listing.{listed_type, max_listing, Rendered, Renders}
 
 -- The listing of a reading.
 pub record ListsReading (book line text : Bytes) : Type 0 where
@@ -40,10 +39,10 @@ pub record ListsReading (book line text : Bytes) : Type 0 where
 -- The promises, for an answer and the buffer behind it, the bytes lent, what is returned and the bytes after it.
 pub record ListingPromised (book line : Bytes) (answer : LineAnswer) (buffer : List ℕ) (before : Bytes) (rendered : Rendered) (after : Bytes) : Type 0 where
   -- What `read_line` answered, whatever it was lent, is listed as the line's first reading.
-  pub reading : (lent : List ℕ) (n : ℕ) → answer ≡ Read n → Promised book line lent (Read n) buffer
+  pub reading : (lent : List ℕ) (n : ℕ) → answer ≡ Ok n → Promised book line lent (Ok n) buffer
       → (text : Bytes) × ListsReading book line text × Renders text before rendered after
   -- For that `max_listing` bytes are enough.
-  pub enough : (lent : List ℕ) (n : ℕ) → answer ≡ Read n → Promised book line lent (Read n) buffer → max_listing ≤ length before
-      → (bytes : ℕ) × (rendered ≡ Written bytes)
+  pub enough : (lent : List ℕ) (n : ℕ) → answer ≡ Ok n → Promised book line lent (Ok n) buffer → max_listing ≤ length before
+      → (bytes : ℕ) × (rendered ≡ Ok bytes)
   -- A refusal is listed by its row.
   pub refusal : (number value : ℕ) → answer ≡ Refused number value → Renders (refusal_row number value) before rendered after

@@ -23,21 +23,18 @@ pub(crate) fn type_of(
     requires { Named book.now names.now types × Lexicon book.now (bodies_at book.now names.now types) entries.now }
     ensures { HeldType result (type_of (map (entry_from book.now (bodies_at book.now names.now types)) entries.now) entry) }
 {
-    if entries.len() <= entry {
-        return EntryType {
+    match entries.get(entry) {
+        Some(at) => entry_type(book, names, types, wide_number(*at)),
+        None => EntryType {
             count: 0,
             simples: [0u16; MAX_ENTRY_SIMPLES],
-        };
+        },
     }
-    entry_type(book, names, types, wide_number(entries[entry]))
 }
 
 // The basic type of a target. A number that the book does not have stands for the first basic type.
 pub(crate) fn target_at(targets: &[u8], number: usize) -> u8
     ensures { result ≡ target_at targets.now number }
 {
-    if targets.len() <= number {
-        return 0;
-    }
-    targets[number]
+    targets.get(number).copied().unwrap_or(0)
 }

@@ -19,14 +19,9 @@ fn append_type(t: EntryType, string: &mut [u16], from: usize) -> usize
     ensures { (result ≡ from + t.count)
         × ((X : PregroupType) → HeldType t X → map held (take result string.new) ≡ map held (take from string.old) ++ X) }
 {
-    let simples = t.simples;
-    let count = t.count;
-    let mut j = 0;
-    while j < count {
-        string[from + j] = simples[j];
-        j += 1;
-    }
-    from + count
+    let end = from + t.count;
+    string[from..end].copy_from_slice(&t.simples[..t.count]);
+    end
 }
 
 // Writes the simple types of the chosen entries, and gives their number.
@@ -44,10 +39,8 @@ pub(crate) fn join_types(
         ≡ joined (map (entry_from book.now (bodies_at book.now names.now types)) entries.now) chosen.now) }
 {
     let mut end = 0;
-    let mut i = 0;
-    while i < chosen.len() {
-        let t = type_of(book, names, types, entries, wide_number(chosen[i]));
-        i += 1;
+    for number in chosen {
+        let t = type_of(book, names, types, entries, wide_number(*number));
         end = append_type(t, string, end);
     }
     end

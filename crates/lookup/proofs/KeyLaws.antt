@@ -1,6 +1,6 @@
 -- Keys of words, and the threads of entries that are alike by them: how they are made from the last entry to the first, and how a word is sought on
 -- one.
-use Prim.Native.Nat.{ℕ, ◌+◌, ◌-◌, ◌≤◌, ◌<◌}
+use Prim.Native.Nat.{ℕ, zero, suc, ◌+◌, ◌-◌, ◌≤◌, ◌<◌}
 use native.Mathlib.Omega.{arith}
 use native.Mathlib.Decide.{ℕ_discrete, dec_lt}
 use mathlib.Core.Path.{◌≡◌, sym, ap, ◌∙◌}
@@ -16,6 +16,7 @@ use Rattle.capitals.specs.Capitals.{same_word}
 use Rattle.lookup.specs.Entries.{Entries}
 use Rattle.bytewise.specs.First.{First}
 use Rattle.lookup.specs.Threads.{keys, key, word_kept, OfWord, OfKey, AlikeFrom, Alike}
+use Rattle.lookup.specs.Walks.{Rises, stops, climbs}
 use Rattle.capitals.proofs.CapitalLaws.{same_exactly, same_length}
 use Rattle.capitals.proofs.LetterLaws.{letter_of}
 
@@ -104,6 +105,19 @@ module _ (bytes : Bytes) (entries : List ℕ) where
     pub alike_next : AlikeFrom bytes entries (set (set alike j (get_or {A = ℕ} alike (max_entries + k) 0)) (max_entries + k) j) j
     alike_next = record { room = length-set linked head j ∙ length-set alike j behind ∙ t.room; low = low'; heads = heads'; nexts = nexts' }
 
+-- The threads of keys rise.
+alike_climbs : {bytes : Bytes} {entries alike : List ℕ} → Alike bytes entries alike → (n i : ℕ) → length entries ≤ i + n → Rises alike (length entries) i
+alike_climbs a zero i h = stops (omega arith)
+alike_climbs {bytes} {entries} {alike} a (suc n) i h = go (dec_lt i (length entries)) (alike_climbs a n (get_or {A = ℕ} alike i 0))
+  where
+    go : Dec (i < length entries) → (length entries ≤ get_or {A = ℕ} alike i 0 + n → Rises alike (length entries) (get_or {A = ℕ} alike i 0))
+        → Rises alike (length entries) i
+    go (yes l) rest = let up = (a.nexts i (omega arith) l).forth in climbs l (omega (arith, up)) (rest (omega (arith, up)))
+    go (no l) rest = stops (omega (arith, l))
+
+pub alike_rises : {bytes : Bytes} {entries alike : List ℕ} → Alike bytes entries alike → (i : ℕ) → Rises alike (length entries) i
+alike_rises {bytes} {entries} a i = alike_climbs a (length entries) i (omega arith)
+
 -- A word sought on the thread of its key.
 module _ (bytes : Bytes) (entries : List ℕ) (word : Bytes) where
   -- How the search stands at entry i: none passed is the word's, and this one has the word's key.
@@ -121,8 +135,10 @@ module _ (bytes : Bytes) (entries : List ℕ) (word : Bytes) where
   pub seeking_found : {from i : ℕ} {t : Bool} → Seeking from i → t ≡ same_word (word_kept bytes entries i) word → t ≡ true → First (OfWord bytes entries word) from (length entries) i
   seeking_found s says e = record { forth = s.forth; passed = s.passed; stops = λ h. sym says ∙ e }
 
-  pub seeking_end : {from i : ℕ} → Seeking from i → length entries ≤ i → First (OfWord bytes entries word) from (length entries) i
-  seeking_end s h = record { forth = s.forth; passed = s.passed; stops = λ l. absurd (omega arith) }
+  pub seeking_end : {from i : ℕ} → Seeking from i → length entries ≤ i → length entries ≤ max_entries → from ≤ max_entries
+      → First (OfWord bytes entries word) from (length entries) max_entries
+  seeking_end s h few low =
+      record { forth = low; passed = λ k l m b. s.passed k l (omega arith) b; stops = λ l. absurd (omega arith) }
 
   pub seeking_next : {alike : List ℕ} {from i : ℕ} {t : Bool} → Alike bytes entries alike → Seeking from i → i < length entries
       → t ≡ same_word (word_kept bytes entries i) word → t ≡ false → Seeking from (get_or {A = ℕ} alike i 0)

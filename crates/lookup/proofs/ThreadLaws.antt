@@ -9,6 +9,7 @@ use Rattle.linking.specs.Reading.{NumberedEntry, Words}
 use Rattle.format.specs.Records.{Bytes}
 use Rattle.lookup.specs.Entries.{Lexicon, entry_at, simples_in, simples_of_words}
 use Rattle.lookup.specs.Threads.{Thread, ends, goes, Tallied}
+use Rattle.lookup.specs.Walks.{Rises, stops, climbs}
 
 pub simples_more : (e : NumberedEntry) (es : List NumberedEntry) → simples_in (e ∷ es) ≡ length e.type + simples_in es
 unfolding simples_in
@@ -63,3 +64,8 @@ module _ {bytes : Bytes} {names : List Bytes} {entries same : List ℕ} where
 
   pub tally_end : {es : List NumberedEntry} {sum i : ℕ} → Tallying bytes names entries same es sum i → length entries ≤ i → Tallied es sum
   tally_end t h = record { total = omega (arith, t.total, ap simples_in (thread_end t.ahead h), simples_none); small = t.small }
+
+-- A thread of entries rises.
+pub thread_rises : {bytes : Bytes} {names : List Bytes} {entries same : List ℕ} {i : ℕ} {es : List NumberedEntry} → Thread bytes names entries same i es → Rises same (length entries) i
+thread_rises (ends h) = stops h
+thread_rises (goes h f t) = climbs h f (thread_rises t)

@@ -3,3 +3,4 @@ pub mod Entries
 pub mod Found
 pub mod Threads
 pub mod Respelt
+pub mod Walks

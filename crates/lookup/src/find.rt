@@ -8,26 +8,25 @@ ghost use Rattle.lookup.specs.Entries.{Entries, Lexicon};
 ghost use Rattle.lookup.specs.Threads.{key, OfWord, OfKey, Alike, Threaded, WordJoined, Finds, Thread, Tallied};
 
 use crate::keys::key_of;
+use crate::walk::thread;
 use book::entries::{entry_length, entry_word};
 use bytewise::widths::wide_number;
 use capitals::same_word;
 use figures::limits::MAX_ENTRIES;
 
-// The first of a word's entries on the thread of its key, from an entry on.
+// The first of a word's entries on the thread of its key, from an entry on. Where there is none, the number that ends a thread (`Finds`).
 fn seek(book: &[u8], entries: &[u16], alike: &[u16], word: &[u8], from: usize) -> usize
     requires { Entries book.now entries.now × Alike book.now entries.now alike.now × (from ≤ max_entries) }
     ensures upper_bound { result ≤ max_entries }
     ensures by_index { (a : ℕ) → First (OfKey book.now entries.now (key word.now)) a (length entries.now) from
         → First (OfWord book.now entries.now word.now) a (length entries.now) result }
 {
-    let mut i = from;
-    while i < entries.len() {
-        if same_word(entry_word(book, wide_number(entries[i])), word) {
+    for (i, at) in thread(entries, alike, from) {
+        if same_word(entry_word(book, at), word) {
             return i;
         }
-        i = wide_number(alike[i]);
     }
-    i
+    MAX_ENTRIES
 }
 
 // Threads the entries of a word, from its first one on.
@@ -36,6 +35,7 @@ fn join(book: &[u8], entries: &[u16], alike: &[u16], word: &[u8], first: usize, 
         First (OfWord book.now entries.now word.now) 0 (length entries.now) first }
     ensures { WordJoined book.now entries.now word.now same.old same.new }
 {
+    // The loop writes the thread that it goes along, so there is none yet to walk.
     let mut i = first;
     while i < entries.len() {
         let next = seek(book, entries, alike, word, wide_number(alike[i]));
@@ -45,6 +45,7 @@ fn join(book: &[u8], entries: &[u16], alike: &[u16], word: &[u8], first: usize, 
 }
 
 // Finds a word: the number of its first entry is returned, and `same` has the thread of all. A word that was found before is threaded already.
+#[tactic(auto, using(crate::proofs::KeyLaws::key_below))]
 pub fn find_word(
     book: &[u8],
     entries: &[u16],
@@ -58,10 +59,8 @@ pub fn find_word(
 {
     let head = wide_number(alike[MAX_ENTRIES + key_of(word)]);
     let first = seek(book, entries, alike, word, head);
-    if first < entries.len() {
-        if same[first] == 0 {
-            join(book, entries, alike, word, first, same);
-        }
+    if first < entries.len() && same[first] == 0 {
+        join(book, entries, alike, word, first, same);
     }
     first
 }
@@ -74,10 +73,8 @@ pub fn tally(book: &[u8], entries: &[u16], same: &[u16], first: usize) -> usize
         → Thread book.now names entries.now same.now first es → Tallied es result }
 {
     let mut sum = 0;
-    let mut i = first;
-    while i < entries.len() {
-        sum += entry_length(book, wide_number(entries[i]));
-        i = wide_number(same[i]);
+    for (_, at) in thread(entries, same, first) {
+        sum += entry_length(book, at);
     }
     sum
 }

@@ -19,6 +19,7 @@ pub const PLACES: usize = MAX_ENTRIES + KEYS;
 pub const NO_ENTRY: u16 = MAX_ENTRIES as u16;
 
 // The key of a word. Words that are the same have the same key.
+#[tactic(auto, unfolding(crate::specs::Threads::key))]
 pub fn key_of(word: &[u8]) -> usize
     requires { (1 ≤ length word.now) × (length word.now ≤ max_word) }
     ensures { result ≡ key word.now }
@@ -29,13 +30,12 @@ pub fn key_of(word: &[u8]) -> usize
 }
 
 // Threads the entries of a book by their keys, from the last to the first, so that each thread has them in the book's order.
+#[tactic(auto, using(crate::proofs::KeyLaws::key_below))]
 pub fn thread_entries(book: &[u8], entries: &[u16], alike: &mut [u16])
     requires { Entries book.now entries.now × NoneAlike alike.old }
     ensures { Alike book.now entries.now alike.new }
 {
-    let mut i = entries.len();
-    while 0 < i {
-        i -= 1;
+    for i in (0..entries.len()).rev() {
         let head = MAX_ENTRIES + key_of(entry_word(book, wide_number(entries[i])));
         alike[i] = alike[head];
         alike[head] = i as u16;

@@ -4,3 +4,4 @@
 
 pub mod find;
 pub mod keys;
+pub mod walk;

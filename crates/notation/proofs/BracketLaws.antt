@@ -2,19 +2,23 @@
 use Prim.Native.Nat.{ℕ, zero, suc, ◌+◌, ◌≤◌, ◌<◌}
 use native.Mathlib.Numerals.{add-one}
 use native.Mathlib.Omega.{arith}
-use native.Mathlib.Decide.{dec_le}
+use native.Mathlib.Decide.{ℕ_discrete, dec_le}
 use mathlib.Core.Path.{◌≡◌, refl, sym, ◌∙◌}
 use mathlib.Core.Logic.{◌↔◌}
-use mathlib.Core.Bool.{Bool, true, false, ◌||◌, false≢true}
+use mathlib.Core.Bool.{Bool, true, false, cond, ◌||◌, false≢true}
 use mathlib.Core.List.{[], ◌∷◌}
-use lib.Dec.{ltb}
+use lib.Dec.{ltb, eqb}
 use lib.ListN.{length, get_or, take, drop, drop_of_length-le}
 use lib.Seq.{drop-cons}
-use borrow.Author.Tests.{ltb-true, ltb-false}
+use borrow.Author.Tests.{ltb-true, ltb-false, lt-ltb, le-ltb, ne_eqb}
+use Rattle.std.proofs.lemmas.List.Recursion.{is_count_by}
+use Rattle.std.proofs.Common.{◌==◌, count_by}
+use Rattle.std.specs.Int.{from_bool}
 use Rattle.figures.specs.Limits.{max_depth}
 use Rattle.format.specs.Records.{Bytes}
-use Rattle.notation.specs.Grammar.{opening, closing}
+use Rattle.notation.specs.Grammar.{opening, closing, slash, backslash}
 use Rattle.notation.specs.Brackets.{one_if, times, TooDeep, deep_behind, too_deep}
+use Rattle.notation.specs.Trees.{slashes}
 
 -- The opening and the closing brackets when one more byte is counted.
 abbrev pub opened_with : ℕ → ℕ → ℕ
@@ -27,28 +31,44 @@ closed_with closed b = closed + one_if closing b
 abbrev pub deep_now : ℕ → ℕ → ℕ → Bool
 deep_now opened closed b = ltb (closed_with closed b + max_depth) (opened_with opened b)
 
+-- What the code counts for a byte.
+one_counted : (byte b : ℕ) → from_bool (eqb b byte) ≡ one_if byte b
+one_counted byte b = go (eqb b byte)
+  where
+    go : (t : Bool) → from_bool t ≡ cond t 1 0
+    go true = refl
+    go false = refl
+
+pub one_most : (byte b : ℕ) → from_bool (eqb b byte) ≤ 1
+one_most byte b = go (eqb b byte)
+  where
+    go : (t : Bool) → from_bool t ≤ 1
+    go true = omega arith
+    go false = omega arith
+
 module _ (opened closed : ℕ) (text : Bytes) (i : ℕ) where
-  deep_at : i < length text
-      → deep_behind opened closed (drop i text)
-      ≡ deep_now opened closed (get_or {A = ℕ} text i 0)
-      || deep_behind (opened_with opened (get_or {A = ℕ} text i 0)) (closed_with closed (get_or {A = ℕ} text i 0)) (drop (i + 1) text)
-  unfolding deep_behind
-  deep_at h = rw (add-one i, drop-cons text i 0 h)
+  abbrev byte : ℕ
+  byte = get_or {A = ℕ} text i 0
 
-  -- A byte that is too deep decides ..
-  pub deep_stop : i < length text → deep_now opened closed (get_or {A = ℕ} text i 0) ≡ true → deep_behind opened closed (drop i text) ≡ true
-  deep_stop h e = rw (deep_at h, e)
-
-  -- .. any other leaves what follows ..
-  pub deep_pass : i < length text → deep_now opened closed (get_or {A = ℕ} text i 0) ≡ false
-      → deep_behind opened closed (drop i text)
-      ≡ deep_behind (opened_with opened (get_or {A = ℕ} text i 0)) (closed_with closed (get_or {A = ℕ} text i 0)) (drop (i + 1) text)
-  deep_pass h e = rw (deep_at h, e)
-
-  -- .. and at the end none was.
+  -- At the end no byte was too deep ..
   pub deep_end : length text ≤ i → deep_behind opened closed (drop i text) ≡ false
   unfolding deep_behind
   deep_end h = rw (drop_of_length-le text h)
+
+  -- .. before it one that is decides, and any other leaves what follows.
+  module _ (opens closes : ℕ) (there : i < length text) (o : opens ≡ from_bool (eqb byte opening)) (c : closes ≡ from_bool (eqb byte closing)) where
+    deep_at : deep_behind opened closed (drop i text)
+        ≡ ltb (closed + closes + max_depth) (opened + opens)
+        || deep_behind (opened + opens) (closed + closes) (drop (i + 1) text)
+    unfolding deep_behind
+    deep_at = rw (add-one i, drop-cons text i 0 there, o ∙ one_counted opening byte, c ∙ one_counted closing byte)
+
+    pub deep_stop : closed + closes + max_depth < opened + opens → deep_behind opened closed (drop i text) ≡ true
+    deep_stop h = rw (deep_at, lt-ltb _ _ h)
+
+    pub deep_pass : opened + opens ≤ closed + closes + max_depth
+        → deep_behind opened closed (drop i text) ≡ deep_behind (opened + opens) (closed + closes) (drop (i + 1) text)
+    deep_pass h = rw (deep_at, le-ltb _ _ h)
 
 -- Some front has too many opening brackets, behind so many opening and closing ones.
 record DeepFrom (opened closed : ℕ) (text : Bytes) : Type 0 where
@@ -106,12 +126,22 @@ not_deep text h n = go (dec_le (times opening (take n text)) (times closing (tak
     go (yes l) = l
     go (no m) = absurd (false≢true (sym h ∙ (deep_exactly text).1 (record { up_to = n; outnumber = omega (arith, m) })))
 
--- How often a byte stands in what is left of a text.
-module _ (byte : ℕ) (text : Bytes) (i : ℕ) where
-  pub times_at : i < length text → times byte (drop i text) ≡ one_if byte (get_or {A = ℕ} text i 0) + times byte (drop (i + 1) text)
-  unfolding times
-  times_at h = rw (add-one i, drop-cons text i 0 h)
+-- How many slashes a text has, counted in one pass.
+abbrev pub is_slash : ℕ → Bool
+is_slash b = (b == slash) || (b == backslash)
 
-  pub times_end : length text ≤ i → times byte (drop i text) ≡ 0
-  unfolding times
-  times_end h = rw (drop_of_length-le text h)
+slashes_next : (b : ℕ) (text : Bytes) → slashes (b ∷ text) ≡ cond (is_slash b) (1 + slashes text) (slashes text)
+unfolding times
+slashes_next b text = go (ℕ_discrete b slash)
+  where
+    tail : (t : Bool) → 0 + times slash text + (cond t 1 0 + times backslash text) ≡ cond t (1 + slashes text) (slashes text)
+    tail true = omega arith
+    tail false = omega arith
+
+    go : Dec (b ≡ slash) → slashes (b ∷ text) ≡ cond (is_slash b) (1 + slashes text) (slashes text)
+    go (yes e) = rw e (omega arith)
+    go (no n) = rw (ne_eqb b slash n) (tail (eqb b backslash))
+
+pub slashes_counted : (text : Bytes) → slashes text ≡ count_by is_slash text
+unfolding times
+slashes_counted text = is_count_by slashes is_slash refl slashes_next text

@@ -1,5 +1,6 @@
 -- What opening a book gives: a book that is open.
-use Rattle.std.specs.Prelude.{ℕ, ◌≤◌, ◌≡◌, List, length, take}
+use Rattle.std.specs.Prelude.{Result, Ok, Err, ℕ, ◌≤◌, ◌≡◌, List, length, take}
+use Rattle.figures.specs.declared.refusals.Refusal.{Refusal}
 use Rattle.figures.specs.Limits.{max_targets}
 use Rattle.pregroup.specs.Tests.{Decides}
 use Rattle.pregroup.specs.Held.{InRows}
@@ -7,10 +8,9 @@ use Rattle.order.specs.Closed.{below}
 use Rattle.format.specs.Records.{Bytes, bodies_at}
 use Rattle.format.specs.Names.{Named}
 use Rattle.book.specs.Format.{Book, accepted, refused, parse}
-use Rattle.book.specs.declared.Scan.{Scan}
-use Rattle.book.specs.declared.Scan.TheVariants.{Accepted, Refused}
 use Rattle.lookup.specs.Entries.{KeptOf}
 use Rattle.lookup.specs.Threads.{Alike}
+use Rattle.opening.specs.declared.Opening.{Opening}
 
 -- The book is B, its basic types and its entries are kept at these offsets, the entries threaded by their keys, the rows of `order` hold its order, one for each basic type, and these
 -- are its targets.
@@ -28,8 +28,13 @@ pub record Open (bytes : Bytes) (names entries alike order targets : List ℕ) (
 abbrev pub IsOpen : Bytes → List ℕ → List ℕ → List ℕ → List ℕ → List ℕ → Type 0
 IsOpen bytes names entries alike order targets = (B : Book) × Open bytes names entries alike order targets B
 
--- What opening a book comes to: it is open, with its entries, the rows of its order and its targets in front of the lists; or it is refused.
-abbrev pub OpeningSays : Bytes → List ℕ → List ℕ → List ℕ → List ℕ → List ℕ → Scan → Type 0
-OpeningSays bytes names entries alike order targets (Accepted types count goals) =
-    IsOpen bytes names (take count entries) alike (take types order) (take goals targets) × (types ≤ length order) × (count ≤ length entries) × (goals ≤ length targets)
-OpeningSays bytes names entries alike order targets (Refused number value) = parse bytes ≡ refused number value
+-- What is kept of a book that is open: the book is open, with its entries, the rows of its order and its targets in front of the lists.
+abbrev pub IsOpening : Opening → Type 0
+IsOpening o =
+    IsOpen o.bytes.now o.names (take o.counts.entries o.entries) o.alike (take o.counts.types o.order) (take o.counts.targets o.targets)
+    × (o.counts.types ≤ length o.order) × (o.counts.entries ≤ length o.entries) × (o.counts.targets ≤ length o.targets)
+
+-- What opening a book comes to: it is open, or it is refused.
+abbrev pub OpeningSays : Bytes → Result Opening Refusal → Type 0
+OpeningSays bytes (Ok o) = (o.bytes.now ≡ bytes) × IsOpening o
+OpeningSays bytes (Err r) = parse bytes ≡ refused r.number r.value

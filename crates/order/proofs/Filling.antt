@@ -1,7 +1,6 @@
 -- The loop of `close` fills the rows one by one: those passed hold what stands at or above their type, the others nothing. When all
 -- types are passed, the rows hold the closure.
 use Prim.Native.Nat.{ℕ, ◌+◌, ◌≤◌, ◌<◌}
-use native.Mathlib.Decide.{dec_lt}
 use native.Mathlib.Omega.{arith}
 use mathlib.Core.Path.{◌≡◌, refl, ◌∙◌}
 use mathlib.Core.Logic.{◌⊎◌, inl, inr, ⊎_elim}
@@ -10,6 +9,7 @@ use lib.ListN.{length, get_or, set, replicate, length-set, get_or-replicate, get
 use lib.Seq.{get_or-set_same, get_or-set_other}
 use Rattle.bits.specs.Bits.{Has, Members}
 use Rattle.bits.proofs.BitLaws.{empty_has_none}
+use Rattle.bits.proofs.Cases.{less_or_not}
 use Rattle.pregroup.specs.Order.{Relation}
 use Rattle.pregroup.specs.Held.{InRows}
 use Rattle.order.specs.Closed.{Closed, Within}
@@ -22,14 +22,6 @@ pub record Filled (R : Relation) (rows : List ℕ) (p : ℕ) : Type 0 where
   pub whole : length rows ≡ max_types
   pub filled : (k : ℕ) → k < p → Members (get_or rows k 0) (Closed max_types R k)
   pub rest : (k : ℕ) → p ≤ k → get_or rows k 0 ≡ 0
-
--- A number is below another or not.
-less_or_not : (a b : ℕ) → (a < b) ⊎ (b ≤ a)
-less_or_not a b = of (dec_lt a b)
-  where
-    of : Dec (a < b) → (a < b) ⊎ (b ≤ a)
-    of (yes h) = inl h
-    of (no h) = inr (omega arith)
 
 empty_row : (k : ℕ) → get_or {A = ℕ} (replicate max_types 0) k 0 ≡ 0
 empty_row k = ⊎_elim (get_or-replicate max_types k 0 0) (get_or-eq_default (replicate max_types 0) 0) (less_or_not k max_types)

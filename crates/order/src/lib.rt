@@ -24,6 +24,7 @@ fn reach(direct: &[u64; MAX_TYPES], p: u8) -> u64
 {
     let mut seen = 0u64;
     let mut todo = bits::with(0, p);
+    // A `for` has nothing to go over: what lies ahead grows in each turn.
     while todo != 0 {
         let q = bits::lowest(todo);
         seen = bits::with(seen, q);
@@ -38,10 +39,8 @@ pub fn close(direct: &[u64; MAX_TYPES], types: usize) -> Order
     ensures { Hold result.rows (Closed types (InRows direct.now)) }
 {
     let mut rows = [0u64; MAX_TYPES];
-    let mut p = 0;
-    while p < types {
+    for p in 0..types {
         rows[p] = reach(direct, p as u8);
-        p += 1;
     }
     Order { rows }
 }
@@ -50,12 +49,5 @@ pub fn close(direct: &[u64; MAX_TYPES], types: usize) -> Order
 pub fn count_pairs(order: Order) -> u64
     ensures { result ≡ pairs_in order.rows }
 {
-    let rows = order.rows;
-    let mut sum = 0u64;
-    let mut p = 0;
-    while p < MAX_TYPES {
-        sum += bits::count(rows[p]);
-        p += 1;
-    }
-    sum
+    order.rows.iter().map(|row| bits::count(*row)).sum()
 }

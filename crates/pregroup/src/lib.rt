@@ -14,18 +14,14 @@ pub const EXPONENT_BIAS: u8 = 8;
 pub fn stands_below(rows: &[u64], p: u8, q: u8) -> bool
     ensures { (result ≡ true) ↔ InRows rows.now p q }
 {
-    let at = p as usize;
-    if rows.len() <= at {
-        return false;
-    }
-    bits::has(rows[at], q)
+    rows.get(p as usize).is_some_and(|row| bits::has(*row, q))
 }
 
-// A basic type and an exponent raised by the bias, held in one number.
+// A basic type and an exponent raised by the bias, held in one number. It is no struct: nodes and strings hold 16 bits, and public contracts name them.
 pub fn hold(base: u8, raised: u8) -> u16
     ensures { held result ≡ lowered base raised }
 {
-    (raised as u16) * 256 + base as u16
+    u16::from(raised) * 256 + u16::from(base)
 }
 
 // Whether the simple types that x and y hold, in this order, could contract.
@@ -33,20 +29,13 @@ fn contracts(rows: &[u64], x: u16, y: u16) -> bool
     ensures { (result ≡ true) ↔ Contracts (InRows rows.now) (held x) (held y) }
 {
     let earlier = x / 256;
-    if y / 256 != earlier + 1 {
-        return false;
-    }
-    let a = (x % 256) as u8;
-    let b = (y % 256) as u8;
-    if earlier % 2 == 0 {
-        stands_below(rows, a, b)
-    } else {
-        stands_below(rows, b, a)
-    }
+    let (a, b) = ((x % 256) as u8, (y % 256) as u8);
+    let (lower, upper) = if earlier % 2 == 0 { (a, b) } else { (b, a) };
+    y / 256 == earlier + 1 && stands_below(rows, lower, upper)
 }
 
 // How two simple types, in this order, may contract: not at all, with the same basic type, or with different ones, which the order relates.
-#[derive(Drop)]
+#[derive(Clone, Copy, PartialEq, Eq)]
 pub enum LinkKind {
     Not,
     Same,
@@ -58,20 +47,17 @@ pub fn may_contract(rows: &[u64], x: u16, y: u16) -> LinkKind
     ensures { result ≡ link_kind (in_rows rows.now) (held x) (held y) }
 {
     if !contracts(rows, x, y) {
-        return LinkKind::Not;
+        LinkKind::Not
+    } else if x % 256 == y % 256 {
+        LinkKind::Same
+    } else {
+        LinkKind::Different
     }
-    if x % 256 == y % 256 {
-        return LinkKind::Same;
-    }
-    LinkKind::Different
 }
 
 // Whether the simple type that x holds is plain and stands at or below the basic type s.
 pub fn may_remain(rows: &[u64], x: u16, s: u8) -> bool
     ensures { (result ≡ true) ↔ Remains (InRows rows.now) s (held x) }
 {
-    if x / 256 != EXPONENT_BIAS as u16 {
-        return false;
-    }
-    stands_below(rows, (x % 256) as u8, s)
+    x / 256 == u16::from(EXPONENT_BIAS) && stands_below(rows, (x % 256) as u8, s)
 }

@@ -1,3 +1,2 @@
 pub mod Fields
-pub mod NameLaws
 pub mod RowLaws

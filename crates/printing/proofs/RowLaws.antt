@@ -1,20 +1,37 @@
 -- The rows of words and of simple types, from one on and then the rest, as the loops put them.
 use Prim.Native.Nat.{ℕ, ◌+◌, ◌/◌, ◌%◌, ◌≤◌, ◌<◌}
 use native.Mathlib.Numerals.{add-one}
-use mathlib.Core.Path.{◌≡◌}
+use native.Mathlib.Omega.{arith}
+use mathlib.Core.Path.{◌≡◌, ap, ◌∙◌}
+use Rattle.std.specs.List.{zip, enumerate_from}
+use Rattle.std.proofs.lemmas.List.{get_or_default}
+use Rattle.std.proofs.lemmas.List.FromFn.{length-enumerate_from, get_or-enumerate_from}
+use Rattle.std.proofs.lemmas.Slice.Zip.{length-zip, get_or-zip}
 use mathlib.Core.List.{List, [], ◌++◌, map}
 use lib.IntN.{pos, ◌-ℤ◌}
-use lib.ListN.{length, get_or, drop, drop_of_length-le}
-use lib.Seq.{drop-cons}
+use lib.ListN.{length, get_or, take, drop, drop_of_length-le}
+use lib.Seq.{drop-cons, take_all}
 use Rattle.pregroup.specs.Held.{bias, held}
 use Rattle.letters.specs.Letters.{t}
-use Rattle.format.specs.Records.{Bytes}
+use Rattle.format.specs.Records.{Bytes, Whole, body_at, bodies_at}
 use Rattle.line.specs.LineWords.{words_of}
 use Rattle.line.specs.Split.{word_at, SplitInto}
 use Rattle.line.proofs.LineLaws.{words_at, none_left}
 use Rattle.printing.specs.Rows.{word_row, type_row, word_rows, type_rows}
 use Rattle.writing.specs.Placed.{Countable, Placed}
 use Rattle.writing.proofs.Placing.{Going, going_next, going_on, going_done}
+
+-- The item of a turn over the numbered pairs of two lists.
+pub numbered_pair :
+    (starts ends : List ℕ) (n k start end : ℕ) → length ends ≡ length starts → n < length (enumerate_from 0 (zip starts ends))
+    → (k, (start, end)) ≡ get_or (enumerate_from 0 (zip starts ends)) n (k, (start, end))
+    → (n < length starts) × (k ≡ n) × (start ≡ get_or starts n 0) × (end ≡ get_or ends n 0)
+numbered_pair starts ends n k start end same h e =
+    let inside : n < length starts = omega (arith, length-enumerate_from 0 (zip starts ends), length-zip starts ends) in
+    let item =
+    e ∙ get_or-enumerate_from 0 (zip starts ends) n (k, (start, end)) (omega (arith, length-zip starts ends))
+    ∙ ap (λ (p : ℕ × ℕ). (0 + n, p)) (get_or-zip starts ends n (start, end) inside (omega arith)) in
+    (inside, ap (λ (p : ℕ × (ℕ × ℕ)). p.0) item ∙ omega arith, ap (λ (p : ℕ × (ℕ × ℕ)). p.1.0) item ∙ get_or_default starts n start 0 inside, ap (λ (p : ℕ × (ℕ × ℕ)). p.1.1) item ∙ get_or_default ends n end 0 (omega arith))
 
 -- The words from the k-th on: the next row can be put, and once it is, the rest is left.
 module _ (entries : List ℕ) {line : Bytes} {starts ends : List ℕ} (split : SplitInto line starts ends) where
@@ -64,3 +81,7 @@ module _ (names : List Bytes) (letters partners string : List ℕ) where
     pub simples_put : length string ≤ k → Placed text at whole now place
     unfolding type_rows
     simples_put h = going_done (rw (drop_of_length-le string {i = k} h) at g)
+
+-- The names of the first offsets alone.
+pub same_names : {book : Bytes} {names : List ℕ} {types : ℕ} → Whole book names types → bodies_at book (take types names) (length (take types names)) ≡ bodies_at book names types
+same_names {book} {names} {types} named = ap (map (body_at book)) (take_all (length (take types names)) (take types names) (omega arith))

@@ -13,23 +13,24 @@ ghost use Rattle.printing.specs.Kept.{kept_rows, Puttable};
 ghost use Rattle.writing.specs.Placed.{Countable, Placed};
 
 use answer::parts::{entries_of, partners_of, target_of};
-use bytewise::widths::{value_at, wide_number};
+use bytewise::widths::value_at;
 use format::layout::body_at;
-use text::{put_exponent, put_number, put_text};
+use text::put_exponent;
+use writing::Text;
 
-const SPACE: u8 = 32;
+const SPACE: u8 = b' ';
 
-const ROW_END: u8 = 10;
+const ROW_END: u8 = b'\n';
 
 // The name of a basic type.
-fn name_of<'a>(book: &'a [u8], names: &[u16], types: usize, base: usize) -> &'a [u8]
-    requires { Whole book.now names.now types }
-    ensures { result.now ≡ get_or (bodies_at book.now names.now types) base [] }
+fn name_of<'a>(book: &'a [u8], names: &[u16], base: usize) -> &'a [u8]
+    requires { Whole book.now names.now (length names.now) }
+    ensures { result.now ≡ get_or (bodies_at book.now names.now (length names.now)) base [] }
 {
-    if types <= base {
-        return &book[..0];
+    match names.get(base) {
+        Some(at) => body_at(book, usize::from(*at)),
+        None => b"",
     }
-    body_at(book, wide_number(names[base]))
 }
 
 // The row of a refusal.
@@ -37,103 +38,97 @@ pub fn put_refusal_row(number: usize, value: usize, text: &mut [u8], at: usize) 
     requires { Countable at (refusal_row number value) }
     ensures { Placed text.old at (refusal_row number value) text.new result }
 {
-    let at = put_text(b"no", SPACE, text, at);
-    let at = put_number(number, SPACE, text, at);
-    put_number(value, ROW_END, text, at)
+    let mut row = Text {
+        bytes: text,
+        place: at,
+    };
+    row.put_text(b"no", SPACE);
+    row.put_number(number, SPACE);
+    row.put_number(value, ROW_END);
+    row.place
 }
 
 // The first row of an answer.
-fn put_first_row(words: usize, simples: usize, target: usize, text: &mut [u8], at: usize) -> usize
-    requires { Countable at (first_row words simples target) }
-    ensures { Placed text.old at (first_row words simples target) text.new result }
+fn put_first_row(text: &mut Text, words: usize, simples: usize, target: usize)
+    requires { Countable text.old.place (first_row words simples target) }
+    ensures lent { text.new.bytes.ghost_name ≡ text.old.bytes.ghost_name }
+    ensures placed { Placed text.old.bytes.now text.old.place (first_row words simples target) text.new.bytes.now text.new.place }
 {
-    let at = put_text(b"yes", SPACE, text, at);
-    let at = put_number(words, SPACE, text, at);
-    let at = put_number(simples, SPACE, text, at);
-    put_number(target, ROW_END, text, at)
+    text.put_text(b"yes", SPACE);
+    text.put_number(words, SPACE);
+    text.put_number(simples, SPACE);
+    text.put_number(target, ROW_END);
 }
 
 // A word's row.
-fn put_word_row(number: usize, word: &[u8], entry: usize, text: &mut [u8], at: usize) -> usize
-    requires { Countable at (word_row number word.now entry) }
-    ensures { Placed text.old at (word_row number word.now entry) text.new result }
+fn put_word_row(text: &mut Text, number: usize, word: &[u8], entry: usize)
+    requires { Countable text.old.place (word_row number word.now entry) }
+    ensures lent { text.new.bytes.ghost_name ≡ text.old.bytes.ghost_name }
+    ensures placed { Placed text.old.bytes.now text.old.place (word_row number word.now entry) text.new.bytes.now text.new.place }
 {
-    let at = put_number(number, SPACE, text, at);
-    let at = put_text(word, SPACE, text, at);
-    put_number(entry, ROW_END, text, at)
+    text.put_number(number, SPACE);
+    text.put_text(word, SPACE);
+    text.put_number(entry, ROW_END);
 }
 
 // A simple type's row.
 fn put_type_row(
+    text: &mut Text,
     position: usize,
     name: &[u8],
     raised: usize,
     partner: usize,
     letter: u8,
-    text: &mut [u8],
-    at: usize,
-) -> usize
-    requires { Countable at (type_row position name.now (pos raised -ℤ pos bias) partner letter) }
-    ensures { Placed text.old at (type_row position name.now (pos raised -ℤ pos bias) partner letter) text.new result }
+)
+    requires { Countable text.old.place (type_row position name.now (pos raised -ℤ pos bias) partner letter) }
+    ensures lent { text.new.bytes.ghost_name ≡ text.old.bytes.ghost_name }
+    ensures placed { Placed text.old.bytes.now text.old.place (type_row position name.now (pos raised -ℤ pos bias) partner letter) text.new.bytes.now text.new.place }
 {
-    let at = put_number(position, SPACE, text, at);
-    let at = put_text(name, SPACE, text, at);
-    let at = put_exponent(raised, SPACE, text, at);
-    let at = put_number(partner, SPACE, text, at);
-    put_text(&[letter], ROW_END, text, at)
+    text.put_number(position, SPACE);
+    text.put_text(name, SPACE);
+    put_exponent(text, raised, SPACE);
+    text.put_number(partner, SPACE);
+    text.put_text(&[letter], ROW_END);
 }
 
 // The rows of a line's words, which are split off.
-fn put_word_rows(
-    line: &[u8],
-    starts: &[usize],
-    ends: &[usize],
-    entries: &[u16],
-    text: &mut [u8],
-    at: usize,
-) -> usize
+fn put_word_rows(text: &mut Text, line: &[u8], starts: &[usize], ends: &[usize], entries: &[u16])
     requires split_into { SplitInto line.now starts.now ends.now }
-    requires countable { Countable at (word_rows entries.now 0 (words_of line.now)) }
-    ensures { Placed text.old at (word_rows entries.now 0 (words_of line.now)) text.new result }
+    requires countable { Countable text.old.place (word_rows entries.now 0 (words_of line.now)) }
+    ensures lent { text.new.bytes.ghost_name ≡ text.old.bytes.ghost_name }
+    ensures placed { Placed text.old.bytes.now text.old.place (word_rows entries.now 0 (words_of line.now)) text.new.bytes.now text.new.place }
 {
-    let mut next = at;
-    let mut k = 0;
-    while k < starts.len() {
-        let start = starts[k];
-        let end = ends[k];
-        let entry = value_at(entries, k);
-        k += 1;
-        next = put_word_row(k, &line[start..end], entry, text, next);
+    for (k, (start, end)) in starts.iter().zip(ends).enumerate() {
+        put_word_row(text, k + 1, &line[*start..*end], value_at(entries, k));
     }
-    next
 }
 
 // The rows of all simple types of a string, with their letters behind that of position 0.
 fn put_type_rows(
+    text: &mut Text,
     book: &[u8],
     names: &[u16],
-    types: usize,
     string: &[u16],
     letters: &[u8],
     partners: &[u16],
-    text: &mut [u8],
-    at: usize,
-) -> usize
-    requires whole { Whole book.now names.now types × (length string.now < length letters.now) }
-    requires countable { Countable at (type_rows (bodies_at book.now names.now types) letters.now partners.now 0 (map held string.now)) }
-    ensures { Placed text.old at
-        (type_rows (bodies_at book.now names.now types) letters.now partners.now 0 (map held string.now)) text.new result }
+)
+    requires whole { Whole book.now names.now (length names.now) × (length string.now < length letters.now) }
+    requires countable { Countable text.old.place (type_rows (bodies_at book.now names.now (length names.now)) letters.now partners.now 0 (map held string.now)) }
+    ensures lent { text.new.bytes.ghost_name ≡ text.old.bytes.ghost_name }
+    ensures placed { Placed text.old.bytes.now text.old.place (type_rows (bodies_at book.now names.now (length names.now)) letters.now partners.now 0 (map held string.now)) text.new.bytes.now text.new.place }
 {
-    let mut next = at;
-    let mut k = 0;
-    while k < string.len() {
-        let simple = wide_number(string[k]);
-        let name = name_of(book, names, types, simple % 256);
-        let partner = value_at(partners, k);
-        k += 1;
-        next = put_type_row(k, name, simple / 256, partner, letters[k], text, next);
+    for (k, simple) in string.iter().enumerate() {
+        let [base, raised] = simple.to_le_bytes();
+        let name = name_of(book, names, usize::from(base));
+        put_type_row(
+            text,
+            k + 1,
+            name,
+            usize::from(raised),
+            value_at(partners, k),
+            letters[k + 1],
+        );
     }
-    next
 }
 
 // All rows of a reading by an answer's values, from the start of the buffer on.
@@ -157,7 +152,12 @@ pub fn put_reading(
     let target = target_of(values);
     let entries = entries_of(values);
     let partners = partners_of(values);
-    let at = put_first_row(entries.len(), partners.len(), target, text, 0);
-    let at = put_word_rows(line, starts, ends, entries, text, at);
-    put_type_rows(book, names, types, string, letters, partners, text, at)
+    let mut rows = Text {
+        bytes: text,
+        place: 0,
+    };
+    put_first_row(&mut rows, entries.len(), partners.len(), target);
+    put_word_rows(&mut rows, line, starts, ends, entries);
+    put_type_rows(&mut rows, book, &names[..types], string, letters, partners);
+    rows.place
 }

@@ -1,2 +1,3 @@
--- The graph of words that are looked up.
+-- The graph of words that are looked up, and the first target that it reaches.
 pub mod DrawnLaws
+pub mod Reached

@@ -1,5 +1,5 @@
 -- Words that are charted: their graph, its chart, and the first target that it reaches.
-use Rattle.std.specs.Prelude.{ℕ, ◌≤◌, ◌<◌, ◌≡◌, List, length}
+use Rattle.std.specs.Prelude.{ℕ, ◌≤◌, ◌<◌, ◌≡◌, List, length, Option, Some, None}
 use Rattle.figures.specs.Limits.{max_words, max_targets, max_nodes}
 use Rattle.bits.specs.Rows.{HasRow, InRow}
 use Rattle.pregroup.specs.Types.{Basic}
@@ -35,6 +35,11 @@ pub record FirstEnd (chart : List ℕ) (last count r : ℕ) : Type 0 where
   pub within : r ≤ count
   pub reached : r < count → InRow chart 0 (end_at last r)
   pub none : (t : ℕ) → t < r → InRow chart 0 (end_at last t) → ⊥
+
+-- What the search for the first target gives: the first whose end is in the row of node 0, or that there is none.
+abbrev pub FirstReached : List ℕ → ℕ → ℕ → Option ℕ → Type 0
+FirstReached chart last count (Some r) = (r < count) × FirstEnd chart last count r
+FirstReached chart last count None = (t : ℕ) → t < count → InRow chart 0 (end_at last t) → ⊥
 
 -- The graph is drawn, its chart filled, and t is the first target whose end that reaches.
 pub record Charted (le : Test) (Le : Relation) (g : Graph) (targets : List Basic) (last : ℕ) (words : Words) (chart : List ℕ) (t : ℕ) : Type 0 where

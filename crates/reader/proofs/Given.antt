@@ -9,8 +9,8 @@ use Rattle.format.specs.Records.{Bytes}
 use Rattle.book.specs.Format.{Book, accepted, refused, parse}
 use Rattle.linking.specs.Reading.{Words, first_reading}
 use Rattle.line.specs.LineFaults.{passed, stopped, line_check}
-use Rattle.answer.specs.declared.LineAnswer.{LineAnswer}
-use Rattle.answer.specs.declared.LineAnswer.TheVariants.{Refused}
+use Rattle.answer.specs.Answers.{LineAnswer}
+use Rattle.figures.specs.Refusals.{Refused}
 use Rattle.answer.specs.Answers.{Outcome, given, Gives}
 use Rattle.reader.specs.Outcome.{read_against, read_parsed, outcome}
 use Rattle.reader.specs.Demands.{Promised}

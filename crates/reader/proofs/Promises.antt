@@ -26,9 +26,10 @@ use Rattle.linking.proofs.FirstReading.{first_reading_some, first_reading_none, 
 use Rattle.linking.proofs.Derivation.{unread_iff_no_chain}
 use Rattle.line.specs.LineFaults.{LineCheck, passed, stopped, line_check}
 use Rattle.line.proofs.Passed.{line_passing}
-use Rattle.answer.specs.declared.LineAnswer.{LineAnswer}
-use Rattle.answer.specs.declared.LineAnswer.TheVariants.{Read, Refused}
-use Rattle.answer.proofs.GivenLaws.{read_refused}
+use Rattle.answer.specs.Answers.{LineAnswer}
+use Rattle.std.specs.Prelude.{Ok}
+use Rattle.figures.specs.Refusals.{Refused}
+use Rattle.answer.proofs.GivenLaws.{read_refused, refused_number}
 use Rattle.answer.specs.Answers.{Outcome, line_reply, values_of, answer_length, given}
 use Rattle.reader.specs.Outcome.{read_against, read_parsed, outcome}
 use Rattle.reader.specs.Demands.{OrderOf, Readable, FirstWritten, TooShort, Promised, LineNumber}
@@ -41,7 +42,7 @@ values_count a = let n = length-append a.entries (length a.partners ∷ a.partne
 pub data Given (buffer : List ℕ) : Option Answer → LineAnswer → List ℕ → Type 0 where
   no_answer : Given buffer none (Refused no_reading 0) buffer
   too_short : {a : Answer} → length buffer < length (values_of a) → Given buffer (some a) (Refused buffer_too_short (length (values_of a))) buffer
-  enough : {a : Answer} → length (values_of a) ≤ length buffer → Given buffer (some a) (Read (length (values_of a))) (values_of a ++ drop (length (values_of a)) buffer)
+  enough : {a : Answer} → length (values_of a) ≤ length buffer → Given buffer (some a) (Ok (length (values_of a))) (values_of a ++ drop (length (values_of a)) buffer)
 
 pub given_is : (buffer : List ℕ) (o : Option Answer) → Given buffer o (given o buffer).answer (given o buffer).buffer
 unfolding given
@@ -52,7 +53,7 @@ given_is buffer (some a) = go (ltb (length buffer) (length (values_of a))) refl
     short = record { answer = Refused buffer_too_short (length (values_of a)); buffer = buffer }
 
     full : Outcome LineAnswer
-    full = record { answer = Read (length (values_of a)); buffer = values_of a ++ drop (length (values_of a)) buffer }
+    full = record { answer = Ok (length (values_of a)); buffer = values_of a ++ drop (length (values_of a)) buffer }
 
     go : (b : Bool) → ltb (length buffer) (length (values_of a)) ≡ b → Given buffer (some a) (cond b short full).answer (cond b short full).buffer
     go true q = too_short (ltb-true (length buffer) (length (values_of a)) q)
@@ -66,8 +67,8 @@ same_value e = ap (λ (x : Reply). get_or x.values 0 0) e
 
 given_named : {buffer : List ℕ} {o : Option Answer} {answer : LineAnswer} {after : List ℕ} → Given buffer o answer after → (number value : ℕ) → answer ≡ Refused number value
     → LineNumber number
-given_named no_answer number value h = let same : no_reading ≡ number = cc in inr (omega arith)
-given_named (too_short l) number value h = let same : buffer_too_short ≡ number = cc in inr (omega arith)
+given_named no_answer number value h = let same : no_reading ≡ number = refused_number h in inr (omega arith)
+given_named (too_short l) number value h = let same : buffer_too_short ≡ number = refused_number h in inr (omega arith)
 given_named (enough l) number value h = read_refused h
 
 -- A book and a line that can be read.
@@ -118,7 +119,7 @@ module _ (book line : Bytes) (B : Book) (words : Words) (r : Readable book line 
         subst (λ (values : List ℕ). FirstWritten B words buffer values (values_of a ++ drop (length (values_of a)) buffer)) (sym (take-append_seam (values_of a) (drop (length (values_of a)) buffer)))
         (record { reading = record { reading = a; first = is_first a e; whole = refl }; room = l; behind = refl })
 
-    counted_of : {o : Option Answer} {answer : LineAnswer} {after : List ℕ} → Given buffer o answer after → (n : ℕ) → answer ≡ Read n → n ≡ length (line_reply answer after).values
+    counted_of : {o : Option Answer} {answer : LineAnswer} {after : List ℕ} → Given buffer o answer after → (n : ℕ) → answer ≡ Ok n → n ≡ length (line_reply answer after).values
     counted_of no_answer n h = read_refused (sym h)
     counted_of (too_short l) n h = read_refused (sym h)
     counted_of (enough {a} l) n h =
@@ -180,13 +181,13 @@ module _ (book line : Bytes) (buffer : List ℕ) where
   written_came (refused_before named) h = absurd (omega (arith, line_some named))
   written_came (came_to_read {B} {words} r g) h = (B, words, r, written_of book line B words r g refl h)
 
-  counted_came : {answer : LineAnswer} {after : List ℕ} → Came answer after → (n : ℕ) → answer ≡ Read n → n ≡ length (line_reply answer after).values
+  counted_came : {answer : LineAnswer} {after : List ℕ} → Came answer after → (n : ℕ) → answer ≡ Ok n → n ≡ length (line_reply answer after).values
   counted_came (refused_before named) n h = read_refused (sym h)
   counted_came (came_to_read {B} {words} r g) n h = counted_of book line B words r g n h
 
   named_came : {answer : LineAnswer} {after : List ℕ} → Came answer after → (number value : ℕ) → answer ≡ Refused number value
       → LineNumber number
-  named_came (refused_before {number = m} named) number value h = let same : m ≡ number = cc in subst LineNumber same named
+  named_came (refused_before {number = m} named) number value h = subst LineNumber (refused_number h) named
   named_came (came_to_read r g) number value h = given_named g number value h
 
   given_read : (B : Book) (words : Words) (r : Readable book line B words) → Given buffer (first_of book line B words r) (outcome book line buffer).answer (outcome book line buffer).buffer

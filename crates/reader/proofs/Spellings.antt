@@ -25,8 +25,8 @@ use Rattle.line.specs.LineFaults.{byte_fault, word_fault, entry_fault, line_chec
 use Rattle.lookup.specs.Entries.{entries_from, simples_in, simples_of_words}
 use Rattle.answer.specs.Answers.{Outcome, given}
 use Rattle.reader.specs.Outcome.{read_against, read_parsed, outcome}
-use Rattle.answer.specs.declared.LineAnswer.{LineAnswer}
-use Rattle.answer.specs.declared.LineAnswer.TheVariants.{Refused}
+use Rattle.answer.specs.Answers.{LineAnswer}
+use Rattle.figures.specs.Refusals.{Refused}
 use Rattle.reader.proofs.Table.{line_of, lent, expected}
 use Rattle.reader.proofs.Capitals.{same_books_outcome}
 

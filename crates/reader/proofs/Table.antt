@@ -23,8 +23,9 @@ use Rattle.line.specs.LineFaults.{byte_fault, word_fault, entry_fault, line_chec
 use Rattle.lookup.specs.Entries.{entries_from, simples_in, simples_of_words}
 use Rattle.answer.specs.Answers.{Outcome, values_of, given}
 use Rattle.reader.specs.Outcome.{read_against, read_parsed, outcome}
-use Rattle.answer.specs.declared.LineAnswer.{LineAnswer}
-use Rattle.answer.specs.declared.LineAnswer.TheVariants.{Read, Refused}
+use Rattle.answer.specs.Answers.{LineAnswer}
+use Rattle.std.specs.Prelude.{Ok}
+use Rattle.figures.specs.Refusals.{Refused}
 
 -- The words of document 000, example 4.3.
 abbrev I : Bytes
@@ -100,7 +101,7 @@ lent = replicate 20 7
 
 abbrev pub expected : Option Answer → Outcome LineAnswer
 expected none = record { answer = Refused no_reading 0; buffer = lent }
-expected (some a) = record { answer = Read (length (values_of a)); buffer = values_of a ++ drop (length (values_of a)) lent }
+expected (some a) = record { answer = Ok (length (values_of a)); buffer = values_of a ++ drop (length (values_of a)) lent }
 
 pub paper_cases : map (λ (c : Case). outcome c.book (line_of c.words) lent) cases ≡ map (λ (c : Case). expected c.reading) cases
 unfolding every two_bytes name_byte is_name exponent_of simples_of is_worded is_entry exponent_listed same_bytes number_of body_rules record_rules first_broken add ended records_from parse even same_exponent contracts first_some linked_to first_within unlinked_at first_from first_linking first_entry first_behind first_target first_reading below small same_word words_from entries_from byte_fault word_fault entry_fault simples_in simples_of_words line_check given read_against read_parsed

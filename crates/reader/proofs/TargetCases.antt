@@ -22,7 +22,8 @@ use Rattle.line.specs.LineFaults.{byte_fault, word_fault, entry_fault, line_chec
 use Rattle.lookup.specs.Entries.{entries_from, simples_in, simples_of_words}
 use Rattle.answer.specs.Answers.{given}
 use Rattle.reader.specs.Outcome.{read_against, read_parsed, outcome}
-use Rattle.answer.specs.declared.LineAnswer.TheVariants.{Read, Refused}
+use Rattle.std.specs.Prelude.{Ok}
+use Rattle.figures.specs.Refusals.{Refused}
 use Rattle.reader.proofs.Table.{lent, expected}
 
 -- Types o 0, k 1, p 2; entries 0 go k, 1 go o, 2 site k, 3 ward7 p, 4 please k o^l p k^r o; and these pairs and targets.
@@ -85,6 +86,6 @@ targets_in_order = refl
 -- An answer of one word and one simple type takes five values.
 pub one_value_too_few :
     outcome (book_of [] (0 ∷ 1 ∷ [])) site (replicate 4 7) ∷ outcome (book_of [] (0 ∷ 1 ∷ [])) site (replicate 5 7) ∷ []
-    ≡ record { answer = Refused buffer_too_short 5; buffer = replicate 4 7 } ∷ record { answer = Read 5; buffer = 1 ∷ 1 ∷ 2 ∷ 1 ∷ 1 ∷ [] } ∷ []
+    ≡ record { answer = Refused buffer_too_short 5; buffer = replicate 4 7 } ∷ record { answer = Ok 5; buffer = 1 ∷ 1 ∷ 2 ∷ 1 ∷ 1 ∷ [] } ∷ []
 unfolding every two_bytes name_byte is_name exponent_of simples_of is_worded is_entry exponent_listed same_bytes number_of body_rules record_rules first_broken add ended records_from parse even same_exponent contracts first_some linked_to first_within unlinked_at first_from first_linking first_entry first_behind first_target first_reading below small same_word words_from entries_from byte_fault word_fault entry_fault simples_in simples_of_words line_check given read_against read_parsed
 one_value_too_few = refl

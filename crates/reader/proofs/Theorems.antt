@@ -48,7 +48,7 @@ use Rattle.capitals.proofs.CapitalLaws.{CapitalOf, NoCapital, alike_exactly, sam
 use Rattle.line.specs.LineFaults.{entries_of_line}
 use Rattle.line.specs.Promise.{LookUpPromised}
 use Rattle.line.proofs.PromiseLaws.{look_up_kept}
-use Rattle.answer.specs.declared.LineAnswer.TheVariants.{Refused}
+use Rattle.figures.specs.Refusals.{Refused}
 use Rattle.answer.specs.Answers.{outcome_reply}
 use Rattle.reader.specs.Outcome.{outcome}
 use Rattle.reader.specs.Demands.{OrderOf, Readable, Promised, LineNumber}

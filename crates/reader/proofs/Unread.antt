@@ -13,9 +13,9 @@ use Rattle.format.specs.Records.{Bytes}
 use Rattle.book.specs.Format.{Book, Parsed, accepted, refused, parse}
 use Rattle.linking.specs.Reading.{Words, Answer, first_reading}
 use Rattle.line.specs.LineFaults.{LineCheck, passed, stopped, line_check}
-use Rattle.answer.specs.declared.LineAnswer.{LineAnswer}
-use Rattle.answer.specs.declared.LineAnswer.TheVariants.{Refused}
-use Rattle.answer.proofs.GivenLaws.{read_refused}
+use Rattle.answer.specs.Answers.{LineAnswer}
+use Rattle.figures.specs.Refusals.{Refused}
+use Rattle.answer.proofs.GivenLaws.{read_refused, refused_number, refused_value}
 use Rattle.answer.specs.Answers.{Outcome}
 use Rattle.reader.specs.Outcome.{read_against, read_parsed, outcome}
 use Rattle.reader.specs.Demands.{Readable}
@@ -26,17 +26,11 @@ use Rattle.reader.proofs.Promises.{Given, no_answer, too_short, enough, given_is
 abbrev pub first_of_book : Book → Words → Option Answer
 first_of_book B words = first_reading (below (length B.names) B.pairs) B.targets words
 
-same_number : {m n v w : ℕ} → Refused m v ≡ Refused n w → m ≡ n
-same_number e = cc
-
-same_with : {m n v w : ℕ} → Refused m v ≡ Refused n w → v ≡ w
-same_with e = cc
-
 -- What `given` answers with 15.
 given_unread : {buffer : List ℕ} {o : Option Answer} {answer : LineAnswer} {after : List ℕ} {value : ℕ} → Given buffer o answer after → answer ≡ Refused no_reading value
     → (value ≡ 0) × (o ≡ none)
-given_unread no_answer e = (sym (same_with e), refl)
-given_unread (too_short l) e = let z = same_number e in absurd (omega arith)
+given_unread no_answer e = (sym (refused_value e), refl)
+given_unread (too_short l) e = let z = refused_number e in absurd (omega arith)
 given_unread (enough l) e = read_refused e
 
 unread_given : {buffer : List ℕ} {o : Option Answer} {answer : LineAnswer} {after : List ℕ} → Given buffer o answer after → o ≡ none → answer ≡ Refused no_reading 0
@@ -63,7 +57,7 @@ module _ (book line : Bytes) (buffer : List ℕ) where
   by_line : {value : ℕ} (B : Book) → parse book ≡ accepted B → (c : LineCheck) → line_check B line ≡ c → NamedLine c → (read_against B c buffer).answer ≡ Refused no_reading value
       → Unread value
   unfolding read_against
-  by_line B e (stopped number v) l named k = let z = same_number k in absurd (omega (arith, named.1))
+  by_line B e (stopped number v) l named k = let z = refused_number k in absurd (omega (arith, named.1))
   by_line B e (passed words) l named k = record {
     no_value = (given_unread (given_is buffer (first_of_book B words)) k).0;
     contents = B;
@@ -73,7 +67,7 @@ module _ (book line : Bytes) (buffer : List ℕ) where
 
   by_book : {value : ℕ} (p : Parsed) → parse book ≡ p → NamedParse p → (read_parsed p line buffer).answer ≡ Refused no_reading value → Unread value
   unfolding read_parsed
-  by_book (refused number v) e named k = let z = same_number k in absurd (⊎_elim (λ low. omega (arith, low.1)) (λ high. omega (arith, high.0)) named)
+  by_book (refused number v) e named k = let z = refused_number k in absurd (⊎_elim (λ low. omega (arith, low.1)) (λ high. omega (arith, high.0)) named)
   by_book (accepted B) e named k = by_line B e (line_check B line) refl (line_named B line) k
 
   pub unread_line : (value : ℕ) → (outcome book line buffer).answer ≡ Refused no_reading value → Unread value

@@ -9,8 +9,8 @@ use Rattle.book.specs.Format.{Book, accepted, parse}
 use Rattle.book.specs.Check.{BookNumber}
 use Rattle.linking.specs.Reading.{Words, IsReading, HasChain, IsFirst, Answer}
 use Rattle.line.specs.LineFaults.{passed, line_check}
-use Rattle.answer.specs.declared.LineAnswer.{LineAnswer}
-use Rattle.answer.specs.declared.LineAnswer.TheVariants.{Read}
+use Rattle.answer.specs.Answers.{LineAnswer}
+use Rattle.std.specs.Prelude.{Ok}
 use Rattle.answer.specs.Answers.{line_reply, values_of, answer_length}
 
 -- The order of a book: the reflexive and transitive closure of its pairs.
@@ -52,7 +52,7 @@ pub record Promised (book line : Bytes) (buffer : List ℕ) (answer : LineAnswer
   -- Only a line that breaks nothing is answered, and its answer is the first reading.
   pub answered : (line_reply answer after).number ≡ 0 → (B : Book) × (words : Words) × Readable book line B words × FirstWritten B words buffer (line_reply answer after).values after
   -- The number that comes with an answer, which the paper leaves free, is how many values it has.
-  pub counted : (n : ℕ) → answer ≡ Read n → n ≡ length (line_reply answer after).values
+  pub counted : (n : ℕ) → answer ≡ Ok n → n ≡ length (line_reply answer after).values
   -- A line with a reading gets one, if the buffer holds the first.
   pub found : (B : Book) (words : Words) → Readable book line B words → (t : ℕ) (entries partners : List ℕ) → IsReading (OrderOf B) B.targets words t entries partners
       → ((line_reply answer after).number ≡ 0) ⊎ ((v : ℕ) × TooShort B words buffer v)

@@ -7,8 +7,8 @@ use Rattle.book.specs.Format.{Book, Parsed, accepted, refused, parse}
 use Rattle.linking.specs.Reading.{first_reading}
 use Rattle.line.specs.LineFaults.{LineCheck, passed, stopped, line_check}
 use Rattle.answer.specs.Answers.{Outcome, given}
-use Rattle.answer.specs.declared.LineAnswer.{LineAnswer}
-use Rattle.answer.specs.declared.LineAnswer.TheVariants.{Refused}
+use Rattle.answer.specs.Answers.{LineAnswer}
+use Rattle.figures.specs.Refusals.{Refused}
 
 unfoldable pub read_against : Book → LineCheck → List ℕ → Outcome LineAnswer
 read_against B (stopped number value) buffer = record { answer = Refused number value; buffer = buffer }

@@ -4,7 +4,7 @@
 mod input;
 
 use input::{LINE_ROOM, MAX_LINE};
-use listing::{MAX_LISTING, Rendered, render};
+use listing::{MAX_LISTING, render};
 use reader::read_line;
 use std::io;
 use std::io::Write;
@@ -16,25 +16,24 @@ const VALUES: usize = 512;
 const BOOK_ROOM: usize = 65536;
 
 // Reads a line against a book, and writes the listing of its reading or the row of its refusal.
-fn answer_line(rt: &HostRuntime, book: &[u8], line: &[u8]) -> io::Result<()> {
-    let mut values = [0u16; VALUES];
+fn answer_line(rt: &impl Print, book: &[u8], line: &[u8]) -> io::Result<()> {
+    let mut values = [0; VALUES];
     let answer = read_line(book, line, &mut values);
-    let mut text = [0u8; MAX_LISTING];
-    let rendered = render(book, line, answer, &values, &mut text);
-    let Rendered::Written { bytes } = rendered else {
+    let mut text = [0; MAX_LISTING];
+    match render(book, line, answer, &values, &mut text) {
+        Ok(bytes) => io::writer(rt).write_all(&text[..bytes]),
         // Never taken: MAX_LISTING bytes always suffice (`answer_short`, `refusal_short`).
-        return Ok(());
-    };
-    io::writer(rt).write_all(&text[0..bytes])
+        Err(_) => Ok(()),
+    }
 }
 
 fn main(rt: HostRuntime) -> io::Result<()> {
-    let mut line = [0u8; LINE_ROOM];
+    let mut line = [0; LINE_ROOM];
     let length = input::take_line(&rt, &mut line);
     if MAX_LINE < length {
-        return io::writer(&rt).write_all(b"long\n");
+        return println!(rt; "long");
     }
-    let mut book = [0u8; BOOK_ROOM];
+    let mut book = [0; BOOK_ROOM];
     let size = input::take_book(&rt, &mut book);
     answer_line(&rt, &book[..size], &line[..length])
 }

@@ -2,8 +2,11 @@
 use Prim.Native.Nat.{ℕ, ◌-◌, ◌≤◌, ◌<◌}
 use native.Mathlib.Omega.{arith}
 use native.Mathlib.Decide.{dec_lt}
-use mathlib.Core.Path.{◌≡◌}
-use mathlib.Core.Bool.{true, false}
+use mathlib.Core.Path.{◌≡◌, refl}
+use mathlib.Core.Bool.{Bool, true, false}
+use mathlib.Core.List.{List, [], ◌∷◌}
+use Rattle.std.specs.List.{list_all}
+use Rattle.format.specs.Records.{every}
 use borrow.Author.Tests.{le-leb, lt-leb, lt-ltb, le-ltb}
 use Rattle.rules.specs.Layouts.{exponent_of}
 use Rattle.rules.specs.Rules.{exponent_listed}
@@ -23,3 +26,9 @@ exponent_no byte h k = go (dec_lt byte 128)
     go : Dec (byte < 128) → false ≡ exponent_listed (exponent_of byte)
     go (yes l) = rw (lt-ltb byte 128 l, lt-leb byte 8 h)
     go (no n) = rw (le-ltb byte 128 (omega (arith, n)), le-ltb (255 - byte) 8 (omega arith))
+
+-- The library's test of all elements is that of the specifications.
+pub all_every : {A : Type 0} (test : A → Bool) (xs : List A) → list_all test xs ≡ every test xs
+unfolding every
+all_every test [] = refl
+all_every test (x ∷ xs) = rw (all_every test xs)

@@ -2,10 +2,10 @@
 use Prim.Native.Nat.{ℕ, zero, suc, ◌+◌, ◌%◌, ◌≤◌, ◌<◌}
 use native.Mathlib.Omega.{arith}
 use mathlib.Core.Path.{◌≡◌, refl, sym, ap, ◌∙◌}
-use mathlib.Core.Bool.{Bool, true, false, ◌&&◌}
 use mathlib.Core.List.{List, [], ◌∷◌}
-use lib.ListN.{length, get_or}
-use borrow.Author.Tests.{lt-ltb, le-ltb}
+use lib.ListN.{length, get_or, take}
+use lib.Dec.{ltb}
+use Rattle.std.specs.List.{list_all}
 use Rattle.pregroup.specs.Types.{Simple, PregroupType, plain}
 use Rattle.pregroup.specs.Held.{held}
 use Rattle.pregroup.proofs.HeldLaws.{held_base}
@@ -20,30 +20,22 @@ module _ {places : List ℕ} {X : PregroupType} where
       let from : 0 + k ≡ k = omega arith in
       ap (λ (i : ℕ). held (get_or {A = ℕ} places i 0)) (sym from) ∙ h.each k l
 
--- One that is not declared decides; and where every one is declared, all are.
-bases_no : (types : ℕ) (X : PregroupType) (i : ℕ) → i < length X → types ≤ (get_or X i (plain 0)).base → every (declared_among types) (bases X) ≡ false
+-- So the test of the first places is that of all basic types.
+bases_all :
+    (places : List ℕ) (count types : ℕ) (X : PregroupType) → count ≤ length places → length X ≡ count
+    → ((i : ℕ) → i < length X → get_or {A = ℕ} places i 0 % 256 ≡ (get_or X i (plain 0)).base)
+    → list_all (λ (place : ℕ). ltb (place % 256) types) (take count places) ≡ every (declared_among types) (bases X)
 unfolding every
-bases_no types [] i h l = absurd (omega arith)
-bases_no types (x ∷ X) zero h l = rw (le-ltb x.base types l)
-bases_no types (x ∷ X) (suc i) h l =
-    let rest = bases_no types X i (omega arith) l in
-    go (declared_among types x.base) rest
-  where
-    go : (t : Bool) → every (declared_among types) (bases X) ≡ false → t && every (declared_among types) (bases X) ≡ false
-    go true e = e
-    go false e = refl
+bases_all places zero types [] few n h = refl
+bases_all places zero types (x ∷ X) few n h = absurd (omega arith)
+bases_all places (suc count) types [] few n h = absurd (omega arith)
+bases_all [] (suc count) types (x ∷ X) few n h = absurd (omega arith)
+bases_all (p ∷ places) (suc count) types (x ∷ X) few n h =
+    rw (h 0 (omega arith), bases_all places count types X (omega arith) (omega arith) (λ i l. h (suc i) (omega arith)))
 
-bases_yes : (types : ℕ) (X : PregroupType) → ((i : ℕ) → i < length X → (get_or X i (plain 0)).base < types) → every (declared_among types) (bases X) ≡ true
-unfolding every
-bases_yes types [] h = refl
-bases_yes types (x ∷ X) h = rw (lt-ltb x.base types (h 0 (omega arith)), bases_yes types X (λ i l. h (suc i) (omega arith)))
-
-module _ (places : List ℕ) (types : ℕ) (X : PregroupType) (h : Holds places 0 X) where
+module _ (places : List ℕ) (count : ℕ) (few : count ≤ length places) (types : ℕ) (X : PregroupType) (n : length X ≡ count) (h : Holds places 0 X) where
   base_at : (i : ℕ) → i < length X → get_or {A = ℕ} places i 0 % 256 ≡ (get_or X i (plain 0)).base
   base_at i l = sym (held_base (get_or {A = ℕ} places i 0)) ∙ ap (λ (x : Simple). x.base) (holds_at h i l)
 
-  pub held_no : (i : ℕ) → i < length X → types ≤ get_or {A = ℕ} places i 0 % 256 → every (declared_among types) (bases X) ≡ false
-  held_no i l k = bases_no types X i l (omega (arith, base_at i l))
-
-  pub held_yes : ((i : ℕ) → i < length X → types ≤ get_or {A = ℕ} places i 0 % 256 → ⊥) → every (declared_among types) (bases X) ≡ true
-  held_yes none = bases_yes types X (λ i l. omega (arith, base_at i l, none i l))
+  pub held_all : list_all (λ (place : ℕ). ltb (place % 256) types) (take count places) ≡ every (declared_among types) (bases X)
+  held_all = bases_all places count types X few n base_at

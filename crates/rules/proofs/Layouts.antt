@@ -1,45 +1,19 @@
--- The layouts of a word and of an entry, by the tests in their order: the first that fails decides, and the last is the answer.
-use Prim.Native.Nat.{ℕ, ◌*◌, ◌%◌, ◌≤◌, ◌<◌}
-use native.Mathlib.Omega.{arith}
+-- The layouts of a word and of an entry.
+use Prim.Native.Nat.{◌*◌, ◌%◌, ◌≤◌, ◌<◌}
 use mathlib.Core.Path.{◌≡◌}
-use mathlib.Core.Bool.{Bool, true, false}
-use lib.Dec.{leb}
-use lib.ListN.{length, get_or-eq_default}
-use borrow.Author.Tests.{lt-ltb, le-ltb, eq-eqb, ne_eqb, leb-true, ltb-true, eqb-true}
+use mathlib.Core.Bool.{Bool, true}
+use lib.ListN.{length}
+use borrow.Author.Tests.{lt-ltb, leb-true, ltb-true, eqb-true}
 use Rattle.figures.specs.Limits.{max_word, max_entry_simples}
 use Rattle.format.specs.Records.{Bytes, every, between}
 use Rattle.rules.specs.Layouts.{word_length, word_of, type_part, is_worded, is_entry}
-use Rattle.format.proofs.Bools.{inside, outside, both}
+use Rattle.format.proofs.Bools.{inside, both}
 
-module _ (body : Bytes) where
-  pub worded_length_no : (1 ≤ word_length body → word_length body ≤ max_word → ⊥) → false ≡ is_worded body
+-- A body whose length byte is in range is decided by its word.
+module _ (body : Bytes) (range : (1 ≤ word_length body) × (word_length body ≤ max_word)) where
+  pub worded_end : word_length body < length body → (t : Bool) → t ≡ every (between 33 126) (word_of body) → t ≡ is_worded body
   unfolding is_worded
-  worded_length_no h = rw (outside 1 max_word (word_length body) h)
-
-  pub worded_empty : length body < 1 → false ≡ is_worded body
-  worded_empty h = worded_length_no (omega (arith, get_or-eq_default {A = ℕ} body 0 {n = 0} (omega arith)))
-
-  module _ (range : (1 ≤ word_length body) × (word_length body ≤ max_word)) where
-    pub worded_past : length body ≤ word_length body → false ≡ is_worded body
-    unfolding is_worded
-    worded_past h = rw (inside 1 max_word (word_length body) range, le-ltb (word_length body) (length body) h)
-
-    pub worded_end : word_length body < length body → (t : Bool) → t ≡ every (between 33 126) (word_of body) → t ≡ is_worded body
-    unfolding is_worded
-    worded_end fits t word = rw (inside 1 max_word (word_length body) range, lt-ltb (word_length body) (length body) fits) word
-
-  pub entry_unworded : is_worded body ≡ false → false ≡ is_entry body
-  unfolding is_entry
-  entry_unworded e = rw e
-
-  module _ (worded : is_worded body ≡ true) where
-    pub entry_odd : (length (type_part body) % 2 ≡ 0 → ⊥) → false ≡ is_entry body
-    unfolding is_entry
-    entry_odd h = rw (worded, ne_eqb (length (type_part body) % 2) 0 h)
-
-    pub entry_end : length (type_part body) % 2 ≡ 0 → leb (length (type_part body)) (2 * max_entry_simples) ≡ is_entry body
-    unfolding is_entry
-    entry_end h = rw (worded, eq-eqb (length (type_part body) % 2) 0 h)
+  worded_end fits t word = rw (inside 1 max_word (word_length body) range, lt-ltb (word_length body) (length body) fits) word
 
 -- What it says that a body has a word in front.
 pub record WordShape (body : Bytes) : Type 0 where

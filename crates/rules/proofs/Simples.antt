@@ -1,5 +1,5 @@
 -- A loop over the simple types of an entry, two bytes each: as in Every, for a test of one part of each simple type.
-use Prim.Native.Nat.{ℕ, suc, ◌+◌, ◌≤◌, ◌<◌}
+use Prim.Native.Nat.{ℕ, suc, ◌+◌, ◌*◌, ◌≤◌, ◌<◌}
 use native.Mathlib.Numerals.{add-one, add-two}
 use native.Mathlib.Omega.{arith}
 use mathlib.Core.Path.{◌≡◌, ap, ◌∙◌}
@@ -31,6 +31,14 @@ module _ {A : Type 0} (f : Simple → A) (test : A → Bool) (part : Bytes) wher
       (i : ℕ) → i + 1 < length part → test (f (simple_from part i)) ≡ true
       → every test (map f (simples_of (drop i part))) ≡ every test (map f (simples_of (drop (i + 2) part)))
   simples_pass i h e = simples_at i h ∙ ap (λ (b : Bool). b && every test (map f (simples_of (drop (i + 2) part)))) e
+
+  -- The same from a pair to the next.
+  pub pairs_pass :
+      (k : ℕ) → 2 * k + 1 < length part → test (f (simple_from part (2 * k))) ≡ true
+      → every test (map f (simples_of (drop (2 * k) part))) ≡ every test (map f (simples_of (drop (2 * (k + 1)) part)))
+  pairs_pass k h e =
+      let next : 2 * k + 2 ≡ 2 * (k + 1) = omega arith in
+      simples_pass (2 * k) h e ∙ ap (λ (i : ℕ). every test (map f (simples_of (drop i part)))) next
 
   pub simples_end : (i : ℕ) → length part ≤ i → every test (map f (simples_of (drop i part))) ≡ true
   unfolding every simples_of

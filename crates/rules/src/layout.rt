@@ -1,14 +1,15 @@
 // The kinds of records and the layout of an entry's body: byte ranges for words and exponents, and the layouts built from them, as specs/Layouts
 // has them.
 ghost use Rattle.std.specs.Prelude.{◌≡◌, true, ◌<◌, length};
-ghost use Rattle.format.specs.Records.{between, every};
+ghost use Rattle.std.specs.List.{list_all};
+ghost use Rattle.format.specs.Records.{between};
 ghost use Rattle.rules.specs.Layouts.{exponent_of, is_worded, is_entry, word_length, word_of, type_part};
 ghost use Rattle.rules.specs.Rules.{exponent_listed};
 
 use bytewise::widths::wide_byte;
 use figures::limits::{MAX_ENTRY_SIMPLES, MAX_EXPONENT, MAX_WORD};
 
-// The numbers of the listed kinds of records. The type of a slashed entry is a text.
+// The numbers of the listed kinds of records. The type of a slashed entry is a text. They are no enum: a head may hold any number, and the code goes by it.
 pub const BASIC_TYPE: usize = 1;
 
 pub const ORDER_PAIR: usize = 2;
@@ -25,56 +26,36 @@ pub const LEAST_EXPONENT: u8 = 255 - (MAX_EXPONENT - 1);
 fn is_word_byte(byte: u8) -> bool
     ensures { result ≡ between 33 126 byte }
 {
-    match byte {
-        33..=126 => true,
-        _ => false,
-    }
+    matches!(byte, 33..=126)
 }
 
 // Whether a byte holds an exponent from -8 to 8, in two's complement.
 pub fn is_exponent(byte: u8) -> bool
     ensures { result ≡ exponent_listed (exponent_of byte) }
 {
-    match byte {
-        0..=MAX_EXPONENT | LEAST_EXPONENT..=255 => true,
-        _ => false,
-    }
+    matches!(byte, 0..=MAX_EXPONENT | LEAST_EXPONENT..=255)
 }
 
 fn all_word_bytes(bytes: &[u8]) -> bool
-    ensures { result ≡ every (between 33 126) bytes.now }
+    ensures { result ≡ list_all (between 33 126) bytes.now }
 {
-    let mut i = 0;
-    while i < bytes.len() {
-        if !is_word_byte(bytes[i]) {
-            return false;
-        }
-        i += 1;
-    }
-    true
+    bytes.iter().all(|byte| is_word_byte(*byte))
 }
 
 // Whether a body has a word in front: the word's length, then the word.
+#[tactic(auto, unfolding(crate::specs::Layouts::is_worded))]
 pub fn is_worded(body: &[u8]) -> bool
     ensures { result ≡ is_worded body.now }
 {
-    if body.len() < 1 {
+    let Some(first) = body.first() else {
         return false;
-    }
-    let length = wide_byte(body[0]);
-    if length < 1 {
-        return false;
-    }
-    if MAX_WORD < length {
-        return false;
-    }
-    if body.len() <= length {
-        return false;
-    }
-    all_word_bytes(word_part(body))
+    };
+    let length = wide_byte(*first);
+    1 <= length && length <= MAX_WORD && length < body.len() && all_word_bytes(word_part(body))
 }
 
 // Whether a body is that of an entry with simple types: behind its word stand pairs of a type number and an exponent.
+#[tactic(auto, unfolding(crate::specs::Layouts::is_entry))]
 pub fn is_entry(body: &[u8]) -> bool
     ensures { result ≡ is_entry body.now }
 {
@@ -82,10 +63,7 @@ pub fn is_entry(body: &[u8]) -> bool
         return false;
     }
     let part = type_part(body);
-    if part.len() % 2 != 0 {
-        return false;
-    }
-    part.len() <= 2 * MAX_ENTRY_SIMPLES
+    part.len() % 2 == 0 && part.len() <= 2 * MAX_ENTRY_SIMPLES
 }
 
 // The part of an entry's body that holds its type.

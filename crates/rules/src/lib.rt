@@ -1,12 +1,13 @@
-// The rules for one record: the number that it is refused with, that of the first rule it breaks, or 0. The functions go by the record's kind,
+// The rules for one record: the cause that it is refused for, which is that of the first rule it breaks. The functions go by the record's kind,
 // each over the record's body as a part of the book.
 #![tactic(auto)]
 
-ghost use Rattle.std.specs.Prelude.{◌≡◌, true, cond, List, ℕ, ◌+◌, ◌%◌, ◌≤◌, ◌<◌, length};
+ghost use Rattle.std.specs.Prelude.{◌≡◌, true, cond, List, ℕ, ◌+◌, ◌%◌, ltb, ◌≤◌, ◌<◌, length};
+ghost use Rattle.std.specs.List.{list_all};
 ghost use Rattle.pregroup.specs.Types.{PregroupType};
 ghost use Rattle.format.specs.Records.{Bytes, every, bodies_at};
 ghost use Rattle.format.specs.Names.{Named};
-ghost use Rattle.figures.specs.Refusals.{brackets_too_deep, not_a_type};
+ghost use Rattle.figures.specs.Refusals.{brackets_too_deep, not_a_type, number_of, fault_number};
 ghost use Rattle.notation.specs.Brackets.{too_deep};
 ghost use Rattle.notation.specs.Places.{Holds};
 ghost use Rattle.rules.specs.Layouts.{basic_type, order_pair, entry, target, slashed_entry, type_part, is_worded, simples_of};
@@ -18,10 +19,7 @@ use crate::layout::{
 };
 use bytewise::widths::{two_bytes, wide_byte, wide_number};
 use figures::limits::{MAX_ENTRIES, MAX_ENTRY_SIMPLES, MAX_TARGETS, MAX_TEXT_SIMPLES, MAX_TYPES};
-use figures::refusals::{
-    BAD_LAYOUT, BRACKETS_TOO_DEEP, CUT_SHORT, EXPONENT_OUTSIDE, KIND_NOT_LISTED, NAME_USED,
-    NOT_A_TYPE, TOO_MANY_RECORDS, TOO_MANY_TARGETS, TYPE_TOO_LONG, UNDECLARED_TYPE,
-};
+use figures::refusals::Cause;
 use format::layout::{HEAD, body_at};
 use format::names::{is_name, search_name};
 use notation::brackets::is_too_deep;
@@ -34,12 +32,11 @@ fn all_declared(part: &[u8], types: usize) -> bool
     requires { length part.now % 2 ≡ 0 }
     ensures { result ≡ every (declared_among types) (bases (simples_of part.now)) }
 {
-    let mut i = 0;
-    while i < part.len() {
-        if types <= wide_byte(part[i]) {
+    // A chain over `chunks_exact(2)` was tried, and its proof did not close.
+    for k in 0..part.len() / 2 {
+        if types <= wide_byte(part[2 * k]) {
             return false;
         }
-        i += 2;
     }
     true
 }
@@ -49,150 +46,152 @@ fn all_exponents(part: &[u8]) -> bool
     requires { length part.now % 2 ≡ 0 }
     ensures { result ≡ every exponent_listed (exponents (simples_of part.now)) }
 {
-    let mut i = 0;
-    while i < part.len() {
-        if !is_exponent(part[i + 1]) {
+    // As in `all_declared`, and a function of the test would need a law for each.
+    for k in 0..part.len() / 2 {
+        if !is_exponent(part[2 * k + 1]) {
             return false;
         }
-        i += 2;
     }
     true
 }
 
-// Whether the basic types at the first places are all below the number of basic types.
-fn held_declared(places: &[u16], count: usize, types: usize) -> bool
-    requires { count ≤ length places.now }
-    ensures { (X : PregroupType) → length X ≡ count → Holds places.now 0 X → result ≡ every (declared_among types) (bases X) }
+// Whether the basic types of the places are all below the number of basic types.
+fn held_declared(places: &[u16], types: usize) -> bool
+    ensures { result ≡ list_all (λ place. ltb (place % 256) types) places.now }
 {
-    let mut i = 0;
-    while i < count {
-        if types <= wide_number(places[i]) % 256 {
-            return false;
-        }
-        i += 1;
-    }
-    true
+    places.iter().all(|place| wide_number(*place) % 256 < types)
 }
 
 // The rules for a basic type: its layout, a name used before, one too many.
-fn name_fault(book: &[u8], names: &[u16], types: usize, body: &[u8]) -> u32
+fn name_fault(book: &[u8], names: &[u16], types: usize, body: &[u8]) -> Result<(), Cause>
     requires { Named book.now names.now types }
-    ensures { (entries targets : ℕ) → result ≡ first_broken
+    ensures { (entries targets : ℕ) → fault_number result ≡ first_broken
         (kind_rules basic_type body.now (bodies_at book.now names.now types) entries targets) }
 {
     if !is_name(body) {
-        return BAD_LAYOUT;
+        return Err(Cause::BadLayout);
     }
     if search_name(book, names, types, body) < types {
-        return NAME_USED;
+        return Err(Cause::NameUsed);
     }
     if MAX_TYPES <= types {
-        return TOO_MANY_RECORDS;
+        return Err(Cause::TooManyRecords);
     }
-    0
+    Ok(())
 }
 
 // The rules for an order pair: its layout, and two declared type numbers.
-fn pair_fault(body: &[u8], types: usize) -> u32
-    ensures { (names : List Bytes) (entries targets : ℕ) → length names ≡ types → result ≡ first_broken
+fn pair_fault(body: &[u8], types: usize) -> Result<(), Cause>
+    ensures { (names : List Bytes) (entries targets : ℕ) → length names ≡ types → fault_number result ≡ first_broken
         (kind_rules order_pair body.now names entries targets) }
 {
     if body.len() != 2 {
-        return BAD_LAYOUT;
+        return Err(Cause::BadLayout);
     }
     if types <= wide_byte(body[0]) {
-        return UNDECLARED_TYPE;
+        return Err(Cause::UndeclaredType);
     }
     if types <= wide_byte(body[1]) {
-        return UNDECLARED_TYPE;
+        return Err(Cause::UndeclaredType);
     }
-    0
+    Ok(())
 }
 
 // The rules for an entry: its layout, declared type numbers, exponents from -8 to 8, one too many.
-fn entry_fault(body: &[u8], types: usize, entries: usize) -> u32
-    ensures { (names : List Bytes) (targets : ℕ) → length names ≡ types → result ≡ first_broken
+fn entry_fault(body: &[u8], types: usize, entries: usize) -> Result<(), Cause>
+    ensures { (names : List Bytes) (targets : ℕ) → length names ≡ types → fault_number result ≡ first_broken
         (kind_rules entry body.now names entries targets) }
 {
     if !is_entry(body) {
-        return BAD_LAYOUT;
+        return Err(Cause::BadLayout);
     }
     let part = type_part(body);
     if !all_declared(part, types) {
-        return UNDECLARED_TYPE;
+        return Err(Cause::UndeclaredType);
     }
     if !all_exponents(part) {
-        return EXPONENT_OUTSIDE;
+        return Err(Cause::ExponentOutside);
     }
     if MAX_ENTRIES <= entries {
-        return TOO_MANY_RECORDS;
+        return Err(Cause::TooManyRecords);
     }
-    0
+    Ok(())
 }
 
-// The number for a text that could not be read: its brackets are too deep, or it is no type.
-fn unread_fault(text: &[u8]) -> u32
-    ensures { result ≡ cond (too_deep text.now) brackets_too_deep not_a_type }
+// The cause for a text that could not be read: its brackets are too deep, or it is no type.
+fn unread_fault(text: &[u8]) -> Cause
+    ensures { number_of result ≡ cond (too_deep text.now) brackets_too_deep not_a_type }
 {
     if is_too_deep(text) {
-        return BRACKETS_TOO_DEEP;
+        return Cause::BracketsTooDeep;
     }
-    NOT_A_TYPE
+    Cause::NotAType
 }
 
 // The rules for the text of a slashed entry: brackets that are too deep, a type, declared names, its length, one entry too many.
-fn text_fault(book: &[u8], names: &[u16], types: usize, text: &[u8], entries: usize) -> u32
+fn text_fault(
+    book: &[u8],
+    names: &[u16],
+    types: usize,
+    text: &[u8],
+    entries: usize,
+) -> Result<(), Cause>
     requires { Named book.now names.now types }
-    ensures { (body : Bytes) (targets : ℕ) → is_worded body ≡ true → type_part body ≡ text.now → result ≡ first_broken
+    ensures { (body : Bytes) (targets : ℕ) → is_worded body ≡ true → type_part body ≡ text.now → fault_number result ≡ first_broken
         (kind_rules slashed_entry body (bodies_at book.now names.now types) entries targets) }
 {
     let mut places = [0u16; MAX_TEXT_SIMPLES];
-    let count = read_text(text, book, names, types, &mut places);
-    if count == 0 {
-        return unread_fault(text);
-    }
-    if !held_declared(&places, count, types) {
-        return UNDECLARED_TYPE;
+    let Some(count) = read_text(text, book, names, types, &mut places) else {
+        return Err(unread_fault(text));
+    };
+    if !held_declared(&places[..count], types) {
+        return Err(Cause::UndeclaredType);
     }
     if MAX_ENTRY_SIMPLES < count {
-        return TYPE_TOO_LONG;
+        return Err(Cause::TypeTooLong);
     }
     if MAX_ENTRIES <= entries {
-        return TOO_MANY_RECORDS;
+        return Err(Cause::TooManyRecords);
     }
-    0
+    Ok(())
 }
 
 // The rules for a slashed entry: its layout, then those for its text.
-fn slashed_fault(book: &[u8], names: &[u16], types: usize, body: &[u8], entries: usize) -> u32
+fn slashed_fault(
+    book: &[u8],
+    names: &[u16],
+    types: usize,
+    body: &[u8],
+    entries: usize,
+) -> Result<(), Cause>
     requires { Named book.now names.now types }
-    ensures { (targets : ℕ) → result ≡ first_broken
+    ensures { (targets : ℕ) → fault_number result ≡ first_broken
         (kind_rules slashed_entry body.now (bodies_at book.now names.now types) entries targets) }
 {
     if !is_worded(body) {
-        return BAD_LAYOUT;
+        return Err(Cause::BadLayout);
     }
     text_fault(book, names, types, type_part(body), entries)
 }
 
 // The rules for a target: its layout, a declared type number, fewer than eight targets before.
-fn target_fault(body: &[u8], types: usize, targets: usize) -> u32
-    ensures { (names : List Bytes) (entries : ℕ) → length names ≡ types → result ≡ first_broken
+fn target_fault(body: &[u8], types: usize, targets: usize) -> Result<(), Cause>
+    ensures { (names : List Bytes) (entries : ℕ) → length names ≡ types → fault_number result ≡ first_broken
         (kind_rules target body.now names entries targets) }
 {
     if body.len() != 1 {
-        return BAD_LAYOUT;
+        return Err(Cause::BadLayout);
     }
     if types <= wide_byte(body[0]) {
-        return UNDECLARED_TYPE;
+        return Err(Cause::UndeclaredType);
     }
     if MAX_TARGETS <= targets {
-        return TOO_MANY_TARGETS;
+        return Err(Cause::TooManyTargets);
     }
-    0
+    Ok(())
 }
 
-// The rules for the record at an offset of the book: the number that it is refused with, or 0.
+// The rules for the record at an offset of the book.
 pub fn record_fault(
     book: &[u8],
     at: usize,
@@ -200,17 +199,17 @@ pub fn record_fault(
     types: usize,
     entries: usize,
     targets: usize,
-) -> u32
+) -> Result<(), Cause>
     requires { (at ≤ length book.now) × Named book.now names.now types }
-    ensures { result ≡ first_broken (record_rules book.now at (bodies_at book.now names.now types) entries
+    ensures { fault_number result ≡ first_broken (record_rules book.now at (bodies_at book.now names.now types) entries
         targets) }
 {
     if book.len() - at < HEAD {
-        return CUT_SHORT;
+        return Err(Cause::CutShort);
     }
     let left = book.len() - at - HEAD;
     if left < two_bytes(book, at) {
-        return CUT_SHORT;
+        return Err(Cause::CutShort);
     }
     let body = body_at(book, at);
     let kind = two_bytes(book, at + 2);
@@ -220,6 +219,6 @@ pub fn record_fault(
         ENTRY => entry_fault(body, types, entries),
         TARGET => target_fault(body, types, targets),
         SLASHED_ENTRY => slashed_fault(book, names, types, body, entries),
-        _ => KIND_NOT_LISTED,
+        _ => Err(Cause::KindNotListed),
     }
 }

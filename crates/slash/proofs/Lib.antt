@@ -3,5 +3,4 @@ pub mod PlaceLaws
 pub mod ParserLaws
 pub mod Composing
 pub mod NamesRead
-pub mod Stages
 pub mod TextRead

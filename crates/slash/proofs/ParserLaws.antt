@@ -3,7 +3,10 @@ use Prim.Native.Nat.{ℕ, zero, suc, ◌+◌, ◌≤◌, ◌<◌}
 use native.Mathlib.Omega.{arith}
 use native.Mathlib.Numerals.{add-one}
 use mathlib.Core.Path.{◌≡◌, refl, sym, ap, ◌∙◌}
-use mathlib.Core.Option.{Option, none, some}
+use mathlib.Core.Option.{Option as Maybe, none, some}
+use Rattle.std.proofs.Common.{None, Some}
+use Rattle.std.specs.Slice.{IsItemAt}
+use denote.Ref.{Bor}
 use mathlib.Core.List.{List, ◌∷◌}
 use borrow.Author.Tests.{eq-eqb, ne_eqb}
 use lib.ListN.{length, get_or, drop, drop_of_length-le}
@@ -16,42 +19,45 @@ use Rattle.slash.specs.Parsing.{FrontWritten, Says, neither, written}
 use Rattle.slash.specs.declared.Found.{Found}
 
 -- What a parser says, by what stands at the front.
-module _ {sense : Tree → PregroupType} {text : Bytes} {o : Option Front} {n m from : ℕ} {places places' : List ℕ} {r : Found} where
-  pub says_nothing : o ≡ none → r.end ≡ 0 → Says sense text o n m from places places' r
-  says_nothing e z = rw e (neither z)
+module _ {sense : Tree → PregroupType} {text : Bytes} {o : Maybe Front} {n m from : ℕ} {places places' : List ℕ} where
+  pub says_nothing : o ≡ none → Says sense text o n m from places places' None
+  says_nothing e = rw e neither
 
-  pub says_front : {f : Front} → o ≡ some f → FrontWritten sense text f n m from places places' r.behind r.end → Says sense text o n m from places places' r
+  pub says_front : {f : Front} {r : Found} → o ≡ some f → FrontWritten sense text f n m from places places' r.behind r.end
+      → Says sense text o n m from places places' (Some r)
   says_front e w = rw e (written w)
 
 pub said_nothing :
-    {sense : Tree → PregroupType} {text : Bytes} {o : Option Front} {n m from : ℕ} {places places' : List ℕ} {r : Found}
-    → Says sense text o n m from places places' r → r.end ≡ 0 → o ≡ none
-said_nothing (neither z) e = refl
-said_nothing (written w) e = absurd (omega (arith, w.filled, e))
+    {sense : Tree → PregroupType} {text : Bytes} {o : Maybe Front} {n m from : ℕ} {places places' : List ℕ}
+    → Says sense text o n m from places places' None → o ≡ none
+said_nothing neither = refl
 
 -- What stands at the front, and how it is written.
-pub record Read (sense : Tree → PregroupType) (text : Bytes) (o : Option Front) (n m from : ℕ) (places places' : List ℕ) (behind end : ℕ) : Type 0 where
+pub record Read (sense : Tree → PregroupType) (text : Bytes) (o : Maybe Front) (n m from : ℕ) (places places' : List ℕ) (r : Found) : Type 0 where
   pub front : Front
   pub is : o ≡ some front
-  pub how : FrontWritten sense text front n m from places places' behind end
+  pub how : FrontWritten sense text front n m from places places' r.behind r.end
 
 pub said_front :
-    {sense : Tree → PregroupType} {text : Bytes} {o : Option Front} {n m from : ℕ} {places places' : List ℕ} {r : Found}
-    → Says sense text o n m from places places' r → (r.end ≡ 0 → ⊥) → Read sense text o n m from places places' r.behind r.end
-said_front (neither z) other = absurd (other z)
-said_front (written {f} w) other = record { front = f; is = refl; how = w }
+    {sense : Tree → PregroupType} {text : Bytes} {o : Maybe Front} {n m from : ℕ} {places places' : List ℕ} {r : Found}
+    → Says sense text o n m from places places' (Some r) → Read sense text o n m from places places' r
+said_front (written {f} w) = record { front = f; is = refl; how = w }
+
+-- A byte that is looked up.
+pub byte_got : (text : Bytes) (at : ℕ) (b : Bor ℕ) → IsItemAt text at (Some b) → (at < length text) × (b.now ≡ get_or {A = ℕ} text at 0)
+byte_got text at b i = (i.3.0, i.4 (omega arith) 0)
 
 -- The first byte of a unit, and the byte behind its first unit in a type.
 module _ (b : ℕ) (text : Bytes) where
-  byte_name : (type : Bytes → Option Front) → (b ≡ opening → ⊥) → unit_by type (b ∷ text) ≡ name_at (b ∷ text)
+  byte_name : (type : Bytes → Maybe Front) → (b ≡ opening → ⊥) → unit_by type (b ∷ text) ≡ name_at (b ∷ text)
   unfolding unit_by
   byte_name type other = rw (ne_eqb b opening other, unit_by)
 
-  byte_opens : (type : Bytes → Option Front) → b ≡ opening → unit_by type (b ∷ text) ≡ closed (type text)
+  byte_opens : (type : Bytes → Maybe Front) → b ≡ opening → unit_by type (b ∷ text) ≡ closed (type text)
   unfolding unit_by
   byte_opens type e = rw e
 
-  module _ (unit : Bytes → Option Front) (A : Tree) where
+  module _ (unit : Bytes → Maybe Front) (A : Tree) where
     byte_over : b ≡ slash → second_by unit A (b ∷ text) ≡ joined (λ B. over A B) (unit text)
     unfolding second_by
     byte_over e = rw e
@@ -109,7 +115,7 @@ module _ (text : Bytes) (at : ℕ) where
     closed_there h bracket = rw (split h, eq-eqb byte_at closing bracket)
 
   -- Types, behind their first unit.
-  module _ (unit : Bytes → Option Front) (A : Tree) where
+  module _ (unit : Bytes → Maybe Front) (A : Tree) where
     pub second_empty : length text ≤ at → behind_first unit (some (front A (drop at text))) ≡ some (front A (drop at text))
     unfolding behind_first second_by
     second_empty h = rw (drop_of_length-le text h)

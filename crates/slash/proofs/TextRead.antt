@@ -1,7 +1,6 @@
 -- A whole text, by what stands at its front as a type: it has that type where nothing is left behind it, and no type else, or too deep brackets.
 use Prim.Native.Nat.{ℕ, suc, ◌≤◌, ◌<◌}
 use native.Mathlib.Omega.{arith}
-use native.Mathlib.Decide.{ℕ_discrete}
 use mathlib.Core.Path.{◌≡◌, refl, sym, ap, ◌∙◌}
 use mathlib.Core.Bool.{Bool, true, false, cond}
 use mathlib.Core.Option.{none, some}
@@ -14,10 +13,10 @@ use Rattle.format.specs.Records.{Bytes}
 use Rattle.notation.specs.Grammar.{Tree, meaning}
 use Rattle.notation.specs.Brackets.{too_deep}
 use Rattle.notation.specs.Trees.{type_at, whole_by, whole, meaning_of, text_type, shallow_type}
-use Rattle.slash.specs.Parsing.{Says, TextSays}
+use Rattle.slash.specs.Parsing.{TextSays}
 use Rattle.slash.specs.declared.Found.{Found}
 use Rattle.notation.proofs.TreeLaws.{shallow_tree, deep_not_read}
-use Rattle.slash.proofs.ParserLaws.{said_nothing, Read, said_front}
+use Rattle.slash.proofs.ParserLaws.{Read}
 
 -- A tree with the rest of a text behind it.
 module _ (T : Tree) (text : Bytes) (behind : ℕ) where
@@ -45,40 +44,26 @@ none_read {names} {text} e =
     let is : shallow_type names text ≡ [] = type_read names text ∙ ap (meaning_of names) e in
     record { all = rw is; few = omega arith; holds = rw is (record { each = λ k l. absurd (omega arith) }) }
 
--- The tree that is read, by the type at the text's front.
+-- A whole text, by the type at its front and what stands behind it.
+pub text_nothing : {names : List Bytes} {text : Bytes} {places : List ℕ} → type_at max_depth text ≡ none → TextSays names text places 0
+unfolding whole
+text_nothing e = none_read (ap whole e)
+
 tree_read :
-    {sense : Tree → PregroupType} {text : Bytes} {n m from behind end : ℕ} {places places' : List ℕ}
-    (t : Read sense text (type_at max_depth text) n m from places places' behind end)
-    → whole (type_at max_depth text) ≡ whole_by t.front.tree (drop behind text)
+    {sense : Tree → PregroupType} {text : Bytes} {n m from : ℕ} {places places' : List ℕ} {r : Found}
+    (t : Read sense text (type_at max_depth text) n m from places places' r)
+    → whole (type_at max_depth text) ≡ whole_by t.front.tree (drop r.behind text)
 unfolding whole
 tree_read t = ap whole t.is ∙ ap (whole_by t.front.tree) (sym t.how.left)
 
 module _ {names : List Bytes} {text : Bytes} {places places' : List ℕ} {r : Found}
-    (s : Says (meaning names) text (type_at max_depth text) (suc max_depth) (suc max_depth) 0 places places' r) where
-  text_nothing : r.end ≡ 0 → TextSays names text places' 0
-  unfolding whole
-  text_nothing e = none_read (ap whole (said_nothing s e))
-
+    (t : Read (meaning names) text (type_at max_depth text) (suc max_depth) (suc max_depth) 0 places places' r) where
   pub text_more : r.behind < length text → TextSays names text places' 0
-  text_more h = go (ℕ_discrete r.end 0)
-    where
-      go : Dec (r.end ≡ 0) → TextSays names text places' 0
-      go (yes e) = text_nothing e
-      go (no e) =
-          let t = said_front s e in
-          none_read (tree_read t ∙ whole_more t.front.tree text r.behind h)
+  text_more h = none_read (tree_read t ∙ whole_more t.front.tree text r.behind h)
 
-  text_some : length text ≤ r.behind → (r.end ≡ 0 → ⊥) → TextSays names text places' r.end
+  pub text_all : length text ≤ r.behind → (0 < r.end) × TextSays names text places' r.end
   unfolding meaning_of
-  text_some h e =
-      let t = said_front s e in
+  text_all h =
       let tree = tree_read t ∙ whole_all t.front.tree text r.behind h in
       let is : shallow_type names text ≡ meaning names t.front.tree = type_read names text ∙ ap (meaning_of names) tree in
-      record { all = rw is (omega (arith, t.how.count)); few = omega (arith, t.how.few); holds = rw is t.how.holds }
-
-  pub text_all : length text ≤ r.behind → TextSays names text places' r.end
-  text_all h = go (ℕ_discrete r.end 0)
-    where
-      go : Dec (r.end ≡ 0) → TextSays names text places' r.end
-      go (yes e) = rw e (text_nothing e)
-      go (no e) = text_some h e
+      (t.how.filled, record { all = rw is (omega (arith, t.how.count)); few = omega (arith, t.how.few); holds = rw is t.how.holds })

@@ -3,12 +3,12 @@ use Prim.Native.Nat.{ℕ, zero, suc, ◌+◌, ◌≤◌, ◌<◌}
 use native.Mathlib.Omega.{arith}
 use native.Mathlib.Decide.{dec_lt}
 use mathlib.Core.Path.{◌≡◌, refl, sym, ap, subst, ◌∙◌}
-use mathlib.Core.Bool.{Bool, true, false, ◌&&◌, ◌||◌, true≢false, false≢true}
+use mathlib.Core.Bool.{Bool, true, false, ◌||◌, true≢false}
 use mathlib.Core.List.{List, [], ◌∷◌}
 use lib.Dec.{eqb}
 use lib.ListN.{length, get_or, set, length-set}
 use lib.Seq.{get_or-set_same}
-use borrow.Author.Tests.{ne_eqb}
+use borrow.Author.Tests.{eqb-true, eq-eqb, ne_eqb}
 use Rattle.linking.specs.Reading.{NumberedEntry}
 use Rattle.pregroup.specs.Types.{PregroupType}
 use Rattle.format.specs.Records.{Bytes, bodies_at}
@@ -29,25 +29,19 @@ some_long : (n : ℕ) → eqb (suc n) 0 ≡ false
 some_long n = ne_eqb (suc n) 0 (λ e. omega arith)
 
 -- Which entries get a slot.
-slotted_passed : (seen : Bool) (e : NumberedEntry) (es : List NumberedEntry) → has_none e.type && seen ≡ true → slotted seen (e ∷ es) ≡ slotted seen es
+slotted_passed : (e : NumberedEntry) (es : List NumberedEntry) → has_none e.type ≡ true → slotted true (e ∷ es) ≡ slotted true es
 unfolding slotted
-slotted_passed seen e es h = go (has_none e.type) seen h
-  where
-    go : (empty seen : Bool) → empty && seen ≡ true
-        → (elim empty [ true ↦ elim seen [ true ↦ slotted true es | false ↦ e ∷ slotted true es ] | false ↦ e ∷ slotted seen es ]) ≡ slotted seen es
-    go true true h = refl
-    go true false h = absurd (false≢true h)
-    go false seen h = absurd (false≢true h)
+slotted_passed e es h = rw (h, slotted)
 
 slotted_taken :
-    (seen : Bool) (e : NumberedEntry) (es : List NumberedEntry) → has_none e.type && seen ≡ false
+    (seen : Bool) (e : NumberedEntry) (es : List NumberedEntry) → (has_none e.type ≡ true → seen ≡ false)
     → slotted seen (e ∷ es) ≡ e ∷ slotted (has_none e.type || seen) es
 unfolding slotted
 slotted_taken seen e es h = go (has_none e.type) seen h
   where
-    go : (empty seen : Bool) → empty && seen ≡ false
+    go : (empty seen : Bool) → (empty ≡ true → seen ≡ false)
         → (elim empty [ true ↦ elim seen [ true ↦ slotted true es | false ↦ e ∷ slotted true es ] | false ↦ e ∷ slotted seen es ]) ≡ e ∷ slotted (empty || seen) es
-    go true true h = absurd (true≢false h)
+    go true true h = absurd (true≢false (h refl))
     go true false h = refl
     go false seen h = refl
 
@@ -113,19 +107,13 @@ module _ (x : EntryType) (number b : ℕ) (p : Place) (g : Graph) (f : SlotFits 
   abbrev entry : NumberedEntry
   entry = record { number = number; type = type_held x }
 
-  pub slot_passed : eqb x.count 0 && p.seen ≡ true → (rest : List NumberedEntry) → Lays b p g p g (entry ∷ rest) rest
-  slot_passed h rest =
+  pub slot_passed : x.count ≡ 0 → p.seen ≡ true → (rest : List NumberedEntry) → Lays b p g p g (entry ∷ rest) rest
+  slot_passed none seen rest =
       let e = simples_more entry rest in
-      let n : x.count ≡ 0 = none_long x.count p.seen h in
-      lays_same b p g (entry ∷ rest) rest f.place (slotted_passed p.seen entry rest (rw (held_none x.count 0 x.simples) h)) (omega (arith, held_length x.count 0 x.simples))
-    where
-      none_long : (n : ℕ) (seen : Bool) → eqb n 0 && seen ≡ true → n ≡ 0
-      none_long zero seen h = omega arith
-      none_long (suc n) seen h =
-          let e : false && seen ≡ true = rw (some_long n) at h in
-          absurd (false≢true e)
+      let empty : has_none (type_held x) ≡ true = held_none x.count 0 x.simples ∙ eq-eqb x.count 0 none in
+      lays_same b p g (entry ∷ rest) rest f.place (rw seen (slotted_passed entry rest empty)) (omega (arith, held_length x.count 0 x.simples))
 
-  module _ (taken : eqb x.count 0 && p.seen ≡ false) (nodes : List ℕ) (nodes_kept : length nodes ≡ length g.nodes) (first : ℕ)
+  module _ (taken : x.count ≡ 0 → p.seen ≡ false) (nodes : List ℕ) (nodes_kept : length nodes ≡ length g.nodes) (first : ℕ)
       (t : Typed x p.node b g.nodes nodes first) (new : ℕ) (enters : entered_in new ≡ first) (numbered : number_in new ≡ number) where
     abbrev p' : Place
     p' = record { node = p.node + x.count; slot = p.slot + 1; seen = eqb x.count 0 || p.seen }
@@ -137,9 +125,9 @@ module _ (x : EntryType) (number b : ℕ) (p : Place) (g : Graph) (f : SlotFits 
     room : (p.slot < p.node + x.count) × (p'.seen ≡ false → p.slot + 1 < p.node + x.count)
     room = go x.count p.seen taken f.place.spare
       where
-        go : (n : ℕ) (seen : Bool) → eqb n 0 && seen ≡ false → (seen ≡ false → p.slot < p.node)
+        go : (n : ℕ) (seen : Bool) → (n ≡ 0 → seen ≡ false) → (seen ≡ false → p.slot < p.node)
             → (p.slot < p.node + n) × (eqb n 0 || seen ≡ false → p.slot + 1 < p.node + n)
-        go zero true h spare = absurd (true≢false h)
+        go zero true h spare = absurd (true≢false (h refl))
         go zero false h spare = (omega (arith, spare refl), λ e. absurd (true≢false e))
         go (suc n) seen h spare = (omega (arith, f.place.few), λ e. omega (arith, spare (rw (some_long n) at e)))
 
@@ -165,7 +153,7 @@ module _ (x : EntryType) (number b : ℕ) (p : Place) (g : Graph) (f : SlotFits 
     slots' rest h k boundary to s =
         let empty = held_none x.count 0 x.simples in
         let order : slotted p.seen (entry ∷ rest) ≡ entry ∷ slotted p'.seen rest =
-        slotted_taken p.seen entry rest (rw empty taken) ∙ ap (λ (z : Bool). entry ∷ slotted (z || p.seen) rest) empty in
+        slotted_taken p.seen entry rest (λ e. taken (eqb-true x.count 0 (sym empty ∙ e))) ∙ ap (λ (z : Bool). entry ∷ slotted (z || p.seen) rest) empty in
         let same : get_or {A = ℕ} h.slots p.slot 0 ≡ new = k.slots p.slot (omega arith) (omega arith) ∙ here in
         let leads : entered_at h.slots p.slot ≡ first = ap entered_in same ∙ enters in
         rw order (slot {e = entry} (ap number_in same ∙ numbered) (rw leads (t.spelt h k.nodes boundary)) s)

@@ -10,8 +10,8 @@ ghost use Rattle.slots.specs.Laying.{type_held, TypeFits, Typed, SlotFits, Lays,
 
 use book::EntryType;
 use book::entries::entry_type;
-use bytewise::widths::wide_number;
 use graph::{simple_node, slot_of};
+use lookup::walk::thread;
 
 // How far the lists are filled: the next node, the next slot, and whether the word at hand has a slot with an empty type.
 #[derive(Clone, Copy)]
@@ -23,17 +23,14 @@ pub struct Place {
 
 // Lays the simple types of an entry from `node` on, from the last to the first, each leading to the one behind it and the last to the
 // boundary. The node where the type begins is returned: for an empty one the boundary.
-fn lay_type(t: EntryType, node: usize, boundary: usize, nodes: &mut [u64]) -> usize
-    requires { TypeFits t node boundary nodes.old }
-    ensures { Typed t node boundary nodes.old nodes.new result }
+fn lay_type(t: &EntryType, node: usize, boundary: usize, nodes: &mut [u64]) -> usize
+    requires { TypeFits t.now node boundary nodes.old }
+    ensures { Typed t.now node boundary nodes.old nodes.new result }
 {
-    let held = t.simples;
     let mut first = boundary;
-    let mut i = t.count;
-    while 0 < i {
-        i -= 1;
+    for i in (0..t.count).rev() {
         let at = node + i;
-        nodes[at] = simple_node(held[i], first);
+        nodes[at] = simple_node(t.simples[i], first);
         first = at;
     }
     first
@@ -41,32 +38,27 @@ fn lay_type(t: EntryType, node: usize, boundary: usize, nodes: &mut [u64]) -> us
 
 // Gives an entry a slot and lays its type, but for a second empty type of a word.
 fn lay_slot(
-    t: EntryType,
+    t: &EntryType,
     number: usize,
     boundary: usize,
     p: Place,
     nodes: &mut [u64],
     slots: &mut [u64],
 ) -> Place
-    requires { SlotFits t number boundary p (graph nodes.old slots.old) }
+    requires { SlotFits t.now number boundary p (graph nodes.old slots.old) }
     ensures { (rest : List NumberedEntry) → Lays boundary p (graph nodes.old slots.old) result
-        (graph nodes.new slots.new) (record { number = number; type = type_held t } ∷ rest) rest }
+        (graph nodes.new slots.new) (record { number = number; type = type_held t.now } ∷ rest) rest }
 {
-    let node = p.node;
-    let slot = p.slot;
-    let seen = p.seen;
-    let count = t.count;
-    let empty = count == 0;
-    if empty & seen {
+    let empty = t.count == 0;
+    if empty && p.seen {
         return p;
     }
-    let behind = node + count;
-    let first = lay_type(t, node, boundary, nodes);
-    slots[slot] = slot_of(first, number);
+    let first = lay_type(t, p.node, boundary, nodes);
+    slots[p.slot] = slot_of(first, number);
     Place {
-        node: behind,
-        slot: slot + 1,
-        seen: empty | seen,
+        node: p.node + t.count,
+        slot: p.slot + 1,
+        seen: empty | p.seen,
     }
 }
 
@@ -88,11 +80,9 @@ pub fn lay_entries(
         → Lays boundary p (graph nodes.old slots.old) result (graph nodes.new slots.new) es [] }
 {
     let mut place = p;
-    let mut i = first;
-    while i < entries.len() {
-        let t = entry_type(book, names, types, wide_number(entries[i]));
-        place = lay_slot(t, i, boundary, place, nodes, slots);
-        i = wide_number(same[i]);
+    for (i, at) in thread(entries, same, first) {
+        let t = entry_type(book, names, types, at);
+        place = lay_slot(&t, i, boundary, place, nodes, slots);
     }
     place
 }

@@ -1,4 +1,3 @@
--- The laws of the walk over a row, of the string's stretches, and of the table.
-pub mod Walking
+-- The laws of the string's stretches, and of the table.
 pub mod Stretches
 pub mod TableLaws

@@ -9,7 +9,6 @@ ghost use Rattle.table.specs.Table.{string_of, ContractsAt, Right, StringThere, 
 
 use bits::rows;
 use bits::rows::Row;
-use figures::limits::{ROW_BITS, ROW_WORDS};
 use pregroup::LinkKind;
 
 // Whether the simple type at i could contract with the one at k.
@@ -18,10 +17,8 @@ fn fits(order: &[u64], string: &[u16], i: usize, k: usize) -> bool
     requires string_there { StringThere string.now (k + 1) }
     ensures { (result ≡ true) ↔ ContractsAt (InRows order.now) string.now k i }
 {
-    match pregroup::may_contract(order, string[i], string[k]) {
-        LinkKind::Not => false,
-        _ => true,
-    }
+    let kind = pregroup::may_contract(order, string[i], string[k]);
+    !matches!(kind, LinkKind::Not)
 }
 
 // The places before k that the simple type at k may close: they could contract, and what stands between them vanishes.
@@ -31,13 +28,7 @@ fn closed_by(order: &[u64], string: &[u16], table: &[u64], k: usize) -> Row
     ensures { RowSays result.words 0
         (FitsBefore (ContractsAt (InRows order.now) string.now k) table.now k) }
 {
-    let mut words = [0u64; ROW_WORDS];
-    let mut j = rows::next_member(table, k, 1);
-    while j < ROW_BITS {
-        rows::put_where(&mut words, j - 1, fits(order, string, j - 1, k));
-        j = rows::next_member(table, k, j + 1);
-    }
-    Row { words }
+    rows::members_where(table, k, 1, 1, |i| fits(order, string, i, k))
 }
 
 // Makes row 0: of the empty string the empty stretch vanishes.

@@ -1,12 +1,12 @@
 -- What a caller in C makes of the numbers it gets: 0 is success, any other number is a refusal's.
-use Rattle.std.specs.Prelude.{ℕ, ◌≡◌, cond, List, [], ◌∷◌, eqb}
+use Rattle.std.specs.Prelude.{Ok, Err, ℕ, ◌≡◌, cond, List, [], ◌∷◌, eqb}
 use Rattle.figures.specs.Refusals.{Reply, no_reading}
-use Rattle.answer.specs.declared.LineAnswer.{LineAnswer}
-use Rattle.answer.specs.declared.LineAnswer.TheVariants.{Read, Refused}
+use Rattle.answer.specs.Answers.{LineAnswer}
+use Rattle.figures.specs.Refusals.{Refused}
 use Rattle.in_the_way.specs.declared.WayAnswer.{WayAnswer}
 use Rattle.in_the_way.specs.declared.WayAnswer.TheVariants.{Ordinary, NoReading}
-use Rattle.batch.specs.declared.BatchAnswer.{BatchAnswer}
-use Rattle.batch.specs.declared.BatchAnswer.TheVariants.{Answered, Refused as RefusedBatch}
+use Rattle.batch.specs.Batch.{BatchAnswer}
+use Rattle.figures.specs.Refusals.{Refused as RefusedBatch}
 
 -- A book check's reply as a number, a value and three lent numbers. An accepted book's value is 0; a refusal leaves the three as they were.
 pub record Checks (reply : Reply) (before : List ℕ) (number value : ℕ) (after : List ℕ) : Type 0 where
@@ -16,16 +16,16 @@ pub record Checks (reply : Reply) (before : List ℕ) (number value : ℕ) (afte
 
 -- The number and the value that an answer to a line is handed on by.
 abbrev pub number_for : LineAnswer → ℕ
-number_for (Read values) = 0
-number_for (Refused number value) = number
+number_for (Ok values) = 0
+number_for (Err r) = r.number
 
 abbrev pub value_for : LineAnswer → ℕ
-value_for (Read values) = values
-value_for (Refused number value) = value
+value_for (Ok values) = values
+value_for (Err r) = r.value
 
 -- The answer to a line that a number and a value stand for.
 abbrev pub answer_of : ℕ → ℕ → LineAnswer
-answer_of number value = cond (eqb number 0) (Read value) (Refused number value)
+answer_of number value = cond (eqb number 0) (Ok value) (Refused number value)
 
 -- The answer of the words in the way that they stand for, with the words' number behind 15.
 abbrev pub way_answer_of : ℕ → ℕ → ℕ → WayAnswer
@@ -38,4 +38,4 @@ pub record WithFifteen (number value before after : ℕ) : Type 0 where
 
 -- The answer to a batch that they stand for.
 abbrev pub batch_answer_of : ℕ → ℕ → BatchAnswer
-batch_answer_of number value = cond (eqb number 0) (Answered value) (RefusedBatch number value)
+batch_answer_of number value = cond (eqb number 0) (Ok value) (RefusedBatch number value)

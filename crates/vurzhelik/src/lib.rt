@@ -14,10 +14,9 @@ ghost use Rattle.in_the_way.specs.WayDemands.{WayPromised};
 ghost use Rattle.vurzhelik.specs.Calls.{number_for, value_for, answer_of, batch_answer_of, way_answer_of, Checks, WithFifteen};
 ghost use Rattle.vurzhelik.specs.Version.{version};
 
-use answer::LineAnswer;
-use batch::{BatchAnswer, read_batch};
-use book::{BookCheck, check_book};
-use figures::refusals::NO_READING;
+use batch::read_batch;
+use book::check_book;
+use figures::refusals::{Cause, Refusal};
 use in_the_way::{WayAnswer, words_in_the_way};
 use reader::read_line;
 
@@ -51,40 +50,30 @@ pub extern "C" fn vurzhelik_check_book(
         (types.new ∷ entries.new ∷ pairs.new ∷ []) }
 {
     match check_book(book) {
-        BookCheck::Refused {
-            number,
-            value: with,
-        } => {
-            *value = with as u64;
-            number
+        Err(refusal) => {
+            *value = refusal.value as u64;
+            refusal.number
         }
-        BookCheck::Accepted {
-            types: of_types,
-            entries: of_entries,
-            pairs: of_pairs,
-        } => {
+        Ok(check) => {
             *value = 0;
-            *types = of_types as u64;
-            *entries = of_entries as u64;
-            *pairs = of_pairs;
+            *types = check.types as u64;
+            *entries = check.entries as u64;
+            *pairs = check.pairs;
             0
         }
     }
 }
 
 // Hands a line's answer on as a number, which is returned, and a value.
-fn hand_on(answer: LineAnswer, value: &mut u64) -> u32
+fn hand_on(answer: Result<usize, Refusal>, value: &mut u64) -> u32
     ensures { (result ≡ number_for answer) × (value.new ≡ value_for answer) }
 {
     match answer {
-        LineAnswer::Refused {
-            number,
-            value: with,
-        } => {
-            *value = with as u64;
-            number
+        Err(refusal) => {
+            *value = refusal.value as u64;
+            refusal.number
         }
-        LineAnswer::Read { values } => {
+        Ok(values) => {
             *value = values as u64;
             0
         }
@@ -125,7 +114,7 @@ pub extern "C" fn vurzhelik_words_in_the_way(
         WayAnswer::NoReading { words: in_the_way } => {
             *value = 0;
             *words = in_the_way;
-            NO_READING
+            Cause::NoReading.number()
         }
         WayAnswer::Ordinary(ordinary) => hand_on(ordinary, value),
     }
@@ -145,14 +134,11 @@ pub extern "C" fn vurzhelik_read_batch(
     ensures batch_promised { BatchPromised book.now lines.now answers.old (batch_answer_of result value.new) answers.new }
 {
     match read_batch(book, lines, answers) {
-        BatchAnswer::Refused {
-            number,
-            value: with,
-        } => {
-            *value = with as u64;
-            number
+        Err(refusal) => {
+            *value = refusal.value as u64;
+            refusal.number
         }
-        BatchAnswer::Answered { lines: answered } => {
+        Ok(answered) => {
             *value = answered as u64;
             0
         }

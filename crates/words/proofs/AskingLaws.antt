@@ -16,8 +16,9 @@ use Rattle.format.specs.Records.{Bytes}
 use Rattle.line.specs.FoundWords.{FoundWords}
 use Rattle.linking.specs.Reading.{Words, Answer, first_reading, is_some}
 use Rattle.graph.specs.Graph.{Graph, graph}
-use Rattle.answer.specs.declared.LineAnswer.{LineAnswer}
-use Rattle.answer.specs.declared.LineAnswer.TheVariants.{Read, Refused}
+use Rattle.answer.specs.Answers.{LineAnswer}
+use Rattle.std.specs.Prelude.{Ok, Err}
+use Rattle.figures.specs.Refusals.{Refused}
 use Rattle.answer.specs.Answers.{given, Gives}
 use Rattle.answer.proofs.GivenLaws.{read_refused}
 use Rattle.layout.specs.LineLayout.{nodes_with, line_graph, LaidOut}
@@ -34,17 +35,8 @@ module _ (before : List ℕ) where
   gives_none e false = record { returned = rw e; left = rw e }
 
   -- It is asked no further.
-  gives_some : {o : Option Answer} {a : Answer} → o ≡ some a → Gives (asked false o before) (Read 0) before
+  gives_some : {o : Option Answer} {a : Answer} → o ≡ some a → Gives (asked false o before) (Ok 0) before
   gives_some e = record { returned = rw e; left = rw e }
-
-  -- What is told of words that are only asked for.
-  pub some_told : (o : Option Answer) {r : LineAnswer} {n : ℕ} {after : List ℕ} → Gives (asked false o before) r after → r ≡ Read n → true ≡ is_some o
-  some_told none g e = read_refused (sym e ∙ g.returned)
-  some_told (some a) g e = refl
-
-  pub none_told : (o : Option Answer) {r : LineAnswer} {m v : ℕ} {after : List ℕ} → Gives (asked false o before) r after → r ≡ Refused m v → false ≡ is_some o
-  none_told none g e = refl
-  none_told (some a) g e = read_refused (sym g.returned ∙ e)
 
 -- The graph of a line that is laid out can be charted.
 pub can_fill :
@@ -70,5 +62,5 @@ module _ {le : Test} {Le : Relation} {g : Graph} {targets : List Basic} {last : 
   answers_none all whole before = gives_none before (no_first charted all) whole
 
   -- There is one for the target that is reached.
-  pub answers_some : t < length targets → (before : List ℕ) → Gives (asked false (first_reading le targets words) before) (Read 0) before
+  pub answers_some : t < length targets → (before : List ℕ) → Gives (asked false (first_reading le targets words) before) (Ok 0) before
   answers_some there before = gives_some before (some_first charted there).1

@@ -5,8 +5,9 @@ use Rattle.figures.specs.Refusals.{no_reading}
 use Rattle.pregroup.specs.Tests.{Test}
 use Rattle.linking.specs.Reading.{Words, Answer, first_reading, reads}
 use Rattle.format.specs.Records.{Bytes}
-use Rattle.answer.specs.declared.LineAnswer.{LineAnswer}
-use Rattle.answer.specs.declared.LineAnswer.TheVariants.{Read, Refused}
+use Rattle.answer.specs.Answers.{LineAnswer}
+use Rattle.std.specs.Prelude.{Ok, Err}
+use Rattle.figures.specs.Refusals.{Refused}
 use Rattle.answer.specs.Answers.{Outcome, given, Gives}
 use Rattle.line.specs.FoundWords.{FoundWords}
 
@@ -14,7 +15,7 @@ use Rattle.line.specs.FoundWords.{FoundWords}
 abbrev pub asked : Bool → Option Answer → List ℕ → Outcome LineAnswer
 asked true o buffer = given o buffer
 asked false none buffer = record { answer = Refused no_reading 0; buffer = buffer }
-asked false (some a) buffer = record { answer = Read 0; buffer = buffer }
+asked false (some a) buffer = record { answer = Ok 0; buffer = buffer }
 
 abbrev pub ReadsOrAsks : Bytes → List ℕ → List ℕ → List ℕ → List ℕ → List ℕ → List ℕ → Bool → List ℕ → LineAnswer → List ℕ → Type 0
 ReadsOrAsks bytes names entries same firsts order targets whole before answer after =

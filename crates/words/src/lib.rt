@@ -6,17 +6,16 @@ ghost use Rattle.figures.specs.Limits.{chart_words};
 ghost use Rattle.line.specs.FoundWords.{AreFound};
 ghost use Rattle.words.specs.Readings.{ReadsOrAsks, ReadsWords, SaysWhether};
 
-use answer::LineAnswer;
 use chart::fill;
 use figures::limits::MAX_NODES;
-use figures::refusals::NO_READING;
+use figures::refusals::{Cause, Refusal};
 use first_reading::write_reading;
 use layout::{lay_out, nodes_with};
 use reach::first_target;
 
 // Reads words that are looked up: `firsts` has the first entry of each, and `same` leads to the others. They are laid out as a graph, and its chart tells the
 // first target that has a reading. Where the reading is not wanted whole, it is only told whether there is one: it is then answered with no values, and
-// nothing is written.
+// nothing is written. A flag tells the two apart: two functions that lend their lists to a third took 1.3 times the instructions.
 fn read_or_ask(
     book: &[u8],
     names: &[u16],
@@ -28,7 +27,7 @@ fn read_or_ask(
     chart: &mut [u64],
     whole: bool,
     answer: &mut [u16],
-) -> LineAnswer
+) -> Result<usize, Refusal>
     requires are_found { AreFound book.now names.now entries.now same.now firsts.now order.now targets.now }
     requires chart_len { length chart.old ≡ chart_words }
     ensures { ReadsOrAsks book.now names.now entries.now same.now firsts.now order.now targets.now
@@ -49,13 +48,9 @@ fn read_or_ask(
     );
     let count = nodes_with(last, targets.len());
     fill(order, &nodes[..count], &slots, chart);
-    let t = first_target(chart, last, targets.len());
-    if t == targets.len() {
-        return LineAnswer::Refused {
-            number: NO_READING,
-            value: 0,
-        };
-    }
+    let Some(t) = first_target(chart, last, targets.len()) else {
+        return Err(Cause::NoReading.with(0));
+    };
     if whole {
         return write_reading(
             order,
@@ -68,7 +63,7 @@ fn read_or_ask(
             answer,
         );
     }
-    LineAnswer::Read { values: 0 }
+    Ok(0)
 }
 
 // Reads words that are looked up.
@@ -82,7 +77,7 @@ pub fn read_words(
     targets: &[u8],
     chart: &mut [u64],
     answer: &mut [u16],
-) -> LineAnswer
+) -> Result<usize, Refusal>
     requires are_found { AreFound book.now names.now entries.now same.now firsts.now order.now targets.now }
     requires chart_len { length chart.old ≡ chart_words }
     ensures { ReadsWords book.now names.now entries.now same.now firsts.now order.now targets.now
@@ -109,7 +104,7 @@ pub fn has_reading(
     ensures { SaysWhether book.now names.now entries.now same.now firsts.now order.now targets.now result }
 {
     let mut nothing = [0u16; 0];
-    let asked = read_or_ask(
+    read_or_ask(
         book,
         names,
         entries,
@@ -120,12 +115,6 @@ pub fn has_reading(
         chart,
         false,
         &mut nothing,
-    );
-    match asked {
-        LineAnswer::Read { values: _ } => true,
-        LineAnswer::Refused {
-            number: _,
-            value: _,
-        } => false,
-    }
+    )
+    .is_ok()
 }

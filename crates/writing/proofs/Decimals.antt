@@ -52,17 +52,34 @@ decimal_length (suc more) n h = by (λ big. decimal_length more (n / 10) (omega 
     by front (inr big) =
         rw (decimal_more n big) (omega (arith, length-append (decimal (n / 10)) ((48 + n % 10) ∷ []), front big))
 
--- The decimal of a number's tenth can be put, then its last digit, and both are its decimal.
-module _ (n : ℕ) (big : 10 ≤ n) {at : ℕ} where
-  pub decimal_front : Countable at (decimal n) → Countable at (decimal (n / 10))
-  decimal_front h = countable_front ((48 + n % 10) ∷ []) (rw (decimal_more n big) at h)
+-- A decimal is its front, which a number below ten has none of, and its last digit.
+abbrev pub front_of : ℕ → List ℕ
+front_of n = cond (ltb n 10) [] (decimal (n / 10))
 
-  module _ {text middle : List ℕ} {last : ℕ} (front : Placed text at (decimal (n / 10)) middle last) where
-    pub decimal_back : (digit : ℕ) → Countable at (decimal n) → Countable last (digit ∷ [])
-    decimal_back digit h = record { small = (countable_back {ys = (48 + n % 10) ∷ []} (rw (decimal_more n big) at h) front).small }
+pub decimal_parted : (n : ℕ) → decimal n ≡ front_of n ++ ((48 + n % 10) ∷ [])
+decimal_parted n = by (less_or_not n 10)
+  where
+    by : (n < 10) ⊎ (10 ≤ n) → decimal n ≡ front_of n ++ ((48 + n % 10) ∷ [])
+    by (inl small) = rw (lt-ltb n 10 small) (decimal_small n small)
+    by (inr big) = rw (le-ltb n 10 big) (decimal_more n big)
 
-    pub decimal_placed : {after : List ℕ} {behind digit : ℕ} → digit ≡ 48 + n % 10 → Placed middle last (digit ∷ []) after behind → Placed text at (decimal n) after behind
-    decimal_placed e end = rw (decimal_more n big, ← e) (placed_append front end)
+module _ (n : ℕ) {at : ℕ} where
+  pub front_countable : 10 ≤ n → Countable at (decimal n) → Countable at (decimal (n / 10))
+  front_countable big h = countable_front ((48 + n % 10) ∷ []) (rw (decimal_more n big) at h)
+
+  module _ {text middle : List ℕ} {last : ℕ} where
+    pub front_more : 10 ≤ n → Placed text at (decimal (n / 10)) middle last → Placed text at (front_of n) middle last
+    front_more big p = rw (le-ltb n 10 big) p
+
+    pub last_countable : Placed text at (front_of n) middle last → (digit : ℕ) → Countable at (decimal n) → Countable last (digit ∷ [])
+    last_countable front digit h = record { small = (countable_back {ys = (48 + n % 10) ∷ []} (rw (decimal_parted n) at h) front).small }
+
+    pub decimal_placed : Placed text at (front_of n) middle last → {after : List ℕ} {behind digit : ℕ} → digit ≡ 48 + n % 10 → Placed middle last (digit ∷ []) after behind
+        → Placed text at (decimal n) after behind
+    decimal_placed front e end = rw (decimal_parted n, ← e) (placed_append front end)
+
+  pub front_none : {text : List ℕ} → n < 10 → Placed text at (front_of n) text at
+  front_none small = rw (lt-ltb n 10 small) (record { put = refl; next = omega arith })
 
 -- A decimal read digit by digit, as a number that goes on from n.
 unfoldable pub spelt : ℕ → List ℕ → ℕ

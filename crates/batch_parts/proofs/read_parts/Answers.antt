@@ -9,7 +9,7 @@ use Rattle.batch_parts.proofs.read_parts.Goals as goal
 
 pub loop-at-init : goal.loop-at-init
 loop-at-init c =
-    (refl, refl, refl, c.requires.fact.1, reading_starts c.args.book.now c.args.batch.now c.args.store.now c.requires.readying)
+    (refl, refl, refl, c.requires.fact.1, reading_starts c.args.book.bytes.now c.args.batch.now c.args.store.now c.requires.readying)
 
 pub slice_bounds-read_part-count : goal.slice_bounds-read_part-count
 slice_bounds-read_part-count c = omega (arith, c.loop-at.invariant.4.room)
@@ -19,7 +19,7 @@ slice_bounds-read_part-start c = omega (arith, c.loop-at.invariant.4.room)
 
 pub read_part-used-requires : goal.read_part-used-requires
 read_part-used-requires c =
-    let room : c.loop-at.used + max_part ≤ length c.loop-at.store = part_room c.args.book.now c.args.batch.now _ _ _ _ c.loop-at-test.true c.loop-at.invariant.4 c.find_byte-end.ensures in
+    let room : c.loop-at.used + max_part ≤ length c.loop-at.store = part_room c.args.book.bytes.now c.args.batch.now _ _ _ _ c.loop-at-test.true c.loop-at.invariant.4 c.find_byte-end.ensures in
     let loop = c.loop-at in
     let batch = c.args.batch.now in
     let end = c.find_byte-end.result in
@@ -27,7 +27,7 @@ read_part-used-requires c =
 
 pub overflow_add-used : goal.overflow_add-used
 overflow_add-used c =
-    let room : c.loop-at.used + max_part ≤ length c.loop-at.store = part_room c.args.book.now c.args.batch.now _ _ _ _ c.loop-at-test.true c.loop-at.invariant.4 c.find_byte-end.ensures in
+    let room : c.loop-at.used + max_part ≤ length c.loop-at.store = part_room c.args.book.bytes.now c.args.batch.now _ _ _ _ c.loop-at-test.true c.loop-at.invariant.4 c.find_byte-end.ensures in
     omega (arith, c.read_part-used.ensures.put.counted, c.read_part-used.ensures.put.short, room, c.loop-at.invariant.2)
 
 pub overflow_add-at : goal.overflow_add-at
@@ -36,7 +36,7 @@ overflow_add-at c = omega (arith, c.find_byte-end.ensures.0, c.requires.readying
 pub loop-at-preserved : goal.loop-at-preserved
 loop-at-preserved c =
     let loop = c.loop-at in
-    (omega arith, omega arith, omega arith, c.read_part-used.ensures.threaded, reading_turns c.args.book.now c.args.batch.now loop.store loop.at loop.used c.find_byte-end.result c.loop-at-test.true loop.invariant.4 c.find_byte-end.ensures c.read_part-used.result _ _ c.read_part-used.ensures.put (omega arith))
+    (omega arith, omega arith, omega arith, c.read_part-used.ensures.threaded, reading_turns c.args.book.bytes.now c.args.batch.now loop.store loop.at loop.used c.find_byte-end.result c.loop-at-test.true loop.invariant.4 c.find_byte-end.ensures c.read_part-used.result _ _ c.read_part-used.ensures.put (omega arith))
 
 pub shape_of-same : goal.shape_of-same
 shape_of-same c = c.loop-at.invariant.0
@@ -50,4 +50,4 @@ shape_of-store c = c.loop-at.invariant.2
 pub returns : goal.returns
 returns c =
     let loop = c.loop-at in
-    reading_ends c.args.book.now c.args.batch.now loop.store loop.at loop.used (omega arith) loop.invariant.4
+    reading_ends c.args.book.bytes.now c.args.batch.now loop.store loop.at loop.used (omega arith) loop.invariant.4

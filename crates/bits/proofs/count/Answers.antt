@@ -4,8 +4,5 @@ use lib.Count.{ones-le}
 use Rattle.bits.proofs.CountLaws.{ones_total}
 use Rattle.bits.proofs.count.Goals as goal
 
-pub overflow_cast-result : goal.overflow_cast-result
-overflow_cast-result c = omega (arith, ones-le 64 c.args.word (omega arith))
-
 pub returns : goal.returns
-returns c = record { number = ones_total 64 c.args.word (omega arith); small = ones-le 64 c.args.word (omega arith) }
+returns c = rw c.from.ensures (record { number = ones_total 64 c.args.word (omega arith); small = ones-le 64 c.args.word (omega arith) })

@@ -1,4 +1,4 @@
--- `chart::simple_row` meets its contract: each turn joins the part of one member, and passes over the numbers before the next one.
+-- `chart::simple_row` meets its contract: each turn joins the part of one member of the row behind u.
 use native.Mathlib.Omega.{arith}
 use Prim.Native.Nat.{ℕ}
 use mathlib.Core.Path.{refl}
@@ -8,8 +8,7 @@ use Rattle.graph.specs.Graph.{next_at}
 use Rattle.pregroup.specs.Held.{InRows}
 use Rattle.chart.specs.Chart.{LinkPart, LinksThere}
 use Rattle.bits.proofs.Gathering.{part_says, alone_says}
-use Rattle.bits.proofs.Walking.{OfMembers, walking_starts, walking_turns, walking_ends}
-use Rattle.chart.proofs.Filling.{first_behind_lem}
+use Rattle.bits.proofs.MemberWalks.{OfMembers, walks_start, walks_member, walks_turn, walks_end}
 use Rattle.chart.proofs.simple_row.Goals as goal
 
 -- The parts that are gathered are those of members.
@@ -24,31 +23,38 @@ next_at-behind-requires c = c.requires.links_there.node
 pub simple_at-x-requires : goal.simple_at-x-requires
 simple_at-x-requires c = c.requires.links_there.node
 
+pub members-y-items-requires : goal.members-y-items-requires
+members-y-items-requires c =
+    let there = c.requires.links_there in
+    rw c.next_at-behind.ensures (record { has_row = there.room; from_le_row_bits = omega (arith, there.first.small) })
+
 pub loop-y-init : goal.loop-y-init
 loop-y-init c =
     let parts = parts_of_members (InRows c.args.order.now) c.requires.links_there in
-    (c.next_at-behind.ensures, c.simple_at-x.ensures, rw c.next_at-behind.ensures (walking_starts parts _ _ (alone_says _ _ refl c.empty.ensures c.put-row.ensures) (first_behind_lem c.requires.links_there)))
+    let made = rw c.next_at-behind.ensures at c.members-y-items.ensures in
+    (c.simple_at-x.ensures, rw c.into_iter-y-iterator.ensures.into_iter_gives (walks_start parts _ _ (alone_says _ _ refl c.empty.ensures c.put-row.ensures) made))
 
 pub join_row-row-requires : goal.join_row-row-requires
 join_row-row-requires c =
+    let parts = parts_of_members (InRows c.args.order.now) c.requires.links_there in
     let l = c.loop-y in
-    let there = c.requires.links_there.reached l.y (l.invariant.2.member c.loop-y-test.true) in
+    let member = walks_member parts l.row.words l.y-iterator l.invariant.1 c.in-Some.y c.next.new.self c.in-Some.ensures.steps in
+    let there = c.requires.links_there.reached c.in-Some.y member.0 in
     (there.1, there.2)
-
-pub next_member-y-requires : goal.next_member-y-requires
-next_member-y-requires c = record { has_row = rw c.loop-y.invariant.0 c.requires.links_there.room; from_le_row_bits = omega arith }
 
 pub loop-y-preserved : goal.loop-y-preserved
 loop-y-preserved c =
     let parts = parts_of_members (InRows c.args.order.now) c.requires.links_there in
     let l = c.loop-y in
-    let joined = rw l.invariant.1 at c.join_row-row.ensures in
-    let next = rw l.invariant.0 at c.next_member-y.ensures in
-    let part = part_says {C = LinkPart (InRows c.args.order.now) c.args.nodes.now c.args.chart.now c.args.u l.y} c.join_row-row.result.words joined (λ v. (λ j. record { reached = l.invariant.2.member c.loop-y-test.true; joined = j }, λ p. p.joined)) in
-    (l.invariant.0, l.invariant.1, walking_turns parts l.row.words l.y l.invariant.2 _ _ part next)
+    let a = c.args in
+    let turn = c.in-Some.ensures.steps in
+    let member = walks_member parts l.row.words l.y-iterator l.invariant.1 c.in-Some.y c.next.new.self turn in
+    let joined = rw l.invariant.0 at c.join_row-row.ensures in
+    let part = part_says {C = LinkPart (InRows a.order.now) a.nodes.now a.chart.now a.u c.in-Some.y} _ joined (λ v. (λ j. record { reached = member.0; joined = j }, λ p. p.joined)) in
+    (l.invariant.0, walks_turn parts l.row.words l.y-iterator l.invariant.1 c.in-Some.y c.next.new.self turn _ part)
 
 pub returns : goal.returns
 returns c =
     let parts = parts_of_members (InRows c.args.order.now) c.requires.links_there in
     let l = c.loop-y in
-    walking_ends parts l.row.words l.y l.invariant.2 c.loop-y-test.false
+    walks_end parts l.row.words l.y-iterator l.invariant.1 c.next.new.self c.in-None.ensures.steps

@@ -1,19 +1,12 @@
-use Prim.Native.Nat.{◌-◌, ◌≤◌}
 use mathlib.Core.Path.{◌≡◌}
+use Prim.Native.Nat.{max}
 use Rattle.graph.specs.Graph.{entered_at}
-use Rattle.figures.specs.Limits.{row_words}
 use Rattle.choice.proofs.Meeting.{Apart}
 use Rattle.choice.proofs.Searching.{Passed}
 use Rattle.choice.proofs.first_slot.Given as goal
 
-abbrev pub invariant-loop-k : goal.invariant-loop-k
-invariant-loop-k l = (l.node ≡ entered_at l.slots l.s) × (l.k ≤ row_words) × Apart l.chart l.node l.needs l.n l.k
-
-abbrev pub decreases-loop-k : goal.decreases-loop-k
-decreases-loop-k l = row_words - l.k
-
 abbrev pub invariant-search : goal.invariant-search
-invariant-search l = Passed l.slots l.chart l.needs l.n l.from l.s
+invariant-search l = (l.first ≡ max l.from l.to) × Passed l.slots l.chart l.needs l.n l.from l.s
 
-abbrev pub decreases-search : goal.decreases-search
-decreases-search l = l.to - l.s
+abbrev pub invariant-loop-k : goal.invariant-loop-k
+invariant-loop-k l = (l.first ≡ max l.from l.to) × (l.node ≡ entered_at l.slots l.s) × Apart l.chart l.node l.needs l.n l.k

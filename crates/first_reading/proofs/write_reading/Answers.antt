@@ -35,7 +35,7 @@ pub returns-then-answer-needed : goal.returns-then-answer-needed
 returns-then-answer-needed c =
     let chose = rw c.end_at-end.ensures at c.choose-choice.ensures in
     let made = c.choose-choice.auto in
-    λ le words_ charted. rw c.answer_length-needed.ensures (answers_short charted c.requires.target_there chose made.string made.chosen made.table c.args.answer.now (omega (arith, c.if-answer-needed.true, c.answer_length-needed.ensures)))
+    λ le words_ charted. rw (c.with.ensures, c.answer_length-needed.ensures) (answers_short charted c.requires.target_there chose made.string made.chosen made.table c.args.answer.now (omega (arith, c.if-answer-needed.true, c.answer_length-needed.ensures)))
 
 pub slice_bounds-string-end : goal.slice_bounds-string-end
 slice_bounds-string-end c =

@@ -1,74 +1,35 @@
 -- `left_out::try_each` meets its contract: before each turn the words from some word on have been left out one by one, and the number tells of them.
-use native.Mathlib.Omega.{arith}
-use Prim.Native.Nat.{◌-◌, ◌≤◌}
-use mathlib.Core.Path.{refl, sym, ◌∙◌}
-use lib.ListN.{length, set}
-use lib.Seq.{length-take-le}
-use Rattle.left_out.proofs.TryLaws.{leaving_starts, leaving_next, found_without, way_starts, way_fits, way_yes, way_no, way_whole}
+use Rattle.std.proofs.Common.{◌≡◌, ◌-◌, set, ◌∙◌, arith}
+use Rattle.left_out.proofs.TryLaws.{LeftOut, leaving_starts, leaving_next, flag_bit, found_without, way_starts, way_fits, way_next}
+use Rattle.left_out.proofs.WayLaws.{bit_of_small}
+use Rattle.left_out.specs.LeftOut.{bit_of}
 use Rattle.left_out.proofs.try_each.Goals as goal
+use Rattle.left_out.proofs.try_each.Goals.{After-swap, After-from}
+
+-- The next word is left out in the place of the one before.
+next : (c : After-swap) → LeftOut c.args.firsts.now (set c.loop-k.firsts (c.loop-k.k - 1) c.swap.new.x) c.swap.new.y (c.loop-k.k - 1)
+next c = rw (c.swap.ensures.x_after, c.swap.ensures.y_after) (leaving_next c.loop-k.invariant.leaving (omega arith))
+
+-- The bit of a word.
+told : (c : After-from) → c.from.result ≡ bit_of c.has_reading-reads.result
+told c = c.from.ensures ∙ flag_bit _
 
 pub loop-k-init : goal.loop-k-init
-loop-k-init c = (leaving_starts _, way_starts, refl)
+loop-k-init c = record { leaving = leaving_starts _; told = way_starts }
 
-pub overflow_sub-k : goal.overflow_sub-k
-overflow_sub-k c = omega (arith, c.loop-k-test.true)
-
-pub bounds-firsts-k : goal.bounds-firsts-k
-bounds-firsts-k c =
-    let leaving = c.loop-k.invariant.0 in
-    omega (arith, leaving.inside, leaving.long, c.loop-k-test.true)
-
-pub bounds-firsts-k-in-loop-k : goal.bounds-firsts-k-in-loop-k
-bounds-firsts-k-in-loop-k c =
-    let leaving = c.loop-k.invariant.0 in
-    omega (arith, leaving.inside, leaving.long, c.loop-k-test.true)
+pub has_reading-reads-requires-clause-are_found : goal.has_reading-reads-requires-clause-are_found
+has_reading-reads-requires-clause-are_found c =
+    (_, _, found_without c.requires.are_found.2 (next (goal.at.has_reading-reads-requires-clause-are_found c).After-swap) (omega arith))
 
 pub overflow_mul-number : goal.overflow_mul-number
-overflow_mul-number c = omega (arith, way_fits c.requires.are_found.2 c.loop-k.invariant.1 c.loop-k-test.true)
-
-pub slice_bounds-has_reading-count : goal.slice_bounds-has_reading-count
-slice_bounds-has_reading-count c = omega (arith, c.loop-k.invariant.0.inside, c.loop-k-test.true)
-
-pub slice_bounds-has_reading-end : goal.slice_bounds-has_reading-end
-slice_bounds-has_reading-end c =
-    let next = leaving_next c.loop-k.invariant.0 c.loop-k-test.true in
-    omega (arith, next.long)
-
-pub slice_bounds-has_reading-length : goal.slice_bounds-has_reading-length
-slice_bounds-has_reading-length c =
-    let next = leaving_next c.loop-k.invariant.0 c.loop-k-test.true in
-    let others : length c.args.firsts.now - 1 ≤ length (set c.loop-k.firsts (c.loop-k.k - 1) c.loop-k.left_out) = omega (arith, next.long) in
-    sym (length-take-le _ _ others)
-
-pub has_reading-requires : goal.has_reading-requires
-has_reading-requires c =
-    let next = leaving_next c.loop-k.invariant.0 c.loop-k-test.true in
-    record { are_found = (_, _, found_without c.requires.are_found.2 next (omega (arith, c.loop-k.invariant.0.inside, c.loop-k-test.true))); chart_len = c.loop-k.invariant.2 ∙ c.requires.chart_len }
+overflow_mul-number c = omega (arith, way_fits c.requires.are_found.2 c.loop-k.invariant.told (omega arith))
 
 pub overflow_add-number : goal.overflow_add-number
-overflow_add-number c = omega (arith, way_fits c.requires.are_found.2 c.loop-k.invariant.1 c.loop-k-test.true)
-
-pub loop-k-smaller-then-has_reading : goal.loop-k-smaller-then-has_reading
-loop-k-smaller-then-has_reading c = omega (arith, c.loop-k-test.true)
-
-pub loop-k-preserved-then-has_reading : goal.loop-k-preserved-then-has_reading
-loop-k-preserved-then-has_reading c =
-    let next = leaving_next c.loop-k.invariant.0 c.loop-k-test.true in
-    (next, way_yes next c.loop-k-test.true c.loop-k.invariant.0.inside c.loop-k.invariant.1 c.has_reading.ensures c.if-has_reading.true, omega (arith, c.loop-k.invariant.2))
-
-pub loop-k-smaller : goal.loop-k-smaller
-loop-k-smaller c = omega (arith, c.loop-k-test.true)
+overflow_add-number c =
+    omega (arith, way_fits c.requires.are_found.2 c.loop-k.invariant.told (omega arith), told (goal.at.overflow_add-number c).After-from, bit_of_small c.has_reading-reads.result)
 
 pub loop-k-preserved : goal.loop-k-preserved
-loop-k-preserved c =
-    let next = leaving_next c.loop-k.invariant.0 c.loop-k-test.true in
-    (next, way_no next c.loop-k-test.true c.loop-k.invariant.0.inside c.loop-k.invariant.1 c.has_reading.ensures c.if-has_reading.false, omega (arith, c.loop-k.invariant.2))
-
-pub shape_of-firsts : goal.shape_of-firsts
-shape_of-firsts c = c.loop-k.invariant.0.long
-
-pub shape_of-chart : goal.shape_of-chart
-shape_of-chart c = c.loop-k.invariant.2
-
-pub returns : goal.returns
-returns c = way_whole c.loop-k.invariant.1 (omega (arith, c.loop-k-test.false))
+loop-k-preserved c = record {
+  leaving = next (goal.at.loop-k-preserved c).After-swap;
+  told = way_next (next (goal.at.loop-k-preserved c).After-swap) (omega arith) (omega arith) c.loop-k.invariant.told c.has_reading-reads.ensures (told (goal.at.loop-k-preserved c).After-from);
+}

@@ -11,18 +11,18 @@ use Rattle.listing.proofs.render_line.Goals as goal
 
 pub join_types-simples-requires : goal.join_types-simples-requires
 join_types-simples-requires c =
-    let split = rw c.in-Found.is at c.split-found.ensures in
-    let shown = ap length c.first_values-shown.ensures ∙ length-take c.in-Found.words c.entries_of.result.now in
-    let words = length-take-le c.in-Found.words c.split-found.new.starts split.1 in
+    let split = c.in-Ok.ensures in
+    let shown = ap length c.first_values-shown.ensures ∙ length-take c.in-Ok.words c.entries_of.result.now in
+    let words = length-take-le c.in-Ok.words c.split.new.starts split.1 in
     record {
-      named = (c.requires.1.1.named, lexicon_kept c.requires.1.1);
+      named = (c.requires.1.named, lexicon_kept c.requires.1);
       max_entry_simples_in_bounds = omega (arith, shown, split.0.few, words);
     }
 
 pub render_rows-requires : goal.render_rows-requires
 render_rows-requires c =
-    let kept = c.requires.1.1 in
-    let split = rw c.in-Found.is at c.split-found.ensures in
+    let kept = c.requires.1 in
+    let split = c.in-Ok.ensures in
     let simples = c.join_types-simples.result in
     let string = take simples c.join_types-simples.new.string in
     let letters = take (simples + 1) c.link_letters.new.letters in
@@ -38,25 +38,25 @@ render_rows-requires c =
             length-take (simples + 1) c.link_letters.new.letters,
           );
       countable =
-          kept_countable kept split.0 c.args.values.now string letters (rw (length-take-le c.in-Found.words c.split-found.new.starts split.1) spells)
+          kept_countable kept split.0 c.args.values.now string letters (rw (length-take-le c.in-Ok.words c.split.new.starts split.1) spells)
           (λ i. omega (arith, c.type_inv.values i));
     }
 
-pub returns-in-Refused : goal.returns-in-Refused
-returns-in-Refused c =
+pub returns-in-Err : goal.returns-in-Err
+returns-in-Err c =
     let a = c.args in
-    let stopped = rw c.in-Refused.is at c.split-found.ensures in
-    rw (← line_stopped a.book.now a.line.now a.values.now c.requires.1.1.parsed stopped) c.render_refusal.ensures
+    let stopped = c.in-Err.ensures in
+    rw (← line_stopped a.book.bytes.now a.line.now a.values.now c.requires.1.parsed stopped) c.render_refusal.ensures
 
-pub returns-in-Found : goal.returns-in-Found
-returns-in-Found c =
-    let kept = c.requires.1.1 in
-    let split = rw c.in-Found.is at c.split-found.ensures in
+pub returns : goal.returns
+returns c =
+    let kept = c.requires.1 in
+    let split = c.in-Ok.ensures in
     let simples = c.join_types-simples.result in
     let string = take simples c.join_types-simples.new.string in
     let letters = take (simples + 1) c.link_letters.new.letters in
     let spells = rw (c.first_values-shown.ensures, c.entries_of.ensures) at c.join_types-simples.ensures.1 in
-    let target = c.target_at-goal.ensures ∙ ap (target_at c.args.targets.now) c.target_of-target.ensures in
+    let target = c.target_at-goal.ensures ∙ ap (target_at c.args.book.targets.now) c.target_of-target.ensures in
     let many : simples + 1 ≡ suc (length string) = omega (arith, length-take-le simples c.join_types-simples.new.string c.join_types-simples.ensures.0) in
     let told = rw c.partners_of-partners.ensures at c.link_letters.ensures in
     rw
@@ -66,7 +66,7 @@ returns-in-Found c =
     c.args.values.now
     string
     letters
-    (rw (length-take-le c.in-Found.words c.split-found.new.starts split.1) spells)
+    (rw (length-take-le c.in-Ok.words c.split.new.starts split.1) spells)
     target
     (rw many told))
     c.render_rows.ensures

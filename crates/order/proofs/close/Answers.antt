@@ -6,17 +6,16 @@ use Rattle.order.proofs.Filling.{Filled, fill_starts, fill_one, fill_ends}
 use Rattle.order.proofs.close.Goals as goal
 
 pub loop-p-init : goal.loop-p-init
-loop-p-init c = (omega arith, fill_starts (InRows c.args.direct.now))
+loop-p-init c = fill_starts (InRows c.args.direct.now)
 
 pub loop-p-preserved : goal.loop-p-preserved
 loop-p-preserved c =
-    let a = c.args in
     let l = c.loop-p in
-    (omega arith, fill_one (InRows a.direct.now) l.rows l.p c.reach.result l.invariant.1 (omega arith) c.reach.ensures)
+    fill_one (InRows c.args.direct.now) l.rows l.p c.reach.result l.invariant (omega arith) c.reach.ensures
 
 pub returns : goal.returns
 returns c =
     let l = c.loop-p in
     let all : l.p ≡ c.args.types = omega arith in
-    let done : Filled (InRows c.args.direct.now) l.rows c.args.types = rw all at l.invariant.1 in
+    let done : Filled (InRows c.args.direct.now) l.rows c.args.types = rw all at l.invariant in
     fill_ends (InRows c.args.direct.now) l.rows c.args.types c.requires.few c.requires.within done

@@ -6,4 +6,4 @@ use Rattle.pregroup.proofs.hold.Goals as goal
 pub returns : goal.returns
 returns c =
     let a = c.args in
-    held_of a.base a.raised (omega arith)
+    rw (c.from.ensures, c.from-2.ensures) (held_of a.base a.raised (omega arith))

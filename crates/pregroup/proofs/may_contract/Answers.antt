@@ -17,8 +17,8 @@ returns-then-x-y c =
     let may = c.contracts.ensures.0 c.if-not-contracts.false in
     sym ((kind_same (rows_decide a.rows.now) (held a.x) (held a.y)).1 (may, held_base a.x ∙ c.if-x-y.true ∙ sym (held_base a.y)))
 
-pub returns : goal.returns
-returns c =
+pub returns-else-x-y : goal.returns-else-x-y
+returns-else-x-y c =
     let a = c.args in
     let may = c.contracts.ensures.0 c.if-not-contracts.false in
     sym ((kind_different (rows_decide a.rows.now) (held a.x) (held a.y)).1 (may, λ e. c.if-x-y.false (sym (held_base a.x) ∙ e ∙ held_base a.y)))

@@ -1,6 +1,4 @@
-use Prim.Native.Nat.{◌-◌, ◌≤◌}
-use mathlib.Core.List.{map}
-use lib.ListN.{length, drop}
+use Rattle.std.proofs.Common.{◌≡◌, length, map, drop}
 use Rattle.pregroup.specs.Held.{held}
 use Rattle.format.specs.Records.{bodies_at}
 use Rattle.printing.specs.Rows.{type_rows}
@@ -8,8 +6,9 @@ use Rattle.writing.proofs.Placing.{Going}
 use Rattle.printing.proofs.put_type_rows.Given as goal
 
 abbrev pub invariant-loop-k : goal.invariant-loop-k
-invariant-loop-k l =
-    (l.k ≤ length l.string) × Going l.initial.text l.at (type_rows (bodies_at l.book l.names l.types) l.letters l.partners 0 (map held l.string)) l.text l.next (type_rows (bodies_at l.book l.names l.types) l.letters l.partners l.k (map held (drop l.k l.string)))
-
-abbrev pub decreases-loop-k : goal.decreases-loop-k
-decreases-loop-k l = length l.string - l.k
+invariant-loop-k l = record {
+  lent : l.text.bytes.ghost_name ≡ l.initial.text.bytes.ghost_name;
+  going :
+      Going l.initial.text.bytes.now l.initial.text.place (type_rows (bodies_at l.book l.names (length l.names)) l.letters l.partners 0 (map held l.string))
+      l.text.bytes.now l.text.place (type_rows (bodies_at l.book l.names (length l.names)) l.letters l.partners l.k (map held (drop l.k l.string)));
+}

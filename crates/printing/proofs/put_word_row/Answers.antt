@@ -2,16 +2,15 @@
 use Rattle.printing.proofs.Fields.{field_countable, fields_countable, row_placed, last_countable, last_placed}
 use Rattle.printing.proofs.put_word_row.Goals as goal
 
-pub put_number-at-requires : goal.put_number-at-requires
-put_number-at-requires c = field_countable _ _ _ c.requires
-
-pub put_text-at-requires : goal.put_text-at-requires
-put_text-at-requires c = field_countable _ _ _ (fields_countable _ _ _ c.requires c.put_number-at.ensures)
-
 pub put_number-requires : goal.put_number-requires
-put_number-requires c =
-    last_countable _ (fields_countable _ _ _ (fields_countable _ _ _ c.requires c.put_number-at.ensures) c.put_text-at.ensures)
+put_number-requires c = field_countable _ _ _ c.requires
 
-pub returns : goal.returns
-returns c =
-    row_placed _ _ _ c.put_number-at.ensures (row_placed _ _ _ c.put_text-at.ensures (last_placed _ c.put_number.ensures))
+pub put_text-requires : goal.put_text-requires
+put_text-requires c = field_countable _ _ _ (fields_countable _ _ _ c.requires c.put_number.ensures.placed)
+
+pub put_number-requires-2 : goal.put_number-requires-2
+put_number-requires-2 c = last_countable _ (fields_countable _ _ _ (fields_countable _ _ _ c.requires c.put_number.ensures.placed) c.put_text.ensures.placed)
+
+pub returns-clause-placed : goal.returns-clause-placed
+returns-clause-placed c =
+    row_placed _ _ _ c.put_number.ensures.placed (row_placed _ _ _ c.put_text.ensures.placed (last_placed _ c.put_number-2.ensures.placed))

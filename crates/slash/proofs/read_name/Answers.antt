@@ -1,7 +1,7 @@
 -- `slash::read_name` meets its contract: a name begins with a letter, goes as far as its bytes do, and is one by its length.
 use native.Mathlib.Omega.{arith}
 use Prim.Native.Nat.{ℕ}
-use mathlib.Core.Path.{◌≡◌, refl, sym, ◌∙◌}
+use mathlib.Core.Path.{◌≡◌, sym, ◌∙◌}
 use mathlib.Core.Bool.{true}
 use lib.ListN.{get_or}
 use Rattle.format.specs.Records.{between}
@@ -13,13 +13,13 @@ use Rattle.slash.proofs.NamesRead.{number_small, name_long, name_other, name_the
 use Rattle.slash.proofs.read_name.Goals as goal
 
 pub returns-then-not-is_letter : goal.returns-then-not-is_letter
-returns-then-not-is_letter c = says_nothing (name_other _ _ c.requires.1 (sym c.is_letter.ensures ∙ c.if-not-is_letter.true)) refl
+returns-then-not-is_letter c = says_nothing (name_other _ _ c.requires.1 (sym c.is_letter.ensures ∙ c.if-not-is_letter.true))
 
 pub returns-then-behind-at-gt-MAX_NAME : goal.returns-then-behind-at-gt-MAX_NAME
 returns-then-behind-at-gt-MAX_NAME c =
     let letter : between 97 122 (get_or {A = ℕ} c.args.text.now c.args.at 0) ≡ true = sym c.is_letter.ensures ∙ c.if-not-is_letter.false in
     let begun : NameEnds c.args.text.now c.args.at c.name_end-behind.result = name_begins c.requires.1 letter c.name_end-behind.ensures in
-    says_nothing (name_long begun (omega arith)) refl
+    says_nothing (name_long begun (omega arith))
 
 pub overflow_cast-number : goal.overflow_cast-number
 overflow_cast-number c = record { fits = number_small _ c.requires.0.named c.find_name-number.ensures }

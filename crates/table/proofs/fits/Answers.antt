@@ -4,13 +4,12 @@ use mathlib.Core.Path.{refl}
 use Rattle.pregroup.proofs.LinkKinds.{told_apart, told_contracts}
 use Rattle.bits.proofs.Cases.{false_iff}
 use Rattle.table.proofs.fits.Goals as goal
+use Rattle.table.proofs.fits.Goals.{in-Not, in_default}
 
-pub returns-in-Not : goal.returns-in-Not
-returns-in-Not c =
-    let a = c.args in
-    false_iff (told_apart a.order.now _ _ c.may_contract.ensures c.in-Not.is)
-
-pub returns-in_default : goal.returns-in_default
-returns-in_default c =
-    let a = c.args in
-    (λ h. told_contracts a.order.now _ _ c.may_contract.ensures (search rules), λ t. refl)
+pub returns : goal.returns
+returns c =
+    let told = c.may_contract-kind.ensures in
+    elim c.match-matches.branch [
+      | in-Not w ↦ rw w.matches-is (false_iff (told_apart _ _ _ told w.in-Not.is))
+      | in_default w ↦ rw w.matches-is (λ h. told_contracts _ _ _ told (search rules), λ t. refl)
+    ]

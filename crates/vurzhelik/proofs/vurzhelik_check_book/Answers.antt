@@ -3,12 +3,12 @@ use mathlib.Core.Path.{sym, ◌∙◌}
 use Rattle.vurzhelik.proofs.Numbers.{refused_checks, accepted_checks}
 use Rattle.vurzhelik.proofs.vurzhelik_check_book.Goals as goal
 
-pub returns-in-Refused : goal.returns-in-Refused
-returns-in-Refused c =
+pub returns-in-Err : goal.returns-in-Err
+returns-in-Err c =
     let check = c.check_book.ensures.value in
-    refused_checks _ _ _ _ (sym c.in-Refused.is ∙ check)
+    refused_checks _ _ _ _ (sym c.in-Err.is ∙ check)
 
-pub returns-in-Accepted : goal.returns-in-Accepted
-returns-in-Accepted c =
+pub returns-in-Ok : goal.returns-in-Ok
+returns-in-Ok c =
     let check = c.check_book.ensures.value in
-    accepted_checks _ _ _ _ _ (sym c.in-Accepted.is ∙ check)
+    accepted_checks _ _ _ _ _ (sym c.in-Ok.is ∙ check)

@@ -6,7 +6,7 @@ use Rattle.vurzhelik.proofs.vurzhelik_words_in_the_way.Goals as goal
 pub returns-in-NoReading : goal.returns-in-NoReading
 returns-in-NoReading c =
     let said = c.in-NoReading.ensures in
-    record { gives = said.gives; way_promised = said.way_promised; with_fifteen = record { no_value = λ _. refl; as_it_was = λ other. absurd (other refl) } }
+    rw c.number.ensures (record { gives = said.gives; way_promised = said.way_promised; with_fifteen = record { no_value = λ _. refl; as_it_was = λ other. absurd (other refl) } })
 
 pub returns-in-Ordinary : goal.returns-in-Ordinary
 returns-in-Ordinary c =

@@ -1,10 +1,12 @@
 -- `words::read_or_ask` meets its contract: where the chart reaches no target there is no reading, and else the first one is written, where it is wanted.
 use native.Mathlib.Omega.{arith}
 use Prim.Native.Nat.{ℕ, ◌≤◌}
-use mathlib.Core.Path.{sym, ◌∙◌}
+use mathlib.Core.Path.{refl, sym, ◌∙◌}
 use lib.ListN.{length, replicate, length-replicate}
 use lib.Seq.{length-take-le}
 use Rattle.figures.specs.Limits.{max_nodes}
+use Rattle.std.specs.Prelude.{None}
+use Rattle.reach.proofs.Reached.{first_end_lem}
 use Rattle.words.proofs.AskingLaws.{can_fill, found_charted, answers_none, answers_some}
 use Rattle.words.proofs.read_or_ask.Goals as goal
 
@@ -35,17 +37,17 @@ fill-requires c =
     let out = c.lay_out-last.ensures _ c.requires.are_found.2.threaded in
     rw c.nodes_with-count.ensures (can_fill out (omega (arith, c.lay_out-last.auto.nodes, nodes_long)) c.requires.chart_len)
 
-pub first_target-t-requires : goal.first_target-t-requires
-first_target-t-requires c =
+pub first_target-requires : goal.first_target-requires
+first_target-requires c =
     let out = c.lay_out-last.ensures _ c.requires.are_found.2.threaded in
     record { room = omega (arith, c.fill.auto.chart, c.requires.chart_len); few = out.few }
 
-pub returns-then-t-targets : goal.returns-then-t-targets
-returns-then-t-targets c =
+pub returns-in_default : goal.returns-in_default
+returns-in_default c =
     let room : max_nodes ≤ length c.lay_out-last.new.nodes = omega (arith, c.lay_out-last.auto.nodes, nodes_long) in
     λ le words found.
-    let charted = found_charted found (c.lay_out-last.ensures words found.threaded) room c.nodes_with-count.ensures c.fill.ensures c.first_target-t.ensures in
-    answers_none charted c.if-t-targets.true c.args.whole c.args.answer.now
+    let charted = found_charted found (c.lay_out-last.ensures words found.threaded) room c.nodes_with-count.ensures c.fill.ensures (first_end_lem _ _ _ None c.in_default.ensures) in
+    rw c.with.ensures (answers_none charted refl c.args.whole c.args.answer.now)
 
 pub slice_bounds-nodes-end-then-whole : goal.slice_bounds-nodes-end-then-whole
 slice_bounds-nodes-end-then-whole c =
@@ -61,12 +63,12 @@ pub write_reading-requires : goal.write_reading-requires
 write_reading-requires c =
     let room : max_nodes ≤ length c.lay_out-last.new.nodes = omega (arith, c.lay_out-last.auto.nodes, nodes_long) in
     let found = c.requires.are_found.2 in
-    let charted = found_charted found (c.lay_out-last.ensures _ found.threaded) room c.nodes_with-count.ensures c.fill.ensures c.first_target-t.ensures in
+    let charted = found_charted found (c.lay_out-last.ensures _ found.threaded) room c.nodes_with-count.ensures c.fill.ensures c.in-Some.ensures.1 in
     record {
       le = c.requires.are_found.0;
       words = c.requires.are_found.1;
       charted = charted;
-      target_there = omega (arith, charted.first.within, c.if-t-targets.false);
+      target_there = c.in-Some.ensures.0;
       chart_room = c.fill.auto.chart ∙ c.requires.chart_len;
     }
 
@@ -74,12 +76,12 @@ pub returns-then-whole : goal.returns-then-whole
 returns-then-whole c =
     let room : max_nodes ≤ length c.lay_out-last.new.nodes = omega (arith, c.lay_out-last.auto.nodes, nodes_long) in
     λ le words found.
-    let charted = found_charted found (c.lay_out-last.ensures words found.threaded) room c.nodes_with-count.ensures c.fill.ensures c.first_target-t.ensures in
+    let charted = found_charted found (c.lay_out-last.ensures words found.threaded) room c.nodes_with-count.ensures c.fill.ensures c.in-Some.ensures.1 in
     rw c.if-whole.true (c.write_reading.ensures le words charted)
 
 pub returns : goal.returns
 returns c =
     let room : max_nodes ≤ length c.lay_out-last.new.nodes = omega (arith, c.lay_out-last.auto.nodes, nodes_long) in
     λ le words found.
-    let charted = found_charted found (c.lay_out-last.ensures words found.threaded) room c.nodes_with-count.ensures c.fill.ensures c.first_target-t.ensures in
-    rw c.if-whole.false (answers_some charted (omega (arith, charted.first.within, c.if-t-targets.false)) c.args.answer.now)
+    let charted = found_charted found (c.lay_out-last.ensures words found.threaded) room c.nodes_with-count.ensures c.fill.ensures c.in-Some.ensures.1 in
+    rw c.if-whole.false (answers_some charted (c.in-Some.ensures.0) c.args.answer.now)

@@ -1,4 +1,4 @@
-use Prim.Native.Nat.{ℕ, ◌-◌, ◌*◌, ◌≤◌, ◌<◌}
+use Prim.Native.Nat.{ℕ, ◌*◌, ◌<◌}
 use mathlib.Core.Path.{◌≡◌}
 use lib.ListN.{length, get_or}
 use Rattle.figures.specs.Limits.{max_entry_simples}
@@ -8,7 +8,4 @@ use Rattle.book.proofs.entries.pairs_type.Given as goal
 
 abbrev pub invariant-loop-i : goal.invariant-loop-i
 invariant-loop-i l =
-    (l.i ≤ l.count) × (length l.simples ≡ max_entry_simples) × ((k : ℕ) → k < l.i → held (get_or {A = ℕ} l.simples k 0) ≡ simple_from l.part (2 * k))
-
-abbrev pub decreases-loop-i : goal.decreases-loop-i
-decreases-loop-i l = l.count - l.i
+    (length l.simples ≡ max_entry_simples) × ((k : ℕ) → k < l.i → held (get_or {A = ℕ} l.simples k 0) ≡ simple_from l.part (2 * k))

@@ -1,11 +1,8 @@
-use Prim.Native.Nat.{ℕ, ◌-◌, ◌≤◌}
+use Prim.Native.Nat.{ℕ}
 use mathlib.Core.Path.{◌≡◌}
-use lib.ListN.{length, get_or}
+use lib.ListN.{get_or}
 use Rattle.bytewise.proofs.Searching.{Passed}
 use Rattle.bytewise.proofs.search.find_byte.Given as goal
 
 abbrev pub invariant-loop-i : goal.invariant-loop-i
-invariant-loop-i l = (l.from ≤ l.i) × (l.i ≤ length l.bytes) × Passed (λ (k : ℕ). get_or {A = ℕ} l.bytes k 0 ≡ l.byte) l.from l.i
-
-abbrev pub decreases-loop-i : goal.decreases-loop-i
-decreases-loop-i l = length l.bytes - l.i
+invariant-loop-i l = Passed (λ (k : ℕ). get_or {A = ℕ} l.bytes k 0 ≡ l.byte) l.from l.i

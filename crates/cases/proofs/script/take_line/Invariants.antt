@@ -1,9 +1,9 @@
--- `take_line` is safe and ends: fewer bytes are left at each turn. Assumes nothing.
-use Rattle.std.proofs.Common.{◌≤◌}
+-- `take_line` ends: each turn takes at least one byte of the script.
+use Rattle.std.proofs.Common.{◌≤◌, length}
 use Rattle.cases.proofs.script.take_line.Given as goal
 
-abbrev pub invariant-loop-left : goal.invariant-loop-left
-invariant-loop-left l = l.left ≤ 65536
+abbrev pub invariant-loop-byte : goal.invariant-loop-byte
+invariant-loop-byte l = length l.rest ≤ length l.fn.script
 
-abbrev pub decreases-loop-left : goal.decreases-loop-left
-decreases-loop-left l = l.left
+abbrev pub decreases-loop-byte : goal.decreases-loop-byte
+decreases-loop-byte l = length l.rest

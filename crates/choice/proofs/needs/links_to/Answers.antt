@@ -1,41 +1,34 @@
 -- `choice::needs::links_to` meets its contract: by the three tests in turn.
+use borrow.Author.Rules.{rules}
 use native.Mathlib.Omega.{arith}
-use mathlib.Core.Path.{◌≡◌, refl}
-use mathlib.Core.Logic.{◌⊎◌, inl, inr}
-use denote.Enum.Declared.{tag_of}
-use Rattle.pregroup.specs.Tests.{link_kind}
-use Rattle.pregroup.specs.Held.{held, in_rows}
-use Rattle.pregroup.specs.contracts.LinkKind.{the_type}
-use Rattle.pregroup.specs.declared.LinkKind.{LinkKind}
-use Rattle.pregroup.specs.declared.LinkKind.TheVariants.{Not, Same, Different}
+use borrow.Author.Tests.{eqb-true, eqb-false, not-true, not-false}
+use mathlib.Core.Path.{sym, ap, ◌∙◌}
+use mathlib.Core.Bool.{true≢false, not}
 use Rattle.pregroup.proofs.LinkKinds.{told_apart, told_contracts}
 use Rattle.bits.proofs.Cases.{false_iff}
-use Rattle.graph.specs.Graph.{simple_at}
 use Rattle.choice.specs.Sets.{LinksTo}
 use Rattle.choice.proofs.needs.links_to.Goals as goal
+use Rattle.choice.proofs.needs.links_to.Goals.{in-Not, in_default, then-not-matches, else-not-matches}
 
--- What is not `Not` is one of the other two.
-other_tags : (kind : LinkKind) → (kind ≡ Not → ⊥) → (tag_of the_type kind ≡ 1) ⊎ (tag_of the_type kind ≡ 2)
-other_tags Not other = absurd (other refl)
-other_tags Same other = inl refl
-other_tags Different other = inr refl
-
-pub returns-then-next-eq0 : goal.returns-then-next-eq0
-returns-then-next-eq0 c =
-    false_iff (λ (l : LinksTo _ _ _ _ _ _ _). omega (arith, l.simple, c.if-next-eq0.true, c.next_at-next.ensures))
-
-pub returns-in-Not : goal.returns-in-Not
-returns-in-Not c =
-    let asked : let a = c.args in
-    c.may_contract.result ≡ link_kind (in_rows a.order.now) (held a.x) (held (simple_at a.nodes.now a.y)) = rw c.simple_at.ensures at c.may_contract.ensures in
-    let a = c.args in
-    false_iff (λ l. told_apart a.order.now a.x _ asked c.in-Not.is l.contracts)
-
-pub returns-else-next-eq0 : goal.returns-else-next-eq0
-returns-else-next-eq0 c =
-    let asked : let a = c.args in
-    c.may_contract.result ≡ link_kind (in_rows a.order.now) (held a.x) (held (simple_at a.nodes.now a.y)) = rw c.simple_at.ensures at c.may_contract.ensures in
-    let a = c.args in
-    let may = told_contracts a.order.now a.x _ asked (other_tags _ c.in_default.not-Not) in
+pub returns-then-next-ne0 : goal.returns-then-next-ne0
+returns-then-next-ne0 c =
+    let asked = rw c.simple_at.ensures at c.may_contract-kind.ensures in
     let meets = rw c.next_at-next.ensures at c.meets.ensures in
-    (λ h. record { simple = omega (arith, c.if-next-eq0.false, c.next_at-next.ensures); contracts = may; behind = meets.0 h }, λ l. meets.1 l.behind)
+    elim c.if-not-matches.branch [
+      | then-not-matches w ↦ elim c.match-matches.branch [
+        | in-Not v ↦ absurd (true≢false (sym v.matches-is ∙ w.if-not-matches.true))
+        | in_default v ↦ (λ h. record { simple = omega (arith, c.next_at-next.ensures, eqb-false _ _ (not-true _ (sym w.value-is ∙ c.if-next-ne0.true))); contracts = told_contracts _ _ _ asked (search rules); behind = meets.0 h }, λ l. meets.1 l.behind)
+      ]
+      | else-not-matches w ↦ absurd (true≢false (sym c.if-next-ne0.true ∙ w.value-is ∙ ap not w.if-not-matches.false))
+    ]
+
+pub returns-else-next-ne0 : goal.returns-else-next-ne0
+returns-else-next-ne0 c =
+    let asked = rw c.simple_at.ensures at c.may_contract-kind.ensures in
+    rw c.if-next-ne0.false (false_iff (λ (l : LinksTo _ _ _ _ _ _ _). elim c.if-not-matches.branch [
+      | then-not-matches w ↦ omega (arith, l.simple, c.next_at-next.ensures, eqb-true _ _ (not-false _ (sym w.value-is ∙ c.if-next-ne0.false)))
+      | else-not-matches w ↦ elim c.match-matches.branch [
+        | in-Not v ↦ told_apart _ _ _ asked v.in-Not.is l.contracts
+        | in_default v ↦ true≢false (sym w.if-not-matches.false ∙ v.matches-is)
+      ]
+    ]))

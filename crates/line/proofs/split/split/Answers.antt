@@ -1,27 +1,20 @@
 -- `line::split::split` meets its contract: the words kept and the words that the rest holds are always those of the line.
 use native.Mathlib.Omega.{arith}
 use Prim.Native.Nat.{◌≤◌}
-use mathlib.Core.Path.{ap, ◌∙◌}
-use mathlib.Core.Bool.{Bool, cond}
-use mathlib.Core.Option.{some, none}
 use lib.ListN.{length}
-use borrow.Author.Tests.{lt-ltb, le-ltb}
 use Rattle.figures.specs.Limits.{max_words}
-use Rattle.line.proofs.WordLaws.{word_found}
+use Rattle.line.proofs.WordLaws.{word_found, bad_found, none_bad}
 use Rattle.line.proofs.SplitLaws.{splitting_start, splitting_long, splitting_many, splitting_next, splitting_end}
 use Rattle.line.specs.Split.{at_byte}
 use Rattle.line.proofs.split.split.Goals as goal
 
-pub returns-then-bad-line : goal.returns-then-bad-line
-returns-then-bad-line c =
-    at_byte (c.bad_byte-bad.ensures.1 ∙ ap (λ (t : Bool). cond t (some c.bad_byte-bad.result) none) (lt-ltb _ _ c.if-bad-line.true))
+pub returns-in-Some : goal.returns-in-Some
+returns-in-Some c = rw c.with.ensures (at_byte (bad_found c.args.line.now c.in-Some.bad c.in-Some.ensures))
 
 pub loop-at-init : goal.loop-at-init
 loop-at-init c =
     let a = c.args in
-    let r = c.bad_byte-bad in
-    let fine = r.ensures.1 ∙ ap (λ (t : Bool). cond t (some r.result) none) (le-ltb r.result (length a.line.now) (omega arith)) in
-    splitting_start a.line.now a.starts.now a.ends.now _ fine c.skip_spaces-at.ensures
+    splitting_start a.line.now a.starts.now a.ends.now _ (none_bad a.line.now c.in_default.ensures) c.skip_spaces-at.ensures
 
 pub overflow_sub-end : goal.overflow_sub-end
 overflow_sub-end c =
@@ -38,7 +31,7 @@ pub returns-then-end-at-gt-MAX_WORD : goal.returns-then-end-at-gt-MAX_WORD
 returns-then-end-at-gt-MAX_WORD c =
     let word = word_found _ _ _ c.loop-at-test.true (c.loop-at.invariant.stops c.loop-at-test.true) c.find_byte-end.ensures in
     let l = c.loop-at in
-    splitting_long _ _ _ l.starts l.ends l.count l.at l.invariant _ word c.if-end-at-gt-MAX_WORD.true
+    rw c.with-then-end-at-gt-MAX_WORD.ensures (splitting_long _ _ _ l.starts l.ends l.count l.at l.invariant _ word c.if-end-at-gt-MAX_WORD.true)
 
 pub shape_of-starts-then-count-ge-MAX_WORDS : goal.shape_of-starts-then-count-ge-MAX_WORDS
 shape_of-starts-then-count-ge-MAX_WORDS c = c.loop-at.invariant.starts_length
@@ -50,7 +43,7 @@ pub returns-then-count-ge-MAX_WORDS : goal.returns-then-count-ge-MAX_WORDS
 returns-then-count-ge-MAX_WORDS c =
     let word = word_found _ _ _ c.loop-at-test.true (c.loop-at.invariant.stops c.loop-at-test.true) c.find_byte-end.ensures in
     let l = c.loop-at in
-    splitting_many _ _ _ l.starts l.ends l.count l.at l.invariant _ word (omega arith) c.if-count-ge-MAX_WORDS.true
+    rw c.with-then-count-ge-MAX_WORDS.ensures (splitting_many _ _ _ l.starts l.ends l.count l.at l.invariant _ word (omega arith) c.if-count-ge-MAX_WORDS.true)
 
 pub bounds-starts-count : goal.bounds-starts-count
 bounds-starts-count c = omega (arith, c.loop-at.invariant.starts_length, c.requires.0)

@@ -58,7 +58,7 @@ pub returns-then-entries-first : goal.returns-then-entries-first
 returns-then-entries-first c =
     let thread : (B : Book) → KeptOf c.args.book.now c.args.entries.now B → Thread c.args.book.now B.names c.args.entries.now c.find_word-first.new.same c.find_word-first.result (entries_of B (word c.args.line.now c.args.starts.now c.args.ends.now c.requires.3 c.loop-k.k)) = λ B kept. word_thread _ _ _ c.requires.3 B kept c.loop-k.k c.find_word-first.ensures.found in
     let s = c.requires.3 in
-    record { threaded = c.find_word-first.ensures.threaded; looked_up = λ B kept. looking_none _ _ _ s B (c.loop-k.invariant.looking B kept s) c.loop-k-test.true (thread B kept) (omega (arith, c.if-entries-first.true)) }
+    rw c.with.ensures (record { threaded = c.find_word-first.ensures.threaded; looked_up = λ B kept. looking_none _ _ _ s B (c.loop-k.invariant.looking B kept s) c.loop-k-test.true (thread B kept) (omega (arith, c.if-entries-first.true)) })
 
 pub overflow_cast-firsts : goal.overflow_cast-firsts
 overflow_cast-firsts c = omega (arith, c.find_word-first.ensures.low)
@@ -78,12 +78,6 @@ overflow_add-sum c =
     let small : c.tally-sum.result ≤ max_entries * max_entry_simples = (c.tally-sum.ensures _ _ c.requires.0.1.lexicon (found_thread _ _ _ _ c.find_word-first.ensures.found)).small in
     omega (arith, c.loop-k.invariant.small, c.loop-k-test.true, c.requires.3.few, small)
 
-pub overflow_add-k : goal.overflow_add-k
-overflow_add-k c = omega (arith, c.loop-k-test.true, c.requires.3.few)
-
-pub loop-k-smaller : goal.loop-k-smaller
-loop-k-smaller c = omega (arith, c.loop-k-test.true)
-
 pub loop-k-preserved : goal.loop-k-preserved
 loop-k-preserved c =
     let inside-firsts : c.loop-k.k < length c.loop-k.firsts = omega (arith, c.loop-k-test.true, c.requires.3.few, c.requires.4, c.loop-k.invariant.firsts_length) in
@@ -102,7 +96,7 @@ shape_of-same-then-sum-gt-MAX_LINE_SIMPLES c = c.loop-k.invariant.same_length
 pub returns-then-sum-gt-MAX_LINE_SIMPLES : goal.returns-then-sum-gt-MAX_LINE_SIMPLES
 returns-then-sum-gt-MAX_LINE_SIMPLES c =
     let s = c.requires.3 in
-    record { threaded = c.loop-k.invariant.threaded; looked_up = λ B kept. looking_full _ _ _ s B _ _ (c.loop-k.invariant.looking B kept s) (omega arith) c.if-sum-gt-MAX_LINE_SIMPLES.true }
+    rw c.with-then-sum-gt-MAX_LINE_SIMPLES.ensures (record { threaded = c.loop-k.invariant.threaded; looked_up = λ B kept. looking_full _ _ _ s B _ _ (c.loop-k.invariant.looking B kept s) (omega arith) c.if-sum-gt-MAX_LINE_SIMPLES.true })
 
 pub shape_of-firsts : goal.shape_of-firsts
 shape_of-firsts c = c.loop-k.invariant.firsts_length

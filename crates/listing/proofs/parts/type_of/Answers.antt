@@ -1,20 +1,27 @@
 -- `listing::parts::type_of` meets its contract: a type is that of the entry whose record stands at the kept offset.
-use mathlib.Core.Path.{refl}
+use native.Mathlib.Omega.{arith}
+use Prim.Native.Nat.{◌≤◌}
+use mathlib.Core.Path.{refl, ◌∙◌}
+use lib.ListN.{length}
+use Rattle.std.proofs.lemmas.Grind.{common_steps}
 use Rattle.format.specs.Records.{bodies_at}
 use Rattle.listing.proofs.PartLaws.{type_at, no_type, nothing_held}
 use Rattle.listing.proofs.parts.type_of.Goals as goal
 
-pub returns-then-entries-entry : goal.returns-then-entries-entry
-returns-then-entries-entry c =
-    let a = c.args in
-    rw (no_type a.book.now (bodies_at a.book.now a.names.now a.types) a.entries.now a.entry c.if-entries-entry.true) (nothing_held _ refl)
-
 pub entry_type-requires : goal.entry_type-requires
 entry_type-requires c =
     let i = c.args.entry in
-    rw c.wide_number.ensures (c.requires.0, c.requires.1.kept.whole i c.if-entries-entry.false, c.requires.1.formed i c.if-entries-entry.false)
+    let at = c.in-Some.ensures.lookup.3 in
+    rw (c.wide_number.ensures ∙ at.1 0) (c.requires.0, c.requires.1.kept.whole i at.0, c.requires.1.formed i at.0)
 
-pub returns : goal.returns
-returns c =
+pub returns-in-Some : goal.returns-in-Some
+returns-in-Some c =
     let a = c.args in
-    rw (type_at a.book.now (bodies_at a.book.now a.names.now a.types) a.entries.now a.entry c.if-entries-entry.false) (rw c.wide_number.ensures at c.entry_type.ensures)
+    let at = c.in-Some.ensures.lookup.3 in
+    rw (type_at a.book.now (bodies_at a.book.now a.names.now a.types) a.entries.now a.entry at.0) (rw (c.wide_number.ensures ∙ at.1 0) at c.entry_type.ensures)
+
+pub returns-in-None : goal.returns-in-None
+returns-in-None c =
+    let a = c.args in
+    let past : length a.entries.now ≤ a.entry = grind (arith, common_steps) in
+    rw (no_type a.book.now (bodies_at a.book.now a.names.now a.types) a.entries.now a.entry past) (nothing_held _ refl)

@@ -1,5 +1,4 @@
 -- `lookup::find::find_word` meets its contract: the first entry is sought on the thread of the word's key, and the rest is threaded where it was not.
-use native.Mathlib.Omega.{arith}
 use Prim.Native.Nat.{ℕ, ◌+◌}
 use mathlib.Core.Path.{◌≡◌}
 use mathlib.Core.List.{List}
@@ -11,6 +10,7 @@ use Rattle.lookup.specs.Threads.{key, OfWord, OfKey, Alike}
 use Rattle.lookup.proofs.KeyLaws.{key_below}
 use Rattle.lookup.proofs.FindLaws.{finds_none, finds_known, finds_joined}
 use Rattle.lookup.proofs.find.find_word.Goals as goal
+use Rattle.lookup.proofs.find.find_word.Goals.{else-first-entries-via-then-first-entries+else-same-first-eq0, else-first-entries-via-else-first-entries}
 
 -- What is sought from the head of the word's key is the first of the word's entries.
 sought : (book : Bytes) (entries : List ℕ) (word : Bytes) {alike : List ℕ} {k head first : ℕ} → Alike book entries alike → k ≡ key word
@@ -18,15 +18,6 @@ sought : (book : Bytes) (entries : List ℕ) (word : Bytes) {alike : List ℕ} {
     → ((a : ℕ) → First (OfKey book entries (key word)) a (length entries) head → First (OfWord book entries word) a (length entries) first)
     → First (OfWord book entries word) 0 (length entries) first
 sought book entries word threads own at_head seeks = seeks 0 (rw (at_head, own) (threads.heads (key word) (key_below word)))
-
-pub overflow_add-key_of : goal.overflow_add-key_of
-overflow_add-key_of c = omega (arith, key_below c.args.word.now)
-
-pub offset_bounds-alike-key_of : goal.offset_bounds-alike-key_of
-offset_bounds-alike-key_of c = omega (arith, key_below c.args.word.now)
-
-pub bounds-alike-key_of : goal.bounds-alike-key_of
-bounds-alike-key_of c = omega (arith, key_below c.args.word.now, c.requires.1.room)
 
 pub join-requires : goal.join-requires
 join-requires c =
@@ -38,12 +29,11 @@ returns-then-same-first-eq0 c =
     let first = sought c.args.book.now c.args.entries.now c.args.word.now c.requires.1 c.key_of.ensures c.wide_number-head.ensures c.seek-first.ensures.by_index in
     finds_joined _ _ _ c.seek-first.ensures.upper_bound c.requires.2 first c.join.auto.same c.join.ensures
 
-pub returns-else-same-first-eq0 : goal.returns-else-same-first-eq0
-returns-else-same-first-eq0 c =
-    let first = sought c.args.book.now c.args.entries.now c.args.word.now c.requires.1 c.key_of.ensures c.wide_number-head.ensures c.seek-first.ensures.by_index in
-    finds_known _ _ _ c.seek-first.ensures.upper_bound c.requires.2 first c.if-first-entries.true c.if-same-first-eq0.false
-
 pub returns-else-first-entries : goal.returns-else-first-entries
 returns-else-first-entries c =
+    let low = c.seek-first.ensures.upper_bound in
     let first = sought c.args.book.now c.args.entries.now c.args.word.now c.requires.1 c.key_of.ensures c.wide_number-head.ensures c.seek-first.ensures.by_index in
-    finds_none _ _ _ c.seek-first.ensures.upper_bound c.requires.2 first c.if-first-entries.false
+    elim c.else-first-entries.branch [
+      | else-first-entries-via-then-first-entries+else-same-first-eq0 w ↦ finds_known _ _ _ low c.requires.2 first w.if-first-entries.true w.if-same-first-eq0.false
+      | else-first-entries-via-else-first-entries w ↦ finds_none _ _ _ low c.requires.2 first w.if-first-entries.false
+    ]

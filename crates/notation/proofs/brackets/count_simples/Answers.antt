@@ -1,21 +1,9 @@
--- `notation::brackets::count_simples` meets its contract: what is counted, with the slashes that are left, is one more than all.
-use Prim.Native.Nat.{◌≤◌, ◌<◌}
-use native.Mathlib.Omega.{arith}
-use lib.ListN.{length}
-use Rattle.notation.specs.Grammar.{slash, backslash}
-use Rattle.notation.proofs.BracketLaws.{times_at, times_end}
+-- `notation::brackets::count_simples` meets its contract: what the filter lets through are the slashes.
+use Rattle.std.proofs.Common.{rules, ◌≡◌, count_by, arith}
+use Rattle.notation.proofs.BracketLaws.{is_slash, slashes_counted}
 use Rattle.notation.proofs.brackets.count_simples.Goals as goal
-
-pub loop-i-preserved : goal.loop-i-preserved
-loop-i-preserved c =
-    let text = c.args.text.now in
-    let i = c.loop-i.i in
-    let small : i < length text = omega arith in
-    (omega arith, omega arith, omega (arith, times_at slash text i small, times_at backslash text i small, c.one_if.ensures.0, c.one_if-in-loop-i.ensures.0))
 
 pub returns : goal.returns
 returns c =
-    let text = c.args.text.now in
-    let i = c.loop-i.i in
-    let done : length text ≤ i = omega arith in
-    omega (arith, times_end slash text i done, times_end backslash text i done)
+    let count : c.count.result ≡ count_by is_slash c.args.text.now = search rules in
+    omega (arith, slashes_counted c.args.text.now)

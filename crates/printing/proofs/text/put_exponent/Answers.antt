@@ -21,16 +21,16 @@ minus raised h = let e : suc (bias - suc raised) ≡ bias - raised = omega arith
 pub put_number-requires : goal.put_number-requires
 put_number-requires c = rw (plain _ c.if-raised-ge-BIAS.true) at c.requires
 
-pub returns-then-raised-ge-BIAS : goal.returns-then-raised-ge-BIAS
-returns-then-raised-ge-BIAS c = rw (plain _ c.if-raised-ge-BIAS.true) c.put_number.ensures
-
-pub put_byte-start-requires : goal.put_byte-start-requires
-put_byte-start-requires c =
+pub put_byte-requires : goal.put_byte-requires
+put_byte-requires c =
     let a = c.args in
     countable_front (decimal (bias - a.raised) ++ (a.close ∷ [])) (rw (minus a.raised c.if-raised-ge-BIAS.false) at c.requires)
 
-pub put_number-requires-2 : goal.put_number-requires-2
-put_number-requires-2 c = countable_back (rw (minus _ c.if-raised-ge-BIAS.false) at c.requires) c.put_byte-start.ensures
+pub put_number-requires-else-raised-ge-BIAS : goal.put_number-requires-else-raised-ge-BIAS
+put_number-requires-else-raised-ge-BIAS c = countable_back (rw (minus _ c.if-raised-ge-BIAS.false) at c.requires) c.put_byte.ensures.placed
 
-pub returns : goal.returns
-returns c = rw (minus _ c.if-raised-ge-BIAS.false) (placed_append c.put_byte-start.ensures c.put_number-2.ensures)
+pub returns-then-raised-ge-BIAS-clause-placed : goal.returns-then-raised-ge-BIAS-clause-placed
+returns-then-raised-ge-BIAS-clause-placed c = rw (plain _ c.if-raised-ge-BIAS.true) c.put_number.ensures.placed
+
+pub returns-else-raised-ge-BIAS-clause-placed : goal.returns-else-raised-ge-BIAS-clause-placed
+returns-else-raised-ge-BIAS-clause-placed c = rw (minus _ c.if-raised-ge-BIAS.false) (placed_append c.put_byte.ensures.placed c.put_number-else-raised-ge-BIAS.ensures.placed)

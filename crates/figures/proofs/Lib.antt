@@ -1,0 +1,2 @@
+-- Laws about the causes of refusals.
+pub mod Causes
