@@ -8,16 +8,14 @@ use lib.ListN.{length, take, drop, replicate, length-replicate}
 use lib.Seq.{length-take-le}
 use borrow.Author.Tests.{lt-ltb, le-ltb}
 use Rattle.figures.specs.Limits.{max_batch_values}
-use Rattle.figures.specs.Refusals.{bad_batch, answers_too_long}
+use Rattle.figures.specs.Refusals.{bad_batch, answers_too_long, Refused}
 use Rattle.format.specs.Records.{Bytes}
 use Rattle.book.specs.Format.{Book, accepted, refused, parse}
 use Rattle.answer.specs.Answers.{Outcome, Gives}
-use Rattle.batch.specs.Batch.{BatchAnswer}
+use Rattle.batch.specs.Batch.{BatchAnswer, given_parts, read_lines, read_batch, batch_outcome}
 use Rattle.std.specs.Prelude.{Ok}
-use Rattle.figures.specs.Refusals.{Refused}
 use Rattle.batch_lines.specs.Lines.{batch_lines}
 use Rattle.batch_parts.specs.Parts.{parts_of}
-use Rattle.batch.specs.Batch.{given_parts, read_lines, read_batch, batch_outcome}
 use Rattle.batch_parts.specs.Stored.{Readying, StoredParts}
 use Rattle.batch_lines.proofs.LinesLaws.{lines_found}
 use Rattle.batch.proofs.BatchPromises.{batch_is}

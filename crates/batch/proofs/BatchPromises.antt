@@ -10,7 +10,7 @@ use lib.Dec.{ltb}
 use lib.ListN.{length, drop, replicate}
 use borrow.Author.Tests.{ltb-true, ltb-false}
 use Rattle.figures.specs.Limits.{max_batch, max_lines, max_values}
-use Rattle.figures.specs.Refusals.{Reply, refusal, no_reading, bad_batch, answers_too_long}
+use Rattle.figures.specs.Refusals.{Reply, refusal, no_reading, bad_batch, answers_too_long, Refused}
 use Rattle.bits.proofs.Cases.{some_same, none_some}
 use Rattle.format.specs.Records.{Bytes}
 use Rattle.book.specs.Format.{Book, Parsed, accepted, refused, parse}
@@ -22,12 +22,10 @@ use Rattle.book.specs.Check.{BookNumber}
 use Rattle.reader.proofs.Promises.{outcome_promised, other_number, same_value}
 use Rattle.reader.proofs.Ample.{not_short, reading_within}
 use Rattle.answer.proofs.GivenLaws.{refused_number}
-use Rattle.batch.specs.Batch.{BatchAnswer}
+use Rattle.batch.specs.Batch.{BatchAnswer, batch_reply, given_parts, read_lines, read_batch, batch_outcome}
 use Rattle.std.specs.Prelude.{Ok}
-use Rattle.figures.specs.Refusals.{Refused}
 use Rattle.batch_lines.specs.Lines.{lines_of, up_to, batch_lines, IsLines, IsBatch, BadBatch, more_bytes, more_lines, not_closed}
 use Rattle.batch_parts.specs.Parts.{alone_reply, part_of, parts_of}
-use Rattle.batch.specs.Batch.{batch_reply, given_parts, read_lines, read_batch, batch_outcome}
 use Rattle.batch.specs.BatchDemands.{LineGets, Parts, no_part, part, GoodBatch, BatchWritten, BatchTooLong, BatchPromised}
 use Rattle.batch_lines.proofs.LinesLaws.{lines_found, lines_are, not_closed_none, none_not_closed}
 use Rattle.batch_parts.proofs.PartLaws.{zeros_long, alone_ample, alone_is}

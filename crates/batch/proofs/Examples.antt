@@ -7,7 +7,7 @@ use mathlib.Core.List.{List, [], ◌∷◌, ◌++◌, map}
 use mathlib.Core.Option.{some}
 use lib.ListN.{replicate, length-append, length-replicate, get_or-replicate}
 use Rattle.figures.specs.Limits.{max_lines}
-use Rattle.figures.specs.Refusals.{no_target, bad_batch, answers_too_long}
+use Rattle.figures.specs.Refusals.{no_target, bad_batch, answers_too_long, Refused}
 use Rattle.pregroup.specs.Types.{even}
 use Rattle.pregroup.specs.Tests.{same_exponent, contracts}
 use Rattle.order.specs.Closed.{below}
@@ -26,12 +26,10 @@ use Rattle.lookup.specs.Entries.{entries_from, simples_in, simples_of_words}
 use Rattle.answer.specs.Answers.{Outcome, given}
 use Rattle.reader.specs.Outcome.{read_against, read_parsed}
 use Rattle.reader.proofs.Table.{line_of}
-use Rattle.batch.specs.Batch.{BatchAnswer}
+use Rattle.batch.specs.Batch.{BatchAnswer, given_parts, read_lines, read_batch, batch_outcome}
 use Rattle.std.specs.Prelude.{Ok}
-use Rattle.figures.specs.Refusals.{Refused}
 use Rattle.batch_lines.specs.Lines.{line_break, lines_of, up_to, batch_lines, close_each, Unbroken}
 use Rattle.batch_parts.specs.Parts.{parts_of}
-use Rattle.batch.specs.Batch.{given_parts, read_lines, read_batch, batch_outcome}
 use Rattle.batch_lines.proofs.LinesLaws.{lines_first, batch_long, batch_short}
 
 abbrev refused : ℕ → ℕ → List ℕ → Outcome BatchAnswer

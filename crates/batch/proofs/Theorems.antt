@@ -7,17 +7,15 @@ use mathlib.Core.List.{List}
 use mathlib.Core.Option.{none, some}
 use lib.ListN.{length}
 use Rattle.figures.specs.Limits.{max_values}
-use Rattle.figures.specs.Refusals.{refusal, no_reading, buffer_too_short, bad_batch, answers_too_long}
+use Rattle.figures.specs.Refusals.{refusal, no_reading, buffer_too_short, bad_batch, answers_too_long, Refused}
 use Rattle.format.specs.Records.{Bytes}
 use Rattle.book.specs.Format.{Book}
 use Rattle.linking.specs.Reading.{Words, HasChain}
-use Rattle.figures.specs.Refusals.{Refused as RefusedLine}
 use Rattle.answer.specs.Answers.{line_reply, outcome_reply}
 use Rattle.reader.specs.Outcome.{outcome}
 use Rattle.reader.specs.Demands.{OrderOf, Readable}
 use Rattle.book.specs.Check.{BookNumber}
 use Rattle.reader.proofs.Ample.{ample_reply_lem, never_short}
-use Rattle.figures.specs.Refusals.{Refused}
 use Rattle.batch_lines.specs.Lines.{lines_of, IsLines, NotClosed, IsBatch, BadBatch}
 use Rattle.batch_parts.specs.Parts.{alone_reply, part_of, parts_of}
 use Rattle.batch.specs.Batch.{batch_outcome}
@@ -40,7 +38,7 @@ module _ (bytes : Bytes) where
 
 module _ (book line : Bytes) (lent : List ℕ) (enough : max_values ≤ length lent) where
   -- Where `max_values` values are lent, a line never gets 16 ..
-  pub ample_never_short : (v : ℕ) → (outcome book line lent).answer ≡ RefusedLine buffer_too_short v → ⊥
+  pub ample_never_short : (v : ℕ) → (outcome book line lent).answer ≡ Refused buffer_too_short v → ⊥
   ample_never_short v e = never_short book line lent enough (ap (λ a. (line_reply a (outcome book line lent).buffer).number) e)
 
   -- .. and every such buffer gets it the same.

@@ -1,6 +1,6 @@
 -- What document 02, 2.2, promises of a batch's answer and of the buffer behind it, in its own terms: lines, what each of them gets alone, and the values
 -- that are lent. `batch_outcome` has all of this, which proofs/BatchPromises.antt proves.
-use Rattle.std.specs.Prelude.{ℕ, ◌≤◌, ◌<◌, ◌≡◌, ◌↔◌, List, [], ◌∷◌, ◌++◌, length, drop}
+use Rattle.std.specs.Prelude.{ℕ, ◌≤◌, ◌<◌, ◌≡◌, ◌↔◌, List, [], ◌∷◌, ◌++◌, length, drop, Ok}
 use Rattle.figures.specs.Limits.{max_values}
 use Rattle.figures.specs.Refusals.{Reply, refusal, no_reading, buffer_too_short, bad_batch, answers_too_long}
 use Rattle.format.specs.Records.{Bytes}
@@ -9,11 +9,9 @@ use Rattle.linking.specs.Reading.{Words, IsReading, HasChain}
 use Rattle.answer.specs.Answers.{outcome_reply}
 use Rattle.reader.specs.Outcome.{outcome}
 use Rattle.reader.specs.Demands.{OrderOf, Readable, FirstWhole}
-use Rattle.batch.specs.Batch.{BatchAnswer}
-use Rattle.std.specs.Prelude.{Ok}
+use Rattle.batch.specs.Batch.{BatchAnswer, batch_reply}
 use Rattle.batch_lines.specs.Lines.{IsBatch, BadBatch}
 use Rattle.batch_parts.specs.Parts.{part_of}
-use Rattle.batch.specs.Batch.{batch_reply}
 
 -- What a line of a batch gets.
 pub record LineGets (book line : Bytes) (reply : Reply) : Type 0 where

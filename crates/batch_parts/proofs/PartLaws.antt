@@ -6,13 +6,11 @@ use mathlib.Core.List.{List, [], ◌∷◌, ◌++◌}
 use lib.ListN.{length, get_or, take, drop, replicate, length-append, length-take, length-drop, length-replicate}
 use lib.Seq.{sets, sets-eq, take_at, drop_at, take-append-le, take-append-add, length-take-le}
 use Rattle.figures.specs.Limits.{max_values, max_batch, max_part, value_bound}
-use Rattle.figures.specs.Refusals.{Reply, refusal}
+use Rattle.figures.specs.Refusals.{Reply, refusal, Refused}
 use Rattle.format.specs.Records.{Bytes}
 use Rattle.book.specs.Format.{Book, accepted, parse}
-use Rattle.answer.specs.Answers.{LineAnswer}
+use Rattle.answer.specs.Answers.{LineAnswer, line_reply, outcome_reply, Gives}
 use Rattle.std.specs.Prelude.{Ok}
-use Rattle.figures.specs.Refusals.{Refused}
-use Rattle.answer.specs.Answers.{line_reply, outcome_reply, Gives}
 use Rattle.reader.specs.Outcome.{outcome}
 use Rattle.reader.proofs.Promises.{refusals_within}
 use Rattle.reader.proofs.Refusals.{line_some, line_small}

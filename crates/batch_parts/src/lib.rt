@@ -40,7 +40,8 @@ fn read_part(
     line: &[u8],
     part: &mut [u16],
 ) -> usize
-    requires fact { IsOpen book.bytes.now book.names.now book.entries.now book.alike.now book.order.now book.targets.now × Threaded book.bytes.now book.entries.now same.old }
+    requires fact { IsOpen book.bytes.now book.names.now book.entries.now book.alike.now book.order.now book.targets.now
+        × Threaded book.bytes.now book.entries.now same.old }
     requires chart_len { length chart.old ≡ chart_words }
     requires line_len_bound { (length line.now ≤ max_batch) × (max_part ≤ length part.old) }
     ensures threaded { Threaded book.entry.bytes.now book.entry.entries.now same.new }
@@ -60,7 +61,8 @@ pub fn read_parts(
     batch: &[u8],
     store: &mut [u16],
 ) -> usize
-    requires fact { IsOpen book.bytes.now book.names.now book.entries.now book.alike.now book.order.now book.targets.now × Threaded book.bytes.now book.entries.now same.old }
+    requires fact { IsOpen book.bytes.now book.names.now book.entries.now book.alike.now book.order.now book.targets.now
+        × Threaded book.bytes.now book.entries.now same.old }
     requires chart_len { length chart.old ≡ chart_words }
     requires readying { Readying batch.now store.old }
     ensures { StoredParts book.entry.bytes.now batch.now result store.new }

@@ -4,7 +4,7 @@ ghost use Rattle.book.specs.Kept.{store, StoreRoomy, NoPairs, Sound, TakenSays, 
 
 use crate::record_reader::fault_at;
 use crate::{Counts, Progress};
-use bytewise::widths::{two_bytes, wide_byte};
+use bytewise::widths::two_bytes;
 use figures::limits::MAX_BOOK;
 use figures::refusals::{Cause, Refusal};
 use format::layout::{HEAD, body_at};
@@ -38,7 +38,7 @@ fn take_record(
             })
         }
         ORDER_PAIR => {
-            let lower = wide_byte(body[0]);
+            let lower = usize::from(body[0]);
             direct[lower] = bits::with(direct[lower], body[1]);
             Ok(Progress { at, ..p })
         }

@@ -1,4 +1,4 @@
-// Bytes where they stand: compared eight at a time, searched, and widened to numbers.
+// Bytes where they stand: compared eight at a time, searched, and read as numbers.
 #![tactic(auto)]
 
 pub mod compare;

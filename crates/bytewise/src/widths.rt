@@ -1,20 +1,6 @@
-// Narrow numbers in the width that the code counts in.
+// Numbers of 16 bits, read in the width that the code counts in.
 ghost use Rattle.std.specs.Prelude.{◌≡◌, ◌+◌, ◌<◌, length, get_or};
 ghost use Rattle.bytewise.specs.Compare.{ReadsNumber};
-
-// A byte.
-pub fn wide_byte(byte: u8) -> usize
-    ensures { (result ≡ byte) × (result < 256) }
-{
-    usize::from(byte)
-}
-
-// A number of 16 bits: a kept offset, an entry's number or a value of an answer.
-pub fn wide_number(number: u16) -> usize
-    ensures { result ≡ number }
-{
-    usize::from(number)
-}
 
 // The number at a place of a list of 16-bit ones, 0 where the list has no such place.
 pub fn value_at(values: &[u16], at: usize) -> usize

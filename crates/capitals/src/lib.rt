@@ -73,7 +73,7 @@ fn small_eight(bytes: usize) -> usize
     bytes + (like ^ (like & bytes)) / 4
 }
 
-// The same for two words of one length, letter by letter. The library's `eq_ignore_ascii_case` takes 18 instructions for two equal letters, `all`
+// Whether two words of one length are the same, letter by letter. The library's `eq_ignore_ascii_case` takes 18 instructions for two equal letters, `all`
 // over a `zip` 9, and this 7.
 #[tactic(auto, using(crate::proofs::LetterLaws::other_letter, crate::proofs::LetterLaws::all_letters))]
 fn same_letters(a: &[u8], b: &[u8]) -> bool

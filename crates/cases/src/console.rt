@@ -10,6 +10,7 @@ pub fn fill<R: Read>(reader: &mut R, buf: &mut [u8]) -> usize
     ensures counted { result ≡ length (take result buf.new) }
 {
     let mut count = 0;
+    // A read gives any number of bytes, so there is no range to go over.
     while count < buf.len() {
         match reader.read(&mut buf[count..]) {
             Ok(0) | Err(_) => break,

@@ -56,6 +56,7 @@ fn take_line<'a>(script: &'a [u8], line: &mut Buffer) -> Option<&'a [u8]>
 {
     line.clear();
     let mut rest = script;
+    // A byte may stand for several that follow it, so the rest is what a turn goes by.
     while let Some((byte, behind)) = rest.split_first() {
         rest = match *byte {
             0 => break,
@@ -76,6 +77,7 @@ fn each_line_of<F: FnMut(&[u8]) -> io::Result<()>>(script: &[u8], mut visit: F) 
 {
     let mut line = Buffer::new();
     let mut rest = script;
+    // A line is known when it has been taken, so the rest is what a turn goes by.
     while let Some(behind) = take_line(rest, &mut line) {
         match line.written() {
             None | Some([] | [b'#', ..]) => {}

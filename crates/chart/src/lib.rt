@@ -34,11 +34,15 @@ fn join_row(order: &[u64], nodes: &[u64], chart: &[u64], row: Row, x: u16, y: us
     ensures { RowSays result.words 0 (λ v. InRow row.words 0 v
         ⊎ Joined (InRows order.now) nodes.now chart.now x y v) }
 {
-    let next = next_at(nodes, y);
-    if next == 0 || pregroup::may_contract(order, x, simple_at(nodes, y)) == LinkKind::Not {
-        row
-    } else {
-        rows::unite(row, chart, next)
+    match pregroup::may_contract(order, x, simple_at(nodes, y)) {
+        LinkKind::Not => row,
+        _ => {
+            let next = next_at(nodes, y);
+            if next == 0 {
+                return row;
+            }
+            rows::unite(row, chart, next)
+        }
     }
 }
 

@@ -31,7 +31,7 @@ use Rattle.answer.specs.Entries.{entry_numbers}
 use Rattle.answer.specs.Written.{Linkable, Writable, WroteAnswer}
 use Rattle.answer.proofs.ValueLaws.{entry_numbers_length}
 use Rattle.answer.proofs.GivenLaws.{gives_short, gives_read}
-use Rattle.std.specs.Prelude.{Ok, Err}
+use Rattle.std.specs.Prelude.{Ok}
 use Rattle.figures.specs.Refusals.{Refused}
 use Rattle.answer.specs.Answers.{values_of, answer_length, given, Gives}
 use Rattle.reach.specs.Charted.{Drawn, Charted}

@@ -6,8 +6,7 @@ use Rattle.pregroup.specs.Order.{Relation}
 use Rattle.pregroup.specs.Tests.{Test}
 use Rattle.linking.specs.Reading.{Words, first_reading}
 use Rattle.graph.specs.Graph.{Graph}
-use Rattle.answer.specs.Answers.{LineAnswer}
-use Rattle.answer.specs.Answers.{given, Gives}
+use Rattle.answer.specs.Answers.{LineAnswer, given, Gives}
 use Rattle.reach.specs.Charted.{Charted}
 
 -- Some words are charted, and target t is reached.

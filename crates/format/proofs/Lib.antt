@@ -1,6 +1,5 @@
 -- Laws that the proofs of several functions cite.
 pub mod Bools
-pub mod Every
 pub mod NameFronts
 pub mod NameLaws
 pub mod RecordLaws

@@ -13,8 +13,7 @@ use Rattle.std.proofs.lemmas.Bool.Decides.{same_from_decides}
 use Rattle.std.proofs.lemmas.Slice.Eq.{compares_Decides}
 use Rattle.figures.specs.Limits.{max_name}
 use Rattle.format.specs.Names.{name_byte, is_name, number_of}
-use Rattle.format.specs.Records.{between, Bytes, every, same_bytes, body_at}
-use Rattle.format.specs.Records.{bodies_at}
+use Rattle.format.specs.Records.{between, Bytes, every, same_bytes, body_at, bodies_at}
 use Rattle.format.proofs.Bools.{inside, outside, and_false, both}
 
 -- A test of two lists of bytes that says when they are equal is `same_bytes`.

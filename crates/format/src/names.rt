@@ -68,7 +68,8 @@ fn name_key(name: &[u8]) -> usize
     (name.len() + 4 * first + 9 * usize::from(*before) + 16 * usize::from(*last)) % NAME_KEYS
 }
 
-// The number of a name among the basic types, or how many there are, which is what a text means by a name that is not declared (`number_of`). Their records start at the kept offsets and are tried one by one.
+// The number of a name among the basic types, or how many there are, which is what a text means by a name that is not declared (`number_of`). Their
+// records start at the kept offsets and are tried one by one.
 #[tactic(auto, using(crate::proofs::NameLaws::number_kept))]
 pub fn search_name(book: &[u8], names: &[u16], types: usize, name: &[u8]) -> usize
     requires { Whole book.now names.now types }

@@ -3,7 +3,7 @@
 use Prim.Native.Nat.{ℕ}
 use mathlib.Core.Path.{◌≡◌, refl}
 use mathlib.Core.List.{List, [], ◌∷◌, map}
-use Rattle.figures.specs.Refusals.{buffer_too_short, unknown_word, no_target}
+use Rattle.figures.specs.Refusals.{buffer_too_short, unknown_word, no_target, Refused}
 use Rattle.pregroup.specs.Types.{even}
 use Rattle.pregroup.specs.Tests.{same_exponent, contracts}
 use Rattle.order.specs.Closed.{below}
@@ -23,7 +23,6 @@ use Rattle.lookup.specs.Entries.{entries_from, simples_in, simples_of_words}
 use Rattle.answer.specs.Answers.{Outcome, given}
 use Rattle.reader.specs.Outcome.{read_against, read_parsed}
 use Rattle.std.specs.Prelude.{Ok}
-use Rattle.figures.specs.Refusals.{Refused}
 use Rattle.reader.proofs.Table.{line_of}
 use Rattle.in_the_way.specs.declared.WayAnswer.{WayAnswer}
 use Rattle.in_the_way.specs.declared.WayAnswer.TheVariants.{Ordinary, NoReading}

@@ -6,18 +6,16 @@ use mathlib.Core.Logic.Iff
 use mathlib.Core.Logic.{◌↔◌, ◌⊎◌, inl, inr, ⊎_elim}
 use mathlib.Core.List.{List}
 use lib.ListN.{length}
-use Rattle.figures.specs.Refusals.{no_reading}
+use Rattle.figures.specs.Refusals.{no_reading, Refused}
 use Rattle.bits.specs.Bits.{bit, Has}
 use Rattle.bits.proofs.BitLaws.{bit_zero, bit_suc, bit_absent, has_or_not}
 use Rattle.bits.proofs.Cases.{less_or_not, same_or_not}
 use Rattle.format.specs.Records.{Bytes}
 use Rattle.book.specs.Format.{Book, parse}
 use Rattle.linking.specs.Reading.{Words}
-use Rattle.answer.specs.Answers.{Gives}
+use Rattle.answer.specs.Answers.{Gives, LineAnswer}
 use Rattle.reader.specs.Outcome.{outcome}
-use Rattle.answer.specs.Answers.{LineAnswer}
 use Rattle.std.specs.Prelude.{Ok, Err}
-use Rattle.figures.specs.Refusals.{Refused}
 use Rattle.reader.proofs.Unread.{unread_line}
 use Rattle.in_the_way.specs.declared.WayAnswer.{WayAnswer}
 use Rattle.in_the_way.specs.declared.WayAnswer.TheVariants.{Ordinary, NoReading}

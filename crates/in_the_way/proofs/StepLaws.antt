@@ -5,18 +5,16 @@ use mathlib.Core.Path.{◌≡◌, refl, sym, ap, subst, ◌∙◌}
 use mathlib.Core.Logic.{⊎_elim}
 use mathlib.Core.List.{List}
 use lib.ListN.{length}
-use Rattle.figures.specs.Refusals.{no_reading}
+use Rattle.figures.specs.Refusals.{no_reading, Refused}
 use Rattle.pregroup.specs.Types.{Basic}
 use Rattle.order.specs.Closed.{below}
 use Rattle.format.specs.Records.{Bytes}
 use Rattle.book.specs.Format.{Book, accepted, refused, parse}
 use Rattle.linking.specs.Reading.{Words}
 use Rattle.line.specs.LineFaults.{passed, stopped, line_check}
-use Rattle.answer.specs.Answers.{Gives}
+use Rattle.answer.specs.Answers.{Gives, LineAnswer}
 use Rattle.reader.specs.Outcome.{outcome}
-use Rattle.answer.specs.Answers.{LineAnswer}
 use Rattle.std.specs.Prelude.{Ok}
-use Rattle.figures.specs.Refusals.{Refused}
 use Rattle.reader.proofs.Given.{gives_book_refused, gives_line_refused}
 use Rattle.reader.proofs.Refusals.{NamedParse, parse_named, NamedLine, line_named}
 use Rattle.in_the_way.specs.declared.WayAnswer.{WayAnswer}

@@ -4,7 +4,7 @@ use mathlib.Core.Path.{◌≡◌}
 use mathlib.Core.Logic.{◌↔◌}
 use mathlib.Core.List.{List}
 use lib.ListN.{length}
-use Rattle.figures.specs.Refusals.{no_reading}
+use Rattle.figures.specs.Refusals.{no_reading, Refused}
 use Rattle.bits.specs.Bits.{Has}
 use Rattle.order.specs.Closed.{below}
 use Rattle.format.specs.Records.{Bytes}
@@ -16,7 +16,6 @@ use Rattle.line.proofs.Remaining.{without_passes}
 use Rattle.answer.specs.Answers.{Gives}
 use Rattle.reader.specs.Outcome.{outcome}
 use Rattle.reader.specs.Demands.{Readable}
-use Rattle.figures.specs.Refusals.{Refused}
 use Rattle.in_the_way.specs.declared.WayAnswer.{WayAnswer}
 use Rattle.left_out.specs.LeftOut.{way_of}
 use Rattle.in_the_way.specs.Way.{way_outcome}

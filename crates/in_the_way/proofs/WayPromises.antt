@@ -10,7 +10,7 @@ use mathlib.Core.Option.{Option, none, some}
 use lib.Dec.{eqb}
 use lib.ListN.{length}
 use borrow.Author.Tests.{eqb-true, eqb-false, ne_eqb}
-use Rattle.figures.specs.Refusals.{no_reading}
+use Rattle.figures.specs.Refusals.{no_reading, Refused}
 use Rattle.bits.specs.Bits.{Has}
 use Rattle.bits.proofs.Cases.{none_some}
 use Rattle.pregroup.specs.Tests.{Test, Decides}
@@ -27,12 +27,10 @@ use Rattle.linking.proofs.Derivation.{reading_iff_chain}
 use Rattle.line.specs.Remaining.{without, IsWithout}
 use Rattle.line.proofs.Passed.{line_passing}
 use Rattle.line.proofs.Remaining.{without_ascending, without_passes}
-use Rattle.answer.specs.Answers.{Gives}
+use Rattle.answer.specs.Answers.{Gives, LineAnswer}
 use Rattle.reader.specs.Outcome.{outcome}
 use Rattle.reader.specs.Demands.{OrderOf, Readable}
-use Rattle.answer.specs.Answers.{LineAnswer}
 use Rattle.std.specs.Prelude.{Ok, Err}
-use Rattle.figures.specs.Refusals.{Refused}
 use Rattle.reader.proofs.Given.{gives_promised}
 use Rattle.reader.proofs.Unread.{first_of_book, unread_exactly, unread_line}
 use Rattle.in_the_way.specs.declared.WayAnswer.{WayAnswer}

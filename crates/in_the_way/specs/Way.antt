@@ -7,9 +7,8 @@ use Rattle.format.specs.Records.{Bytes}
 use Rattle.book.specs.Format.{Book, Parsed, accepted, refused, parse}
 use Rattle.line.specs.LineFaults.{LineCheck, passed, stopped, line_check}
 use Rattle.left_out.specs.LeftOut.{way_of}
-use Rattle.answer.specs.Answers.{Outcome}
+use Rattle.answer.specs.Answers.{Outcome, LineAnswer}
 use Rattle.reader.specs.Outcome.{outcome}
-use Rattle.answer.specs.Answers.{LineAnswer}
 use Rattle.in_the_way.specs.declared.WayAnswer.{WayAnswer}
 use Rattle.in_the_way.specs.declared.WayAnswer.TheVariants.{Ordinary, NoReading}
 

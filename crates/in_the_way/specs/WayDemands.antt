@@ -1,17 +1,15 @@
 -- What document 02, 2.6, promises of an answer, in its own terms: readings and chains of the line without a word, and the lines that have its other words.
 -- `way_outcome` has all of this, which proofs/WayPromises.antt proves.
 use Rattle.std.specs.Prelude.{ℕ, ◌≤◌, ◌<◌, ◌≡◌, ◌↔◌, List, length}
-use Rattle.figures.specs.Refusals.{no_reading}
+use Rattle.figures.specs.Refusals.{no_reading, Refused}
 use Rattle.bits.specs.Bits.{Has}
 use Rattle.format.specs.Records.{Bytes}
 use Rattle.book.specs.Format.{Book}
 use Rattle.linking.specs.Reading.{Words, HasReading, HasChain}
 use Rattle.line.specs.Remaining.{without, IsWithout}
-use Rattle.answer.specs.Answers.{Gives}
+use Rattle.answer.specs.Answers.{Gives, LineAnswer}
 use Rattle.reader.specs.Outcome.{outcome}
 use Rattle.reader.specs.Demands.{OrderOf, Readable, Promised}
-use Rattle.answer.specs.Answers.{LineAnswer}
-use Rattle.figures.specs.Refusals.{Refused}
 use Rattle.in_the_way.specs.declared.WayAnswer.{WayAnswer}
 use Rattle.in_the_way.specs.declared.WayAnswer.TheVariants.{Ordinary, NoReading}
 

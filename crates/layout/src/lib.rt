@@ -10,7 +10,6 @@ ghost use Rattle.line.specs.FoundWords.{ThreadedWords};
 ghost use Rattle.graph.specs.Graph.{graph};
 ghost use Rattle.layout.specs.LineLayout.{start_place, WordFits, WordsFit, Lined, end_at, nodes_with, GoalFits, GoalLaid, Ended, Standing, LaidOut};
 
-use bytewise::widths::wide_number;
 use graph::{boundary_node, simple_node, slot_of};
 use lookup::find::tally;
 use pregroup::{EXPONENT_BIAS, hold};
@@ -93,7 +92,7 @@ fn lay_words(
             types,
             entries,
             same,
-            wide_number(*first),
+            usize::from(*first),
             place,
             nodes,
             slots,

@@ -17,7 +17,7 @@ use Rattle.line.specs.Remaining.{without}
 use Rattle.line.proofs.Remaining.{without_length, without_known, without_brief, without_simples, without_threads}
 use Rattle.line.specs.FoundWords.{FoundWords}
 use Rattle.words.specs.Readings.{SaysWhether}
-use Rattle.left_out.specs.LeftOut.{bit_of, way_from, IsWay}
+use Rattle.left_out.specs.LeftOut.{bit_of, way_from}
 use Rattle.left_out.proofs.WayLaws.{way_small, way_step, way_none}
 
 -- Of all first entries the one at k is left out and held in hand, and those behind it stand one place earlier.
@@ -106,10 +106,3 @@ module _ {bytes : Bytes} {names entries same all order targets : List ℕ} where
       let sum : 2 * number + told ≡ bit_of (reads le targets others) + 2 * way_from le targets words k (length all - k) =
       omega (arith, w le words f, e, ap bit_of said) in
       rw one_more (sum ∙ ap (λ (i : ℕ). bit_of (reads le targets others) + 2 * way_from le targets words i (length all - k)) (sym back) ∙ sym (way_step le targets words (length all - k) (k - 1)))
-
-  -- All have been left out.
-  pub way_whole : {k number : ℕ} → IsWayFrom bytes names entries same all order targets k number → k ≤ 0 → IsWay bytes names entries same all order targets number
-  way_whole {k} w none le words f =
-      let first : k ≡ 0 = omega arith in
-      let every : length all - k ≡ length words = omega (arith, f.threaded.as_many) in
-      w le words f ∙ ap (λ (i : ℕ). way_from le targets words i (length all - k)) first ∙ ap (way_from le targets words 0) every

@@ -50,8 +50,7 @@ fn look_up(
 }
 
 // Checks a line against a book whose entries are kept and threaded by their keys: how many words it has, by their threads, or the refusal 11 to 14 that
-// it gets.
-// What `same` has is true of the book, so that the next line can go on with it.
+// it gets. What `same` has is true of the book, so that the next line can go on with it.
 pub fn check_line(
     book: &[u8],
     entries: &[u16],

@@ -10,8 +10,7 @@ use mathlib.Core.List.{List, [], ◌∷◌, map, Memᴰ}
 use lib.ListN.{length}
 use lib.Seq.{take_all}
 use Rattle.pregroup.specs.Types.{PregroupType}
-use Rattle.linking.specs.Reading.{NumberedEntry, Words, Choice, empty, Answer}
-use Rattle.linking.specs.Reading.{take as chosen-entry}
+use Rattle.linking.specs.Reading.{NumberedEntry, Words, Choice, empty, Answer, take as chosen-entry}
 use Rattle.order.proofs.Decision.{below_decides}
 use Rattle.format.specs.Records.{Bytes}
 use Rattle.book.specs.Format.{Entry, Book}

@@ -6,9 +6,8 @@ use mathlib.Core.List.{List}
 use lib.ListN.{length}
 use Rattle.format.specs.Records.{Bytes}
 use Rattle.answer.specs.Answers.{LineAnswer}
-use Rattle.listing.specs.Listing.{listing, Renders}
+use Rattle.listing.specs.Listing.{listing, Renders, Rendered}
 use Rattle.listing.specs.ListingDemands.{ListingPromised}
-use Rattle.listing.specs.Listing.{Rendered}
 use Rattle.std.specs.Prelude.{Ok, Err}
 use Rattle.listing.proofs.Answers.{answer_listed}
 use Rattle.listing.proofs.Longest.{answer_short}

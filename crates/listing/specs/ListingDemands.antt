@@ -1,6 +1,6 @@
 -- What is promised of a listing, in the papers' terms: readings, links and the bytes that are lent. `listing` has all of this, which
 -- proofs/ListingPromises.antt proves.
-use Rattle.std.specs.Prelude.{ℕ, ◌≤◌, ◌≡◌, List, length, get_or}
+use Rattle.std.specs.Prelude.{ℕ, ◌≤◌, ◌≡◌, List, length, get_or, Ok}
 use Rattle.pregroup.specs.Types.{PregroupType}
 use Rattle.linking.specs.Reading.{Words, Choice, target_at, IsFirst}
 use Rattle.letters.specs.Letters.{t}
@@ -9,7 +9,6 @@ use Rattle.format.specs.Records.{Bytes}
 use Rattle.book.specs.Format.{Book}
 use Rattle.line.specs.LineWords.{words_of}
 use Rattle.answer.specs.Answers.{LineAnswer}
-use Rattle.std.specs.Prelude.{Ok}
 use Rattle.figures.specs.Refusals.{Refused}
 use Rattle.reader.specs.Demands.{OrderOf, Readable, Promised}
 use Rattle.printing.specs.Rows.{refusal_row, shown_rows}

@@ -9,7 +9,6 @@ ghost use Rattle.listing.specs.Listing.{type_of};
 
 use book::EntryType;
 use book::entries::entry_type;
-use bytewise::widths::wide_number;
 use figures::limits::MAX_ENTRY_SIMPLES;
 
 // The type of an entry. A number that the book does not have stands for the empty type.
@@ -24,7 +23,7 @@ pub(crate) fn type_of(
     ensures { HeldType result (type_of (map (entry_from book.now (bodies_at book.now names.now types)) entries.now) entry) }
 {
     match entries.get(entry) {
-        Some(at) => entry_type(book, names, types, wide_number(*at)),
+        Some(at) => entry_type(book, names, types, usize::from(*at)),
         None => EntryType {
             count: 0,
             simples: [0u16; MAX_ENTRY_SIMPLES],

@@ -11,7 +11,6 @@ ghost use Rattle.listing.specs.Listing.{joined};
 
 use crate::parts::type_of;
 use book::EntryType;
-use bytewise::widths::wide_number;
 
 // Writes the simple types of an entry from a place of the string on, and gives the place behind them.
 fn append_type(t: EntryType, string: &mut [u16], from: usize) -> usize
@@ -40,7 +39,7 @@ pub(crate) fn join_types(
 {
     let mut end = 0;
     for number in chosen {
-        let t = type_of(book, names, types, entries, wide_number(*number));
+        let t = type_of(book, names, types, entries, usize::from(*number));
         end = append_type(t, string, end);
     }
     end

@@ -10,7 +10,6 @@ ghost use Rattle.lookup.specs.Threads.{key, OfWord, OfKey, Alike, Threaded, Word
 use crate::keys::key_of;
 use crate::walk::thread;
 use book::entries::{entry_length, entry_word};
-use bytewise::widths::wide_number;
 use capitals::same_word;
 use figures::limits::MAX_ENTRIES;
 
@@ -38,7 +37,7 @@ fn join(book: &[u8], entries: &[u16], alike: &[u16], word: &[u8], first: usize, 
     // The loop writes the thread that it goes along, so there is none yet to walk.
     let mut i = first;
     while i < entries.len() {
-        let next = seek(book, entries, alike, word, wide_number(alike[i]));
+        let next = seek(book, entries, alike, word, usize::from(alike[i]));
         same[i] = next as u16;
         i = next;
     }
@@ -57,7 +56,7 @@ pub fn find_word(
         Threaded book.now entries.now same.old × (1 ≤ length word.now) × (length word.now ≤ max_word) }
     ensures { Finds book.now entries.now word.now same.old same.new result }
 {
-    let head = wide_number(alike[MAX_ENTRIES + key_of(word)]);
+    let head = usize::from(alike[MAX_ENTRIES + key_of(word)]);
     let first = seek(book, entries, alike, word, head);
     if first < entries.len() && same[first] == 0 {
         join(book, entries, alike, word, first, same);

@@ -5,7 +5,6 @@ ghost use Rattle.lookup.specs.Entries.{Entries};
 ghost use Rattle.lookup.specs.Threads.{key, NoneAlike, Alike};
 
 use book::entries::entry_word;
-use bytewise::widths::{wide_byte, wide_number};
 use capitals::small_letter;
 use figures::limits::MAX_ENTRIES;
 
@@ -26,7 +25,7 @@ pub fn key_of(word: &[u8]) -> usize
 {
     let first = small_letter(word[0]);
     let last = small_letter(word[word.len() - 1]);
-    (word.len() + 7 * wide_byte(first) + 37 * wide_byte(last)) % KEYS
+    (word.len() + 7 * usize::from(first) + 37 * usize::from(last)) % KEYS
 }
 
 // Threads the entries of a book by their keys, from the last to the first, so that each thread has them in the book's order.
@@ -36,7 +35,7 @@ pub fn thread_entries(book: &[u8], entries: &[u16], alike: &mut [u16])
     ensures { Alike book.now entries.now alike.new }
 {
     for i in (0..entries.len()).rev() {
-        let head = MAX_ENTRIES + key_of(entry_word(book, wide_number(entries[i])));
+        let head = MAX_ENTRIES + key_of(entry_word(book, usize::from(entries[i])));
         alike[i] = alike[head];
         alike[head] = i as u16;
     }

@@ -3,8 +3,6 @@ ghost use Rattle.std.specs.Prelude.{◌≡◌, ◌≤◌, ◌-◌, length, Match
 ghost use Rattle.std.specs.Iterator.{at_most};
 ghost use Rattle.lookup.specs.Walks.{Rises, Strides};
 
-use bytewise::widths::wide_number;
-
 // A walk along a thread: it stands at an entry, by its number, and `nexts` has the number of the next behind each.
 #[derive(Drop)]
 pub struct Walk<'a> {
@@ -38,7 +36,7 @@ impl<'a> Iterator for Walk<'a> {
             return None;
         }
         let i = self.at;
-        self.at = wide_number(self.nexts[i]);
-        Some((i, wide_number(self.entries[i])))
+        self.at = usize::from(self.nexts[i]);
+        Some((i, usize::from(self.entries[i])))
     }
 }

@@ -12,8 +12,8 @@ use format::names::NAME_PLACES;
 use lookup::keys::{NO_ENTRY, PLACES, thread_entries};
 use order::close;
 
-// A book that is open, as it is lent to what reads lines against it: its bytes, the offsets of the records of its basic types and of its entries, these threaded
-// by their keys, its closed order (a row for each basic type) and its targets.
+// A book that is open, as it is lent to what reads lines against it: its bytes, the offsets of the records of its basic types and of its entries, these
+// threaded by their keys, its closed order (a row for each basic type) and its targets.
 #[derive(Clone, Copy)]
 pub struct OpenBook<'a> {
     pub bytes: &'a [u8],
@@ -24,8 +24,8 @@ pub struct OpenBook<'a> {
     pub targets: &'a [u8],
 }
 
-// What opening a book keeps of it: its bytes, how much it has, and the lists that are lent. Of each list only the first places mean something, as many as the
-// book has.
+// What opening a book keeps of it: its bytes, how much it has, and the lists that are lent. Of each list only the first places mean something, as many as
+// the book has.
 #[derive(Drop)]
 pub struct Opening<'a> {
     pub bytes: &'a [u8],

@@ -29,9 +29,17 @@ fn contracts(rows: &[u64], x: u16, y: u16) -> bool
     ensures { (result ≡ true) ↔ Contracts (InRows rows.now) (held x) (held y) }
 {
     let earlier = x / 256;
-    let (a, b) = ((x % 256) as u8, (y % 256) as u8);
-    let (lower, upper) = if earlier % 2 == 0 { (a, b) } else { (b, a) };
-    y / 256 == earlier + 1 && stands_below(rows, lower, upper)
+    // Most pairs end here, so nothing is made ready before.
+    if y / 256 != earlier + 1 {
+        return false;
+    }
+    let a = (x % 256) as u8;
+    let b = (y % 256) as u8;
+    if earlier % 2 == 0 {
+        stands_below(rows, a, b)
+    } else {
+        stands_below(rows, b, a)
+    }
 }
 
 // How two simple types, in this order, may contract: not at all, with the same basic type, or with different ones, which the order relates.

@@ -19,8 +19,7 @@ use Rattle.line.specs.LineWords.{words_of}
 use Rattle.line.specs.LineFaults.{LineCheck, passed, stopped, line_check, entries_of}
 use Rattle.line.proofs.Passed.{line_passing, line_brief, choice_brief, words_few}
 use Rattle.line.proofs.Offsets.{stopped_within}
-use Rattle.answer.specs.Answers.{LineAnswer}
-use Rattle.answer.specs.Answers.{outcome_reply, line_reply, values_of}
+use Rattle.answer.specs.Answers.{LineAnswer, outcome_reply, line_reply, values_of}
 use Rattle.reader.specs.Outcome.{read_against, read_parsed, outcome}
 use Rattle.reader.specs.Demands.{OrderOf, Readable}
 use Rattle.reader.proofs.Refusals.{book_not_short, NamedParse, parse_named, NamedLine, line_named}

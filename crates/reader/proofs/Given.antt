@@ -9,9 +9,8 @@ use Rattle.format.specs.Records.{Bytes}
 use Rattle.book.specs.Format.{Book, accepted, refused, parse}
 use Rattle.linking.specs.Reading.{Words, first_reading}
 use Rattle.line.specs.LineFaults.{passed, stopped, line_check}
-use Rattle.answer.specs.Answers.{LineAnswer}
+use Rattle.answer.specs.Answers.{LineAnswer, Outcome, given, Gives}
 use Rattle.figures.specs.Refusals.{Refused}
-use Rattle.answer.specs.Answers.{Outcome, given, Gives}
 use Rattle.reader.specs.Outcome.{read_against, read_parsed, outcome}
 use Rattle.reader.specs.Demands.{Promised}
 use Rattle.reader.proofs.Promises.{outcome_promised}

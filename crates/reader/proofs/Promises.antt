@@ -11,7 +11,7 @@ use lib.Dec.{ltb}
 use lib.ListN.{length, get_or, drop, length-append}
 use lib.Seq.{take-append_seam}
 use borrow.Author.Tests.{ltb-true, ltb-false}
-use Rattle.figures.specs.Refusals.{Reply, refusal, no_reading, buffer_too_short}
+use Rattle.figures.specs.Refusals.{Reply, refusal, no_reading, buffer_too_short, Refused}
 use Rattle.bits.proofs.Cases.{some_same, none_some}
 use Rattle.pregroup.specs.Tests.{Decides}
 use Rattle.order.specs.Closed.{below, DeclaredPairs}
@@ -26,11 +26,9 @@ use Rattle.linking.proofs.FirstReading.{first_reading_some, first_reading_none, 
 use Rattle.linking.proofs.Derivation.{unread_iff_no_chain}
 use Rattle.line.specs.LineFaults.{LineCheck, passed, stopped, line_check}
 use Rattle.line.proofs.Passed.{line_passing}
-use Rattle.answer.specs.Answers.{LineAnswer}
+use Rattle.answer.specs.Answers.{LineAnswer, Outcome, line_reply, values_of, answer_length, given}
 use Rattle.std.specs.Prelude.{Ok}
-use Rattle.figures.specs.Refusals.{Refused}
 use Rattle.answer.proofs.GivenLaws.{read_refused, refused_number}
-use Rattle.answer.specs.Answers.{Outcome, line_reply, values_of, answer_length, given}
 use Rattle.reader.specs.Outcome.{read_against, read_parsed, outcome}
 use Rattle.reader.specs.Demands.{OrderOf, Readable, FirstWritten, TooShort, Promised, LineNumber}
 use Rattle.reader.proofs.Refusals.{line_some, NamedParse, parse_named, NamedLine, line_named}

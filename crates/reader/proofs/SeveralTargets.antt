@@ -18,8 +18,7 @@ use Rattle.linking.specs.Reading.{Words, Answer, answer, target_at, IsFirst}
 use Rattle.linking.proofs.Targets.{IsFirstFor, one_target_reads, repeated_target}
 use Rattle.line.specs.LineWords.{Word, words_of}
 use Rattle.line.specs.LineFaults.{LineCheck, passed, stopped, entry_fault, line_check}
-use Rattle.answer.specs.Answers.{LineAnswer}
-use Rattle.answer.specs.Answers.{outcome_reply, line_reply, values_of, given}
+use Rattle.answer.specs.Answers.{LineAnswer, outcome_reply, line_reply, values_of, given}
 use Rattle.reader.specs.Outcome.{read_against, read_parsed, outcome}
 use Rattle.reader.specs.Demands.{OrderOf, Readable}
 use Rattle.reader.proofs.Promises.{Given, too_short, enough, given_is, values_count, of_first, outcome_read}

@@ -6,7 +6,7 @@ use mathlib.Core.List.{List, [], ◌∷◌, ◌++◌, map}
 use mathlib.Core.Option.{some}
 use lib.IntN.{negsuc}
 use lib.ListN.{replicate, drop}
-use Rattle.figures.specs.Refusals.{unknown_word, too_many_simples}
+use Rattle.figures.specs.Refusals.{unknown_word, too_many_simples, Refused}
 use Rattle.pregroup.specs.Types.{PregroupType, even, plain, ◌⁽◌⁾}
 use Rattle.pregroup.specs.Tests.{same_exponent, contracts}
 use Rattle.order.specs.Closed.{below}
@@ -23,10 +23,8 @@ use Rattle.capitals.specs.Capitals.{small, same_word}
 use Rattle.lookup.specs.Respelt.{DifferInCase, same_rest, same_record, respelt}
 use Rattle.line.specs.LineFaults.{byte_fault, word_fault, entry_fault, line_check}
 use Rattle.lookup.specs.Entries.{entries_from, simples_in, simples_of_words}
-use Rattle.answer.specs.Answers.{Outcome, given}
+use Rattle.answer.specs.Answers.{Outcome, given, LineAnswer}
 use Rattle.reader.specs.Outcome.{read_against, read_parsed, outcome}
-use Rattle.answer.specs.Answers.{LineAnswer}
-use Rattle.figures.specs.Refusals.{Refused}
 use Rattle.reader.proofs.Table.{line_of, lent, expected}
 use Rattle.reader.proofs.Capitals.{same_books_outcome}
 

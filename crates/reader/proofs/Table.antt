@@ -5,7 +5,7 @@ use mathlib.Core.Path.{◌≡◌, refl}
 use mathlib.Core.List.{List, [], ◌∷◌, ◌++◌, map}
 use mathlib.Core.Option.{Option, none, some}
 use lib.ListN.{length, replicate, drop}
-use Rattle.figures.specs.Refusals.{no_reading}
+use Rattle.figures.specs.Refusals.{no_reading, Refused}
 use Rattle.pregroup.specs.Types.{even}
 use Rattle.pregroup.specs.Tests.{same_exponent, contracts}
 use Rattle.order.specs.Closed.{below}
@@ -21,11 +21,9 @@ use Rattle.line.specs.LineWords.{words_from}
 use Rattle.capitals.specs.Capitals.{small, same_word}
 use Rattle.line.specs.LineFaults.{byte_fault, word_fault, entry_fault, line_check}
 use Rattle.lookup.specs.Entries.{entries_from, simples_in, simples_of_words}
-use Rattle.answer.specs.Answers.{Outcome, values_of, given}
+use Rattle.answer.specs.Answers.{Outcome, values_of, given, LineAnswer}
 use Rattle.reader.specs.Outcome.{read_against, read_parsed, outcome}
-use Rattle.answer.specs.Answers.{LineAnswer}
 use Rattle.std.specs.Prelude.{Ok}
-use Rattle.figures.specs.Refusals.{Refused}
 
 -- The words of document 000, example 4.3.
 abbrev I : Bytes

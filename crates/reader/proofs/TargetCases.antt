@@ -4,7 +4,7 @@ use mathlib.Core.Path.{◌≡◌, refl}
 use mathlib.Core.List.{List, [], ◌∷◌, ◌++◌, map}
 use mathlib.Core.Option.{none, some}
 use lib.ListN.{replicate}
-use Rattle.figures.specs.Refusals.{too_many_targets, buffer_too_short}
+use Rattle.figures.specs.Refusals.{too_many_targets, buffer_too_short, Refused}
 use Rattle.pregroup.specs.Types.{even}
 use Rattle.pregroup.specs.Tests.{same_exponent, contracts}
 use Rattle.order.specs.Closed.{below}
@@ -23,7 +23,6 @@ use Rattle.lookup.specs.Entries.{entries_from, simples_in, simples_of_words}
 use Rattle.answer.specs.Answers.{given}
 use Rattle.reader.specs.Outcome.{read_against, read_parsed, outcome}
 use Rattle.std.specs.Prelude.{Ok}
-use Rattle.figures.specs.Refusals.{Refused}
 use Rattle.reader.proofs.Table.{lent, expected}
 
 -- Types o 0, k 1, p 2; entries 0 go k, 1 go o, 2 site k, 3 ward7 p, 4 please k o^l p k^r o; and these pairs and targets.

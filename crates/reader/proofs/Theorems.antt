@@ -8,7 +8,7 @@ use mathlib.Core.List.{List, [], ◌∷◌, ◌++◌, map, Memᴰ}
 use mathlib.Core.Option.{none, some}
 use lib.ListN.{length}
 use Rattle.figures.specs.Limits.{max_book, max_types, max_targets}
-use Rattle.figures.specs.Refusals.{Reply, exponent_outside}
+use Rattle.figures.specs.Refusals.{Reply, exponent_outside, Refused}
 use Rattle.pregroup.specs.Types.{Basic, PregroupType, plain, left_adjoint, right_adjoint}
 use Rattle.pregroup.specs.Order.{Relation, IsOrder, AllDeclared}
 use Rattle.pregroup.specs.Steps.{Chain, Contractions}
@@ -48,7 +48,6 @@ use Rattle.capitals.proofs.CapitalLaws.{CapitalOf, NoCapital, alike_exactly, sam
 use Rattle.line.specs.LineFaults.{entries_of_line}
 use Rattle.line.specs.Promise.{LookUpPromised}
 use Rattle.line.proofs.PromiseLaws.{look_up_kept}
-use Rattle.figures.specs.Refusals.{Refused}
 use Rattle.answer.specs.Answers.{outcome_reply}
 use Rattle.reader.specs.Outcome.{outcome}
 use Rattle.reader.specs.Demands.{OrderOf, Readable, Promised, LineNumber}

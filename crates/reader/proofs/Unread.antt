@@ -6,17 +6,15 @@ use mathlib.Core.Logic.{◌↔◌, ⊎_elim}
 use mathlib.Core.List.{List}
 use mathlib.Core.Option.{Option, none}
 use lib.ListN.{length}
-use Rattle.figures.specs.Refusals.{no_reading}
+use Rattle.figures.specs.Refusals.{no_reading, Refused}
 use Rattle.bits.proofs.Cases.{none_some}
 use Rattle.order.specs.Closed.{below}
 use Rattle.format.specs.Records.{Bytes}
 use Rattle.book.specs.Format.{Book, Parsed, accepted, refused, parse}
 use Rattle.linking.specs.Reading.{Words, Answer, first_reading}
 use Rattle.line.specs.LineFaults.{LineCheck, passed, stopped, line_check}
-use Rattle.answer.specs.Answers.{LineAnswer}
-use Rattle.figures.specs.Refusals.{Refused}
+use Rattle.answer.specs.Answers.{LineAnswer, Outcome}
 use Rattle.answer.proofs.GivenLaws.{read_refused, refused_number, refused_value}
-use Rattle.answer.specs.Answers.{Outcome}
 use Rattle.reader.specs.Outcome.{read_against, read_parsed, outcome}
 use Rattle.reader.specs.Demands.{Readable}
 use Rattle.reader.proofs.Refusals.{NamedParse, parse_named, NamedLine, line_named}

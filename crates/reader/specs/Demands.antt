@@ -1,6 +1,6 @@
 -- What document 01 promises of an answer and of the buffer behind it, in its own terms: readings, chains and the values that are lent.
 -- `outcome` has all of this, which proofs/Promises.antt proves.
-use Rattle.std.specs.Prelude.{ℕ, ◌≤◌, ◌<◌, ◌≡◌, ◌↔◌, ◌⊎◌, List, ◌++◌, length, drop}
+use Rattle.std.specs.Prelude.{ℕ, ◌≤◌, ◌<◌, ◌≡◌, ◌↔◌, ◌⊎◌, List, ◌++◌, length, drop, Ok}
 use Rattle.figures.specs.Refusals.{refusal, no_target, no_reading, buffer_too_short}
 use Rattle.pregroup.specs.Order.{Relation}
 use Rattle.order.specs.Closed.{Closed, Listed}
@@ -9,9 +9,7 @@ use Rattle.book.specs.Format.{Book, accepted, parse}
 use Rattle.book.specs.Check.{BookNumber}
 use Rattle.linking.specs.Reading.{Words, IsReading, HasChain, IsFirst, Answer}
 use Rattle.line.specs.LineFaults.{passed, line_check}
-use Rattle.answer.specs.Answers.{LineAnswer}
-use Rattle.std.specs.Prelude.{Ok}
-use Rattle.answer.specs.Answers.{line_reply, values_of, answer_length}
+use Rattle.answer.specs.Answers.{LineAnswer, line_reply, values_of, answer_length}
 
 -- The order of a book: the reflexive and transitive closure of its pairs.
 abbrev pub OrderOf : Book → Relation

@@ -6,8 +6,7 @@ use Rattle.format.specs.Records.{Bytes}
 use Rattle.book.specs.Format.{Book, Parsed, accepted, refused, parse}
 use Rattle.linking.specs.Reading.{first_reading}
 use Rattle.line.specs.LineFaults.{LineCheck, passed, stopped, line_check}
-use Rattle.answer.specs.Answers.{Outcome, given}
-use Rattle.answer.specs.Answers.{LineAnswer}
+use Rattle.answer.specs.Answers.{Outcome, given, LineAnswer}
 use Rattle.figures.specs.Refusals.{Refused}
 
 unfoldable pub read_against : Book → LineCheck → List ℕ → Outcome LineAnswer

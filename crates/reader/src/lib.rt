@@ -26,7 +26,8 @@ pub fn read_open(
     line: &[u8],
     answer: &mut [u16],
 ) -> Result<usize, Refusal>
-    requires fact { IsOpen book.bytes.now book.names.now book.entries.now book.alike.now book.order.now book.targets.now × Threaded book.bytes.now book.entries.now same.old }
+    requires fact { IsOpen book.bytes.now book.names.now book.entries.now book.alike.now book.order.now book.targets.now
+        × Threaded book.bytes.now book.entries.now same.old }
     requires chart_len { length chart.old ≡ chart_words }
     ensures threaded { Threaded book.entry.bytes.now book.entry.entries.now same.new }
     ensures gives { Gives (outcome book.entry.bytes.now line.now answer.old) result answer.new }

@@ -6,7 +6,6 @@ ghost use Rattle.format.specs.Records.{between};
 ghost use Rattle.rules.specs.Layouts.{exponent_of, is_worded, is_entry, word_length, word_of, type_part};
 ghost use Rattle.rules.specs.Rules.{exponent_listed};
 
-use bytewise::widths::wide_byte;
 use figures::limits::{MAX_ENTRY_SIMPLES, MAX_EXPONENT, MAX_WORD};
 
 // The numbers of the listed kinds of records. The type of a slashed entry is a text. They are no enum: a head may hold any number, and the code goes by it.
@@ -50,7 +49,7 @@ pub fn is_worded(body: &[u8]) -> bool
     let Some(first) = body.first() else {
         return false;
     };
-    let length = wide_byte(*first);
+    let length = usize::from(*first);
     1 <= length && length <= MAX_WORD && length < body.len() && all_word_bytes(word_part(body))
 }
 
@@ -71,7 +70,7 @@ pub fn type_part(body: &[u8]) -> &[u8]
     requires { is_worded body.now ≡ true }
     ensures { result.now ≡ type_part body.now }
 {
-    let start = 1 + wide_byte(body[0]);
+    let start = 1 + usize::from(body[0]);
     &body[start..]
 }
 
@@ -80,6 +79,6 @@ pub fn word_part(body: &[u8]) -> &[u8]
     requires { word_length body.now < length body.now }
     ensures { result.now ≡ word_of body.now }
 {
-    let end = 1 + wide_byte(body[0]);
+    let end = 1 + usize::from(body[0]);
     &body[1..end]
 }

@@ -4,12 +4,10 @@
 
 ghost use Rattle.std.specs.Prelude.{◌≡◌, true, cond, List, ℕ, ◌+◌, ◌%◌, ltb, ◌≤◌, ◌<◌, length};
 ghost use Rattle.std.specs.List.{list_all};
-ghost use Rattle.pregroup.specs.Types.{PregroupType};
 ghost use Rattle.format.specs.Records.{Bytes, every, bodies_at};
 ghost use Rattle.format.specs.Names.{Named};
 ghost use Rattle.figures.specs.Refusals.{brackets_too_deep, not_a_type, number_of, fault_number};
 ghost use Rattle.notation.specs.Brackets.{too_deep};
-ghost use Rattle.notation.specs.Places.{Holds};
 ghost use Rattle.rules.specs.Layouts.{basic_type, order_pair, entry, target, slashed_entry, type_part, is_worded, simples_of};
 ghost use Rattle.rules.specs.Rules.{bases, declared_among, exponents, exponent_listed, kind_rules, record_rules, first_broken};
 
@@ -17,7 +15,7 @@ use crate::layout::{
     BASIC_TYPE, ENTRY, ORDER_PAIR, SLASHED_ENTRY, TARGET, is_entry, is_exponent, is_worded,
     type_part,
 };
-use bytewise::widths::{two_bytes, wide_byte, wide_number};
+use bytewise::widths::two_bytes;
 use figures::limits::{MAX_ENTRIES, MAX_ENTRY_SIMPLES, MAX_TARGETS, MAX_TEXT_SIMPLES, MAX_TYPES};
 use figures::refusals::Cause;
 use format::layout::{HEAD, body_at};
@@ -34,7 +32,7 @@ fn all_declared(part: &[u8], types: usize) -> bool
 {
     // A chain over `chunks_exact(2)` was tried, and its proof did not close.
     for k in 0..part.len() / 2 {
-        if types <= wide_byte(part[2 * k]) {
+        if types <= usize::from(part[2 * k]) {
             return false;
         }
     }
@@ -46,7 +44,7 @@ fn all_exponents(part: &[u8]) -> bool
     requires { length part.now % 2 ≡ 0 }
     ensures { result ≡ every exponent_listed (exponents (simples_of part.now)) }
 {
-    // As in `all_declared`, and a function of the test would need a law for each.
+    // A chain was tried here too. One function for both loops, over the test, would need a law for each test.
     for k in 0..part.len() / 2 {
         if !is_exponent(part[2 * k + 1]) {
             return false;
@@ -59,7 +57,7 @@ fn all_exponents(part: &[u8]) -> bool
 fn held_declared(places: &[u16], types: usize) -> bool
     ensures { result ≡ list_all (λ place. ltb (place % 256) types) places.now }
 {
-    places.iter().all(|place| wide_number(*place) % 256 < types)
+    places.iter().all(|place| usize::from(*place) % 256 < types)
 }
 
 // The rules for a basic type: its layout, a name used before, one too many.
@@ -88,10 +86,10 @@ fn pair_fault(body: &[u8], types: usize) -> Result<(), Cause>
     if body.len() != 2 {
         return Err(Cause::BadLayout);
     }
-    if types <= wide_byte(body[0]) {
+    if types <= usize::from(body[0]) {
         return Err(Cause::UndeclaredType);
     }
-    if types <= wide_byte(body[1]) {
+    if types <= usize::from(body[1]) {
         return Err(Cause::UndeclaredType);
     }
     Ok(())
@@ -182,7 +180,7 @@ fn target_fault(body: &[u8], types: usize, targets: usize) -> Result<(), Cause>
     if body.len() != 1 {
         return Err(Cause::BadLayout);
     }
-    if types <= wide_byte(body[0]) {
+    if types <= usize::from(body[0]) {
         return Err(Cause::UndeclaredType);
     }
     if MAX_TARGETS <= targets {

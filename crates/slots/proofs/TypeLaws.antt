@@ -10,7 +10,7 @@ use Rattle.pregroup.specs.Held.{held}
 use Rattle.book.specs.declared.EntryType.{EntryType}
 use Rattle.graph.specs.Graph.{Graph, simple_in, next_in, next_at, Labelled, Boundary, Spells, ended, more}
 use Rattle.figures.specs.Limits.{max_entry_simples, value_bound}
-use Rattle.slots.specs.Laying.{Agree, AgreeFrom, Continues, Simples, held_from, TypeFits, Typed}
+use Rattle.slots.specs.Laying.{Agree, AgreeFrom, Continues, Simples, held_from, TypeFits}
 
 -- What continues a later graph continues this one.
 pub continues_back :
@@ -54,21 +54,6 @@ module _ {e : EntryType} {node b : ℕ} {nodes₀ : List ℕ} (t : TypeFits e no
         high = omega arith;
         same_length = refl;
       }
-
-  pub typing_end : {nodes : List ℕ} {first i : ℕ} → Typing e node b nodes₀ nodes first i → i ≤ 0 → Typed e node b nodes₀ nodes first
-  typing_end {nodes} {first} {i} laying h =
-      let z : i ≡ 0 = omega arith in
-      let s : Typing e node b nodes₀ nodes first 0 = rw z at laying in
-      record {
-        kept = λ x a. s.kept x (omega arith);
-        simples = λ x a. s.simples x (omega arith);
-        spelt = λ g same boundary. rw whole_left at (s.spelt g (λ x a. same x (omega arith)) boundary);
-        low = omega (arith, s.low);
-        high = s.high;
-      }
-    where
-      whole_left : e.count - 0 ≡ e.count
-      whole_left = omega arith
 
   module _ {nodes : List ℕ} {first i : ℕ} (s : Typing e node b nodes₀ nodes first i) (some_left : 0 < i) where
     abbrev at : ℕ

@@ -11,8 +11,7 @@ use Rattle.book.specs.Format.{Parsed, accepted, refused, parse}
 use Rattle.book.specs.Check.{Accepted, book_check, answer_for, check_reply}
 use Rattle.book.specs.declared.BookCheck.{BookCheck}
 use Rattle.figures.specs.declared.refusals.Refusal.{Refusal}
-use Rattle.answer.specs.Answers.{Gives}
-use Rattle.answer.specs.Answers.{LineAnswer}
+use Rattle.answer.specs.Answers.{Gives, LineAnswer}
 use Rattle.std.specs.Prelude.{Result, Ok, Err}
 use Rattle.reader.specs.Outcome.{outcome}
 use Rattle.reader.specs.Demands.{Promised}

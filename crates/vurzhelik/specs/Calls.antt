@@ -1,12 +1,10 @@
 -- What a caller in C makes of the numbers it gets: 0 is success, any other number is a refusal's.
 use Rattle.std.specs.Prelude.{Ok, Err, ℕ, ◌≡◌, cond, List, [], ◌∷◌, eqb}
-use Rattle.figures.specs.Refusals.{Reply, no_reading}
+use Rattle.figures.specs.Refusals.{Reply, no_reading, Refused}
 use Rattle.answer.specs.Answers.{LineAnswer}
-use Rattle.figures.specs.Refusals.{Refused}
 use Rattle.in_the_way.specs.declared.WayAnswer.{WayAnswer}
 use Rattle.in_the_way.specs.declared.WayAnswer.TheVariants.{Ordinary, NoReading}
 use Rattle.batch.specs.Batch.{BatchAnswer}
-use Rattle.figures.specs.Refusals.{Refused as RefusedBatch}
 
 -- A book check's reply as a number, a value and three lent numbers. An accepted book's value is 0; a refusal leaves the three as they were.
 pub record Checks (reply : Reply) (before : List ℕ) (number value : ℕ) (after : List ℕ) : Type 0 where
@@ -38,4 +36,4 @@ pub record WithFifteen (number value before after : ℕ) : Type 0 where
 
 -- The answer to a batch that they stand for.
 abbrev pub batch_answer_of : ℕ → ℕ → BatchAnswer
-batch_answer_of number value = cond (eqb number 0) (Ok value) (RefusedBatch number value)
+batch_answer_of number value = cond (eqb number 0) (Ok value) (Refused number value)

@@ -1,4 +1,4 @@
-// The reader for callers in C and other languages: one function for each entry, with numbers in the place of its enum, and one for the
+// The reader for callers in C and other languages: one function for each entry, with numbers in the place of its result, and one for the
 // version. A slice is passed as a pointer and a length. What the numbers mean is defined in specs/Calls.
 #![tactic(auto)]
 

@@ -1,7 +1,7 @@
 -- What is told where no reading is written: that there is none, or, where it is only asked for one, that there is one.
 use Prim.Native.Nat.{ℕ, ◌≤◌, ◌<◌}
 use native.Mathlib.Omega.{arith}
-use mathlib.Core.Path.{◌≡◌, refl, sym, ◌∙◌}
+use mathlib.Core.Path.{◌≡◌}
 use mathlib.Core.List.{List}
 use mathlib.Core.Bool.{Bool, true, false}
 use mathlib.Core.Option.{Option, none, some}
@@ -14,13 +14,11 @@ use Rattle.pregroup.specs.Tests.{Test}
 use Rattle.pregroup.specs.Held.{InRows}
 use Rattle.format.specs.Records.{Bytes}
 use Rattle.line.specs.FoundWords.{FoundWords}
-use Rattle.linking.specs.Reading.{Words, Answer, first_reading, is_some}
+use Rattle.linking.specs.Reading.{Words, Answer, first_reading}
 use Rattle.graph.specs.Graph.{Graph, graph}
-use Rattle.answer.specs.Answers.{LineAnswer}
-use Rattle.std.specs.Prelude.{Ok, Err}
+use Rattle.std.specs.Prelude.{Ok}
 use Rattle.figures.specs.Refusals.{Refused}
 use Rattle.answer.specs.Answers.{given, Gives}
-use Rattle.answer.proofs.GivenLaws.{read_refused}
 use Rattle.layout.specs.LineLayout.{nodes_with, line_graph, LaidOut}
 use Rattle.chart.specs.Chart.{Fillable, FilledFrom}
 use Rattle.reach.specs.Charted.{FirstEnd, Charted}

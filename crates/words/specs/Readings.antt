@@ -1,14 +1,11 @@
 -- What reading words that are looked up comes to, and asking whether they have a reading.
-use Rattle.std.specs.Prelude.{ℕ, ◌≡◌, Bool, true, false, List}
+use Rattle.std.specs.Prelude.{ℕ, ◌≡◌, Bool, true, false, List, Ok}
 use Rattle.std.proofs.Math.Option.{Option, none, some}
-use Rattle.figures.specs.Refusals.{no_reading}
+use Rattle.figures.specs.Refusals.{no_reading, Refused}
 use Rattle.pregroup.specs.Tests.{Test}
 use Rattle.linking.specs.Reading.{Words, Answer, first_reading, reads}
 use Rattle.format.specs.Records.{Bytes}
-use Rattle.answer.specs.Answers.{LineAnswer}
-use Rattle.std.specs.Prelude.{Ok, Err}
-use Rattle.figures.specs.Refusals.{Refused}
-use Rattle.answer.specs.Answers.{Outcome, given, Gives}
+use Rattle.answer.specs.Answers.{LineAnswer, Outcome, given, Gives}
 use Rattle.line.specs.FoundWords.{FoundWords}
 
 -- What reading words comes to where the reading is wanted whole, and where it is only asked whether there is one: an answer then has no values.

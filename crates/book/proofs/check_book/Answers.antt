@@ -4,7 +4,6 @@ use mathlib.Core.Path.{◌≡◌, ap, ◌∙◌}
 use Rattle.std.proofs.lemmas.Result.{err_from_is_err_and}
 use Rattle.figures.specs.declared.refusals.Refusal.{Refusal}
 use Rattle.std.specs.Prelude.{Result}
-use Rattle.figures.specs.Refusals.{Refused}
 use Rattle.figures.specs.Limits.{max_types}
 use Rattle.format.specs.Records.{Bytes}
 use Rattle.book.specs.Check.{Accepted, book_check, check_reply, BookPromised}

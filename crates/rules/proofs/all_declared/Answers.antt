@@ -9,12 +9,11 @@ use Rattle.rules.specs.Rules.{declared_among}
 use Rattle.pregroup.specs.Types.{Simple}
 use Rattle.rules.proofs.all_declared.Goals as goal
 
-pub returns-then-types-wide_byte : goal.returns-then-types-wide_byte
-returns-then-types-wide_byte c =
+pub returns-then-types-from : goal.returns-then-types-from
+returns-then-types-from c =
     let l = c.loop-k in
     let part = c.args.part.now in
     let types = c.args.types in
-    let e = c.wide_byte.ensures.0 in
     sym (l.invariant ∙ simples_stop (λ (x : Simple). x.base) (declared_among types) part (2 * l.k) (omega (arith, c.requires)) (le-ltb (get_or {A = ℕ} part (2 * l.k) 0) types (omega arith)))
 
 pub loop-k-preserved : goal.loop-k-preserved
@@ -22,7 +21,6 @@ loop-k-preserved c =
     let l = c.loop-k in
     let part = c.args.part.now in
     let types = c.args.types in
-    let e = c.wide_byte.ensures.0 in
     l.invariant ∙ pairs_pass (λ (x : Simple). x.base) (declared_among types) part l.k (omega (arith, c.requires)) (lt-ltb (get_or {A = ℕ} part (2 * l.k) 0) types (omega arith))
 
 pub returns : goal.returns

@@ -10,22 +10,17 @@ pub returns-then-body-ne2 : goal.returns-then-body-ne2
 returns-then-body-ne2 c =
     λ names entries targets h. sym (pair_faults c.args.body.now names entries targets (ne_eqb _ _ c.if-body-ne2.true) refl)
 
-pub returns-then-types-wide_byte : goal.returns-then-types-wide_byte
-returns-then-types-wide_byte c =
+pub returns-then-types-from : goal.returns-then-types-from
+returns-then-types-from c =
     let body = c.args.body.now in
-    let e0 = c.wide_byte.ensures.0 in
     λ names entries targets h. sym (pair_faults body names entries targets (eq-eqb (length body) 2 (omega arith)) (two_first_no (length names) body (omega arith) (omega arith)))
 
-pub returns-then-types-wide_byte-2 : goal.returns-then-types-wide_byte-2
-returns-then-types-wide_byte-2 c =
+pub returns-then-types-from-2 : goal.returns-then-types-from-2
+returns-then-types-from-2 c =
     let body = c.args.body.now in
-    let e0 = c.wide_byte-2.ensures.0 in
-    let e1 = c.wide_byte.ensures.0 in
     λ names entries targets h. sym (pair_faults body names entries targets (eq-eqb (length body) 2 (omega arith)) (two_second_no (length names) body (omega arith) (omega arith) (omega arith)))
 
 pub returns : goal.returns
 returns c =
     let body = c.args.body.now in
-    let e0 = c.wide_byte-2.ensures.0 in
-    let e1 = c.wide_byte.ensures.0 in
     λ names entries targets h. sym (pair_faults body names entries targets (eq-eqb (length body) 2 (omega arith)) (two_yes (length names) body (omega arith) (omega arith) (omega arith)))

@@ -28,7 +28,7 @@ pub keep_name-requires : goal.keep_name-requires
 keep_name-requires c =
     let fits = name_place _ _ _ c.requires c.in_ok-fault_at.ensures (sym (two_bytes_read c.two_bytes-kind.ensures) ∙ c.in-1.is) in
     let size = ap length c.body_at-body.ensures in
-    (fits.0, omega (arith, c.requires.short, c.requires.reached), c.requires.names.places, omega (arith, size, fits.1), omega (arith, size, fits.2))
+    (fits.0, omega arith, c.requires.names.places, omega (arith, size, fits.1), omega (arith, size, fits.2))
 
 pub bounds-body-0 : goal.bounds-body-0
 bounds-body-0 c =
@@ -38,7 +38,7 @@ bounds-body-0 c =
 pub bounds-direct-lower : goal.bounds-direct-lower
 bounds-direct-lower c =
     let fits = pair_place _ _ _ c.requires c.in_ok-fault_at.ensures (sym (two_bytes_read c.two_bytes-kind.ensures) ∙ c.in-2.is) in
-    omega (arith, fits.1, c.requires.names.few, c.requires.pairs.rows, c.wide_byte-lower.ensures.0, ap (λ (l : Bytes). get_or {A = ℕ} l 0 0) c.body_at-body.ensures)
+    omega (arith, fits.1, ap (λ (l : Bytes). get_or {A = ℕ} l 0 0) c.body_at-body.ensures)
 
 pub bounds-body-1 : goal.bounds-body-1
 bounds-body-1 c =
@@ -48,17 +48,17 @@ bounds-body-1 c =
 pub with-requires : goal.with-requires
 with-requires c =
     let fits = pair_place _ _ _ c.requires c.in_ok-fault_at.ensures (sym (two_bytes_read c.two_bytes-kind.ensures) ∙ c.in-2.is) in
-    omega (arith, fits.2, c.requires.names.few, ap (λ (l : Bytes). get_or {A = ℕ} l 1 0) c.body_at-body.ensures)
+    omega (arith, fits.2, ap (λ (l : Bytes). get_or {A = ℕ} l 1 0) c.body_at-body.ensures)
 
 pub bounds-direct-lower-in-2 : goal.bounds-direct-lower-in-2
 bounds-direct-lower-in-2 c =
     let fits = pair_place _ _ _ c.requires c.in_ok-fault_at.ensures (sym (two_bytes_read c.two_bytes-kind.ensures) ∙ c.in-2.is) in
-    omega (arith, fits.1, c.requires.names.few, c.requires.pairs.rows, c.wide_byte-lower.ensures.0, ap (λ (l : Bytes). get_or {A = ℕ} l 0 0) c.body_at-body.ensures)
+    omega (arith, fits.1, ap (λ (l : Bytes). get_or {A = ℕ} l 0 0) c.body_at-body.ensures)
 
 pub bounds-entries-p : goal.bounds-entries-p
 bounds-entries-p c =
     let few = entry_place _ _ _ c.requires c.in_ok-fault_at.ensures (⊎_elim (λ e. subst EntryKind (sym e ∙ two_bytes_read c.two_bytes-kind.ensures) of_simples) (λ e. subst EntryKind (sym e ∙ two_bytes_read c.two_bytes-kind.ensures) of_text) c.in-3.is) in
-    omega (arith, few, c.requires.entries.room)
+    omega (arith, few)
 
 pub bounds-body-0-in-4 : goal.bounds-body-0-in-4
 bounds-body-0-in-4 c =
@@ -68,7 +68,7 @@ bounds-body-0-in-4 c =
 pub bounds-targets-p : goal.bounds-targets-p
 bounds-targets-p c =
     let fits = target_place _ _ _ c.requires c.in_ok-fault_at.ensures (sym (two_bytes_read c.two_bytes-kind.ensures) ∙ c.in-4.is) in
-    omega (arith, fits.2, c.requires.targets.room)
+    omega (arith, fits.2)
 
 pub returns-in-1 : goal.returns-in-1
 returns-in-1 c =
@@ -80,7 +80,7 @@ pub returns-in-2 : goal.returns-in-2
 returns-in-2 c =
     let found = c.in_ok-fault_at.ensures in
     let next_is = ap (λ (m : ℕ). c.args.p.at + head_length + m) (ap length c.body_at-body.ensures ∙ whole_length c.args.book.now c.args.p.at (whole _ _ _ c.requires found)) in
-    pair_taken _ _ _ c.requires found _ next_is (sym (two_bytes_read c.two_bytes-kind.ensures) ∙ c.in-2.is) _ _ _ (c.wide_byte-lower.ensures.0 ∙ ap (λ (l : Bytes). get_or {A = ℕ} l 0 0) c.body_at-body.ensures) (ap (λ (l : Bytes). get_or {A = ℕ} l 1 0) c.body_at-body.ensures) c.with.ensures
+    pair_taken _ _ _ c.requires found _ next_is (sym (two_bytes_read c.two_bytes-kind.ensures) ∙ c.in-2.is) _ _ _ (c.from-lower.ensures ∙ ap (λ (l : Bytes). get_or {A = ℕ} l 0 0) c.body_at-body.ensures) (ap (λ (l : Bytes). get_or {A = ℕ} l 1 0) c.body_at-body.ensures) c.with.ensures
 
 pub returns-in-3 : goal.returns-in-3
 returns-in-3 c =

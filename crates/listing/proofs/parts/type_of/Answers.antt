@@ -12,13 +12,13 @@ pub entry_type-requires : goal.entry_type-requires
 entry_type-requires c =
     let i = c.args.entry in
     let at = c.in-Some.ensures.lookup.3 in
-    rw (c.wide_number.ensures ∙ at.1 0) (c.requires.0, c.requires.1.kept.whole i at.0, c.requires.1.formed i at.0)
+    rw (c.from.ensures ∙ at.1 0) (c.requires.0, c.requires.1.kept.whole i at.0, c.requires.1.formed i at.0)
 
 pub returns-in-Some : goal.returns-in-Some
 returns-in-Some c =
     let a = c.args in
     let at = c.in-Some.ensures.lookup.3 in
-    rw (type_at a.book.now (bodies_at a.book.now a.names.now a.types) a.entries.now a.entry at.0) (rw (c.wide_number.ensures ∙ at.1 0) at c.entry_type.ensures)
+    rw (type_at a.book.now (bodies_at a.book.now a.names.now a.types) a.entries.now a.entry at.0) (rw (c.from.ensures ∙ at.1 0) at c.entry_type.ensures)
 
 pub returns-in-None : goal.returns-in-None
 returns-in-None c =

@@ -21,18 +21,18 @@ sought book entries word threads own at_head seeks = seeks 0 (rw (at_head, own) 
 
 pub join-requires : goal.join-requires
 join-requires c =
-    let first = sought c.args.book.now c.args.entries.now c.args.word.now c.requires.1 c.key_of.ensures c.wide_number-head.ensures c.seek-first.ensures.by_index in
+    let first = sought c.args.book.now c.args.entries.now c.args.word.now c.requires.1 c.key_of.ensures c.from-head.ensures c.seek-first.ensures.by_index in
     (c.requires.0, c.requires.1, c.requires.2.room, first)
 
 pub returns-then-same-first-eq0 : goal.returns-then-same-first-eq0
 returns-then-same-first-eq0 c =
-    let first = sought c.args.book.now c.args.entries.now c.args.word.now c.requires.1 c.key_of.ensures c.wide_number-head.ensures c.seek-first.ensures.by_index in
+    let first = sought c.args.book.now c.args.entries.now c.args.word.now c.requires.1 c.key_of.ensures c.from-head.ensures c.seek-first.ensures.by_index in
     finds_joined _ _ _ c.seek-first.ensures.upper_bound c.requires.2 first c.join.auto.same c.join.ensures
 
 pub returns-else-first-entries : goal.returns-else-first-entries
 returns-else-first-entries c =
     let low = c.seek-first.ensures.upper_bound in
-    let first = sought c.args.book.now c.args.entries.now c.args.word.now c.requires.1 c.key_of.ensures c.wide_number-head.ensures c.seek-first.ensures.by_index in
+    let first = sought c.args.book.now c.args.entries.now c.args.word.now c.requires.1 c.key_of.ensures c.from-head.ensures c.seek-first.ensures.by_index in
     elim c.else-first-entries.branch [
       | else-first-entries-via-then-first-entries+else-same-first-eq0 w ↦ finds_known _ _ _ low c.requires.2 first w.if-first-entries.true w.if-same-first-eq0.false
       | else-first-entries-via-else-first-entries w ↦ finds_none _ _ _ low c.requires.2 first w.if-first-entries.false

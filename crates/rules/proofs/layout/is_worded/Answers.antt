@@ -8,8 +8,6 @@ use Rattle.rules.proofs.layout.is_worded.Goals as goal
 
 pub returns-then-length-body : goal.returns-then-length-body
 returns-then-length-body c =
-    let e = c.wide_byte-length.ensures.0 in
     let first = c.in-Some.ensures.item.3.1 0 in
-    let tests = c.if-length-body.true in
     let word = c.word_part in
     worded_end _ (omega arith, omega arith) (omega arith) _ (c.all_word_bytes.ensures ∙ all_every (between 33 126) word.result.now ∙ ap (λ (w : Bytes). every (between 33 126) w) word.ensures)

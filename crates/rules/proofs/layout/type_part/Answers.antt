@@ -11,11 +11,9 @@ bounds-body-0 c =
 pub slice_bounds-result-count : goal.slice_bounds-result-count
 slice_bounds-result-count c =
     let s = word_shape _ c.requires in
-    let e = c.wide_byte-start.ensures.0 in
     omega arith
 
 pub slice_bounds-result-start : goal.slice_bounds-result-start
 slice_bounds-result-start c =
     let s = word_shape _ c.requires in
-    let e = c.wide_byte-start.ensures.0 in
     omega arith
