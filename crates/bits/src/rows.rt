@@ -103,9 +103,9 @@ pub fn next_member(rows: &[u64], u: usize, from: usize) -> usize
 // The members of row u of `rows` that are not below `from`, from the smallest up.
 #[derive(Drop)]
 pub struct RowMembers<'a> {
-    rows: &'a [u64],
-    u: usize,
-    from: usize,
+    pub rows: &'a [u64],
+    pub u: usize,
+    pub from: usize,
     ghost has_row: { HasRow rows.now u },
     ghost from_le_row_bits: { from ≤ row_bits },
 }
