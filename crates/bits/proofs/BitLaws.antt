@@ -1,10 +1,12 @@
 -- The laws of `bit`: what a bit can be, and the members of a union, of a difference and of a power of two.
-use Prim.Native.Nat.{ℕ, suc, zero, ◌+◌, ◌-◌, ◌/◌, ◌%◌, ◌^◌, ◌≤◌, ◌<◌, min, max}
+use Prim.Native.Nat.{ℕ, suc, zero, ◌+◌, ◌*◌, ◌-◌, ◌/◌, ◌%◌, ◌^◌, ◌≤◌, ◌<◌, min, max}
+use native.Mathlib.Nat.{mod-lt, zero-lt-suc}
 use native.Mathlib.Omega.{arith}
-use mathlib.Core.Path.{◌≡◌, refl, sym, ap, ◌∙◌}
+use mathlib.Core.Path.{◌≡◌, refl, sym, ap, ap₂, ◌∙◌}
 use mathlib.Core.Logic.{◌↔◌, ◌⊎◌, inl, inr, ⊎_elim}
+use lib.Arith.{digits_div, digits_mod}
 use lib.Pow.{shr-shr}
-use lib.Bits.{bit_and, bit_or}
+use lib.Bits.{bit_and, bit_or, bit_xor, differ, and_step, or_step, xor_step}
 use mir.Syntax.{w64}
 use Rattle.std.specs.Int.{bit_not}
 use Rattle.std.proofs.lemmas.Nat.Bits.{bit_at_lowest, bit_at-suc, bit_at-lt, bit_at-zero, bit_at_above, bit_at_or, bit_at_and, bit_at_not, bit_at-pow_same, bit_at-pow_other}
@@ -59,6 +61,27 @@ pub bit_le : (x y q : ℕ) → (Has x q → Has y q) → bit x q ≤ bit y q
 bit_le x y q =
     on_digits (λ i j. (i ≡ 1 → j ≡ 1) → i ≤ j) (λ h. omega arith) (λ h. omega arith) (λ h. omega (arith, h refl)) (λ h. omega arith) (bit x q) (bit y q)
     (bit_small x q) (bit_small y q)
+
+-- An operation that works on the digits one by one works on the bits.
+module _ (op digit : ℕ → ℕ → ℕ) (step : (a b : ℕ) → op a b ≡ op (a / 2) (b / 2) * 2 + digit (a % 2) (b % 2))
+    (small : (x y : ℕ) → x < 2 → y < 2 → digit x y < 2) where
+  bit_of_op : (q a b : ℕ) → bit (op a b) q ≡ digit (bit a q) (bit b q)
+  bit_of_op zero a b =
+      let d = small (a % 2) (b % 2) (mod-lt a (zero-lt-suc 1)) (mod-lt b (zero-lt-suc 1)) in
+      bit_zero (op a b) ∙ ap (λ (n : ℕ). n % 2) (step a b) ∙ digits_mod (op (a / 2) (b / 2)) d ∙ sym (ap₂ digit (bit_zero a) (bit_zero b))
+  bit_of_op (suc q) a b =
+      let d = small (a % 2) (b % 2) (mod-lt a (zero-lt-suc 1)) (mod-lt b (zero-lt-suc 1)) in
+      bit_suc (op a b) q ∙ ap (λ (n : ℕ). bit (n / 2) q) (step a b) ∙ ap (λ (n : ℕ). bit n q) (digits_div (op (a / 2) (b / 2)) d)
+      ∙ bit_of_op q (a / 2) (b / 2) ∙ sym (ap₂ digit (bit_suc a q) (bit_suc b q))
+
+pub bit_or_lem : (q a b : ℕ) → bit (bit_or a b) q ≡ max (bit a q) (bit b q)
+bit_or_lem = bit_of_op bit_or max or_step (on_digits (λ x y. max x y < 2) (omega arith) (omega arith) (omega arith) (omega arith))
+
+pub bit_and_lem : (q a b : ℕ) → bit (bit_and a b) q ≡ min (bit a q) (bit b q)
+bit_and_lem = bit_of_op bit_and min and_step (on_digits (λ x y. min x y < 2) (omega arith) (omega arith) (omega arith) (omega arith))
+
+pub bit_xor_lem : (q a b : ℕ) → bit (bit_xor a b) q ≡ differ (bit a q) (bit b q)
+bit_xor_lem = bit_of_op bit_xor differ xor_step (on_digits (λ x y. differ x y < 2) (omega arith) (omega arith) (omega arith) (omega arith))
 
 -- The members of `a | b`.
 pub or_members : (a b : ℕ) → Members (bit_or a b) (λ k. Has a k ⊎ Has b k)

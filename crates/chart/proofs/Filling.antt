@@ -11,7 +11,7 @@ use Rattle.pregroup.specs.Types.{Simple}
 use Rattle.pregroup.specs.Order.{Relation}
 use Rattle.pregroup.specs.Vanish.{Contracts}
 use Rattle.figures.specs.Limits.{row_bits}
-use Rattle.bits.specs.Rows.{InRow, HasRow, RowSays, Stored}
+use Rattle.bits.specs.Rows.{InRow, HasRow, RowSays, NextMember, Stored}
 use Rattle.graph.specs.Graph.{Graph, next_at, from_at, to_at, entered_at, label_of, Labelled, EntersBy, by, Upward, VanishTo}
 use Rattle.chart.specs.Chart.{FilledFrom, Fillable, SlotPart, SlotsThere, LinkPart, LinksThere}
 use Rattle.bits.specs.Gathered.{Gathered, Only, itself, within}
@@ -141,6 +141,12 @@ module _ (Le : Relation) (g : Graph) (chart : List ℕ) (up : Upward g) (room : 
 
       fill_one : FilledFrom Le g chart' u
       fill_one w h k = stored_at w h k (same_or_not w u)
+
+-- The first member of the row behind a node is the node behind it.
+pub first_behind_lem :
+    {nodes chart : List ℕ} {u : ℕ} → LinksThere nodes chart u → NextMember chart (next_at nodes u) (next_at nodes u) (next_at nodes u)
+first_behind_lem there =
+    record { from_on = omega arith; within = omega (arith, there.first.small); member = λ h. there.first; least = λ v h l. absurd (omega arith) }
 
 -- One turn: the rows from u on are filled, and the row before it is next.
 pub record Turn (Le : Relation) (g : Graph) (start chart : List ℕ) (u : ℕ) : Type 0 where

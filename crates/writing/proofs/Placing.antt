@@ -2,11 +2,11 @@
 -- whole, and the places of the rest can be counted.
 use Prim.Native.Nat.{ℕ, suc, ◌+◌, ◌≤◌, ◌<◌}
 use native.Mathlib.Omega.{arith}
-use mathlib.Core.Path.{◌≡◌, refl, sym, ◌∙◌}
+use mathlib.Core.Path.{◌≡◌, refl, sym, ap, ◌∙◌}
 use mathlib.Core.List.{List, [], ◌∷◌, ◌++◌}
 use native.Mathlib.Numerals.{add-one}
 use lib.ListN.{length, drop, get_or, set, length-append, drop_of_length-le}
-use lib.Seq.{sets, drop-cons}
+use lib.Seq.{sets, length-sets, drop-cons}
 use Rattle.writing.specs.Placed.{Countable, Placed}
 
 sets_append : (xs ys l : List ℕ) (i j : ℕ) → j ≡ i + length xs → sets l i (xs ++ ys) ≡ sets (sets l i xs) j ys
@@ -19,6 +19,9 @@ placed_append {text} {xs = xs} {ys} {at} {behind} p q =
       put = q.put ∙ (rw p.put (sym (sets_append xs ys text at behind p.next)));
       next = omega (arith, length-append xs ys, p.next, q.next);
     }
+
+pub placed_length : {text after piece : List ℕ} {at behind : ℕ} → Placed text at piece after behind → length after ≡ length text
+placed_length {text} {piece = piece} {at} p = ap length p.put ∙ length-sets text at piece
 
 -- Of two pieces, the first can be put, and then the second.
 pub countable_front : {at : ℕ} {xs : List ℕ} (ys : List ℕ) → Countable at (xs ++ ys) → Countable at xs
