@@ -81,5 +81,5 @@ pub fn words_in_the_way(book: &[u8], line: &[u8], answer: &mut [u16]) -> WayAnsw
         Ok(opening) => opening,
         Err(bad_book) => return WayAnswer::Ordinary(Err(bad_book)),
     };
-    read_or_try(opening.lend(), line, answer)
+    read_or_try(opening.lend(book), line, answer)
 }

@@ -147,7 +147,7 @@ fn render_answer(
         Ok(opening) => opening,
         Err(refusal) => return render_refusal(refusal, text),
     };
-    render_line(opening.lend(), line, values, text)
+    render_line(opening.lend(book), line, values, text)
 }
 
 // Renders what reading a line against a book answered, with the buffer that the answer was written to. For an answer of `read_line` that is

@@ -28,13 +28,13 @@ pub record Open (bytes : Bytes) (names entries alike order targets : List ℕ) (
 abbrev pub IsOpen : Bytes → List ℕ → List ℕ → List ℕ → List ℕ → List ℕ → Type 0
 IsOpen bytes names entries alike order targets = (B : Book) × Open bytes names entries alike order targets B
 
--- What is kept of a book that is open: the book is open, with its entries, the rows of its order and its targets in front of the lists.
-abbrev pub IsOpening : Opening → Type 0
-IsOpening o =
-    IsOpen o.bytes.now o.names (take o.counts.entries o.entries) o.alike (take o.counts.types o.order) (take o.counts.targets o.targets)
+-- What is kept of a book of these bytes that is open: the book is open, with its entries, the rows of its order and its targets in front of the lists.
+abbrev pub IsOpening : Bytes → Opening → Type 0
+IsOpening bytes o =
+    IsOpen bytes o.names (take o.counts.entries o.entries) o.alike (take o.counts.types o.order) (take o.counts.targets o.targets)
     × (o.counts.types ≤ length o.order) × (o.counts.entries ≤ length o.entries) × (o.counts.targets ≤ length o.targets)
 
 -- What opening a book comes to: it is open, or it is refused.
 abbrev pub OpeningSays : Bytes → Result Opening Refusal → Type 0
-OpeningSays bytes (Ok o) = (o.bytes.now ≡ bytes) × IsOpening o
+OpeningSays bytes (Ok o) = IsOpening bytes o
 OpeningSays bytes (Err r) = parse bytes ≡ refused r.number r.value

@@ -24,11 +24,10 @@ pub struct OpenBook<'a> {
     pub targets: &'a [u8],
 }
 
-// What opening a book keeps of it: its bytes, how much it has, and the lists that are lent. Of each list only the first places mean something, as many as
-// the book has.
+// What opening a book keeps of it: how much it has, and the lists that are lent. Of each list only the first places mean something, as many as the book
+// has. It borrows nothing.
 #[derive(Drop)]
-pub struct Opening<'a> {
-    pub bytes: &'a [u8],
+pub struct Opening {
     pub counts: Counts,
     pub names: [u16; NAME_PLACES],
     pub entries: [u16; MAX_ENTRIES],
@@ -37,15 +36,15 @@ pub struct Opening<'a> {
     pub targets: [u8; MAX_TARGETS],
 }
 
-impl<'a> Opening<'a> {
-    // Lends the open book: of each list the places that mean something.
-    pub fn lend(&'a self) -> OpenBook<'a>
-        requires { IsOpening self.now }
-        ensures bytes { result.bytes.now ≡ self.now.bytes.now }
+impl Opening {
+    // Lends the open book, whose bytes are `book`: of each list the places that mean something.
+    pub fn lend<'a>(&'a self, book: &'a [u8]) -> OpenBook<'a>
+        requires { IsOpening book.now self.now }
+        ensures bytes { result.bytes.now ≡ book.now }
         ensures fact { IsOpen result.bytes.now result.names.now result.entries.now result.alike.now result.order.now result.targets.now }
     {
         OpenBook {
-            bytes: self.bytes,
+            bytes: book,
             names: &self.names,
             entries: &self.entries[..self.counts.entries],
             alike: &self.alike,
@@ -56,7 +55,7 @@ impl<'a> Opening<'a> {
 }
 
 // Opens a book: any bytes, of any length.
-pub fn open_book(book: &[u8]) -> Result<Opening<'_>, Refusal>
+pub fn open_book(book: &[u8]) -> Result<Opening, Refusal>
     ensures { OpeningSays book.now result }
 {
     let mut names = [0u16; NAME_PLACES];
@@ -68,7 +67,6 @@ pub fn open_book(book: &[u8]) -> Result<Opening<'_>, Refusal>
     thread_entries(book, &entries[..counts.entries], &mut alike);
     let order = close(&direct, counts.types).rows;
     Ok(Opening {
-        bytes: book,
         counts,
         names,
         entries,

@@ -63,5 +63,5 @@ pub fn read_line(book: &[u8], line: &[u8], answer: &mut [u16]) -> Result<usize, 
     let opening = open_book(book)?;
     let mut same = [0u16; MAX_ENTRIES];
     let mut chart = [0u64; CHART_WORDS];
-    read_open(opening.lend(), &mut same, &mut chart, line, answer)
+    read_open(opening.lend(book), &mut same, &mut chart, line, answer)
 }

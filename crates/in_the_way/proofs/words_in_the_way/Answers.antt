@@ -12,5 +12,5 @@ returns-in-Err c =
 
 pub returns : goal.returns
 returns c =
-    let g = rw (c.lend.ensures.bytes, c.in-Ok.ensures.0) at c.read_or_try.ensures in
+    let g = rw c.lend.ensures.bytes at c.read_or_try.ensures in
     record { gives = g; way_promised = gives_way_promised _ _ _ g }

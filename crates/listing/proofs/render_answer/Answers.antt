@@ -1,5 +1,4 @@
 -- `listing::render_answer` meets its contract: a book is opened, or its refusal is rendered.
-use mathlib.Core.Path.{◌∙◌}
 use Rattle.listing.proofs.Rendering.{book_refused}
 use Rattle.listing.proofs.render_answer.Goals as goal
 
@@ -9,4 +8,4 @@ returns-in-Err c =
     rw (← book_refused a.book.now a.line.now a.values.now _ _ (c.in-Err.ensures)) c.render_refusal.ensures
 
 pub returns : goal.returns
-returns c = rw (c.lend.ensures.bytes ∙ c.in-Ok.ensures.0) at c.render_line.ensures
+returns c = rw c.lend.ensures.bytes at c.render_line.ensures

@@ -2,7 +2,7 @@
 use borrow.Author.Rules.{rules}
 use native.Mathlib.Omega.{arith}
 use Prim.Native.Nat.{◌≤◌}
-use mathlib.Core.Path.{refl, sym}
+use mathlib.Core.Path.{sym}
 use lib.ListN.{length}
 use lib.Seq.{length-take-le}
 use Rattle.std.proofs.lemmas.Result.{err_from_is_err_and}
@@ -39,4 +39,4 @@ returns c =
     let opened = c.in_ok-counts.ensures.1 in
     let room : c.in_ok-counts.counts.types ≤ length c.close.result.rows = omega (arith, opened.named.few) in
     let is-open = is_open _ _ _ _ _ c.in_ok-counts.ensures.0 _ _ room opened c.thread_entries.ensures c.close.ensures in
-    (refl, ((c.in_ok-counts.ensures.0, is-open), room, opened.entries_whole.room, omega (arith, opened.few_targets, c.scan_book.auto.targets)))
+    ((c.in_ok-counts.ensures.0, is-open), room, opened.entries_whole.room, omega (arith, opened.few_targets, c.scan_book.auto.targets))

@@ -21,5 +21,5 @@ returns-in_err-opening c =
 
 pub returns : goal.returns
 returns c =
-    let g = rw (c.lend.ensures.bytes, c.in_ok-opening.ensures.0) at c.read_open.ensures.gives in
+    let g = rw c.lend.ensures.bytes at c.read_open.ensures.gives in
     record { gives = g; promised = gives_promised _ _ _ g }
