@@ -5,7 +5,7 @@ use native.Mathlib.Numerals.{add-one}
 use native.Mathlib.Omega.{arith}
 use native.Mathlib.Decide.{dec_lt}
 use mathlib.Core.Path.{◌≡◌, refl, sym, ap, ap₂, ◌∙◌}
-use mathlib.Core.Bool.{Bool, true}
+use mathlib.Core.Bool.{Bool, true, false, false≢true}
 use mathlib.Core.List.{List}
 use lib.Dec.{eqb}
 use lib.ListN.{length, get_or}
@@ -88,3 +88,16 @@ first_other_tells {i} {r} {s} {a} {b} first second f e = (
       ext_get_or 0 a b e (λ k l. agree_more first second f.equal same k (omega arith)),
   λ t. eq-eqb r s (first.value ∙ ap (λ (l : List ℕ). little_endian 8 l i) t ∙ sym second.value),
 )
+
+module _ {a b : List ℕ} where
+  -- Lists of two lengths differ.
+  pub other_length : (length a ≡ length b → ⊥) → Tells a b false
+  other_length h = (λ e. absurd (false≢true e), λ e. absurd (h (ap length e)))
+
+  -- Lists with another byte at some place differ ..
+  pub other_byte : (k : ℕ) → (get_or {A = ℕ} a k 0 ≡ get_or {A = ℕ} b k 0 → ⊥) → Tells a b false
+  other_byte k h = (λ e. absurd (false≢true e), λ e. absurd (h (ap (λ (l : List ℕ). get_or {A = ℕ} l k 0) e)))
+
+  -- .. and lists of one length that agree at all places are the same.
+  pub all_bytes : {to : ℕ} → length a ≡ length b → length a ≤ to → Agree a b to → Tells a b true
+  all_bytes e f agree = (λ t. ext_get_or 0 a b e (λ k l. agree k (omega arith)), λ t. refl)

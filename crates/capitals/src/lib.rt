@@ -53,7 +53,7 @@ fn same_eights(a: &[u8], b: &[u8], from: usize) -> bool
     requires { (length a.now ≡ length b.now) × (from + 8 ≤ length a.now) }
     ensures { (result ≡ true) ↔ SameLetters a.now b.now from (length a.now) }
 {
-    for k in 0..(a.len() - from) / 8 {
+    for k in 0..(a.len() - from - 1) / 8 {
         let i = from + 8 * k;
         if small_eight(eight_bytes(a, i)) != small_eight(eight_bytes(b, i)) {
             return false;

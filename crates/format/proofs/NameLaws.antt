@@ -62,6 +62,19 @@ module _ (bytes : Bytes) (offsets : List ℕ) (count : ℕ) where
       number_first (body_at bytes 0) (bodies_at bytes offsets count) name i (omega arith) (λ j l e. before j l (e ∙ bodies_at_lem j (omega arith)))
       (λ l. let k : i < count = omega arith in there k ∙ sym (bodies_at_lem i k))
 
+pub name_letter : (byte : ℕ) → (97 ≤ byte) × (byte ≤ 122) → true ≡ name_byte byte
+unfolding name_byte
+name_letter byte h = rw (inside 97 122 byte h)
+
+pub name_byte_no : (byte : ℕ) → (97 ≤ byte → byte ≤ 122 → ⊥) → (48 ≤ byte → byte ≤ 57 → ⊥) → false ≡ name_byte byte
+unfolding name_byte
+name_byte_no byte h k = rw (outside 97 122 byte h, outside 48 57 byte k)
+
+-- Below the letters a byte of a name is a digit, and from the first letter on it goes up to the last.
+pub name_below : (byte : ℕ) → byte < 97 → name_byte byte ≡ between 48 57 byte
+unfolding name_byte
+name_below byte h = rw (outside 97 122 byte (omega arith))
+
 -- The form of a name, by the tests in their order: the first that fails decides, and the last is the answer.
 module _ (body : Bytes) where
   pub name_length_no : (1 ≤ length body → length body ≤ max_name → ⊥) → false ≡ is_name body

@@ -2,7 +2,7 @@
 ghost use Rattle.std.specs.Prelude.{◌≡◌, ◌≤◌, ◌<◌, length};
 ghost use Rattle.format.specs.Records.{between, bodies_at, Whole};
 ghost use Rattle.figures.specs.Limits.{max_name, max_types};
-ghost use Rattle.format.specs.Names.{name_byte, is_name, NameEnds, number_of, name_keys, name_places, Named, Keeping};
+ghost use Rattle.format.specs.Names.{is_name, NameEnds, number_of, name_keys, name_places, Named, Keeping};
 
 use crate::layout::body_at;
 use bytewise::compare::same;
@@ -21,26 +21,18 @@ pub fn is_letter(byte: u8) -> bool
     byte.is_ascii_lowercase()
 }
 
-// Whether a byte may stand in a name. Most bytes of a name are letters, so these take the shortest way: `is_ascii_lowercase` or `is_ascii_digit`
-// takes half as many instructions more.
-#[tactic(auto, unfolding(crate::specs::Names::name_byte))]
-fn is_name_byte(byte: u8) -> bool
-    ensures { result ≡ name_byte byte }
-{
-    if byte < b'a' {
-        byte.is_ascii_digit()
-    } else {
-        byte <= b'z'
-    }
-}
-
-// The end of the name that starts at `at`.
+// The end of the name that starts at `at`. Most bytes of a name are letters, so these take the shortest way.
 pub fn name_end(text: &[u8], at: usize) -> usize
     requires { at ≤ length text.now }
     ensures { NameEnds text.now at result }
 {
     for i in at..text.len() {
-        if !is_name_byte(text[i]) {
+        let byte = text[i];
+        if byte < b'a' {
+            if !byte.is_ascii_digit() {
+                return i;
+            }
+        } else if b'z' < byte {
             return i;
         }
     }
@@ -85,6 +77,7 @@ pub fn search_name(book: &[u8], names: &[u16], types: usize, name: &[u8]) -> usi
 
 // The same, where the last name of the key is tried first. The search is lent `[..]` of two lists: a list that is handed on as it came is put in
 // memory for every name, even where no search follows.
+#[inline(always)]
 #[tactic(auto, using(crate::proofs::NameLaws::number_kept))]
 pub fn find_name(book: &[u8], names: &[u16], types: usize, name: &[u8]) -> usize
     requires { Named book.now names.now types × (1 ≤ length name.now) × (length name.now ≤ max_name) }

@@ -1,11 +1,12 @@
--- A stretch of places turned round, one simple type moved after another; and a type that is turned is its adjoint.
+-- A stretch of places turned one pair after another, from both ends; and a type that is turned is its adjoint.
 use Prim.Native.Nat.{ℕ, suc, ◌+◌, ◌-◌, ◌*◌, ◌≤◌, ◌<◌}
 use native.Mathlib.Omega.{arith}
-use native.Mathlib.Decide.{dec_lt}
+use native.Mathlib.Decide.{ℕ_discrete, dec_lt}
 use native.Mathlib.Nat.{zero-add, suc-add}
 use mathlib.Core.Path.{◌≡◌, refl, sym, ap, ◌∙◌}
 use mathlib.Core.List.{List, [], ◌∷◌, ◌++◌}
-use lib.ListN.{length, get_or, length-append, length-take, length-drop, get_or-append}
+use lib.ListN.{length, get_or, set, length-set, length-append, length-take, length-drop, get_or-append}
+use lib.Seq.{get_or-set_same, get_or-set_other}
 use borrow.Rule.Slice.PartMut.{put_mid}
 use Rattle.std.specs.List.{between}
 use Rattle.std.proofs.Common.{rules}
@@ -18,10 +19,73 @@ use Rattle.notation.specs.declared.adjoint.Side.{Side}
 use Rattle.notation.specs.declared.adjoint.Side.TheVariants.{Left, Right}
 use Rattle.notation.specs.Places.{Holds, one, Movable, moved, Turnable, Turned, Tame}
 
--- The simple types before i are moved, those from i on are not yet.
-pub record Shifted (side : Side) (simples simples' : List ℕ) (i : ℕ) : Type 0 where
-  pub moved : (k : ℕ) → k < i → get_or {A = ℕ} simples' k 0 ≡ moved side (get_or {A = ℕ} simples k 0)
-  pub rest : (k : ℕ) → i ≤ k → get_or {A = ℕ} simples' k 0 ≡ get_or {A = ℕ} simples k 0
+-- The i simple types at either end are turned, those between are not yet.
+pub record Turning (side : Side) (simples simples' : List ℕ) (i : ℕ) : Type 0 where
+  pub size : length simples' ≡ length simples
+  pub front : (k : ℕ) → k < i → k < length simples → get_or {A = ℕ} simples' k 0 ≡ moved side (get_or {A = ℕ} simples (length simples - suc k) 0)
+  pub back : (k : ℕ) → length simples ≤ k + i → k < length simples → get_or {A = ℕ} simples' k 0 ≡ moved side (get_or {A = ℕ} simples (length simples - suc k) 0)
+  pub middle : (k : ℕ) → i ≤ k → k + i < length simples → get_or {A = ℕ} simples' k 0 ≡ get_or {A = ℕ} simples k 0
+
+pub turning_start : (side : Side) (simples : List ℕ) → Turning side simples simples 0
+turning_start side simples =
+    record { size = refl; front = λ k l m. absurd (omega arith); back = λ k l m. absurd (omega arith); middle = λ k l m. refl }
+
+-- One pair more.
+module _ {side : Side} {simples simples' : List ℕ} {i : ℕ} (t : Turning side simples simples' i) (h : i + i < length simples) (j : ℕ)
+    (sum : j + suc i ≡ length simples) (x y : ℕ) (is_x : x ≡ moved side (get_or {A = ℕ} simples' i 0)) (is_y : y ≡ moved side (get_or {A = ℕ} simples' j 0)) where
+  abbrev next : List ℕ
+  next = set (set simples' i y) j x
+
+  other : (k : ℕ) → (k ≡ i → ⊥) → (k ≡ j → ⊥) → get_or {A = ℕ} next k 0 ≡ get_or {A = ℕ} simples' k 0
+  other k a b = get_or-set_other (set simples' i y) j k x 0 b ∙ get_or-set_other simples' i k y 0 a
+
+  at_back : get_or {A = ℕ} next j 0 ≡ moved side (get_or {A = ℕ} simples i 0)
+  at_back =
+      get_or-set_same (set simples' i y) j x 0 (omega (arith, length-set simples' i y, t.size, sum)) ∙ is_x
+      ∙ ap (moved side) (t.middle i (omega arith) h)
+
+  at_front : get_or {A = ℕ} next i 0 ≡ moved side (get_or {A = ℕ} simples j 0)
+  at_front = go (ℕ_discrete i j)
+    where
+      go : Dec (i ≡ j) → get_or {A = ℕ} next i 0 ≡ moved side (get_or {A = ℕ} simples j 0)
+      go (yes e) = ap (λ (k : ℕ). get_or {A = ℕ} next k 0) e ∙ at_back ∙ ap (λ (k : ℕ). moved side (get_or {A = ℕ} simples k 0)) e
+      go (no d) =
+          get_or-set_other (set simples' i y) j i x 0 d ∙ get_or-set_same simples' i y 0 (omega (arith, t.size)) ∙ is_y
+          ∙ ap (moved side) (t.middle j (omega (arith, sum)) (omega (arith, sum)))
+
+  pub turning_next : Turning side simples next (i + 1)
+  turning_next =
+      record {
+        size = length-set (set simples' i y) j x ∙ length-set simples' i y ∙ t.size;
+        front = λ k l m. fronts k l m (ℕ_discrete k i);
+        back = λ k l m. backs k l m (ℕ_discrete k j);
+        middle = λ k l m. other k (omega arith) (omega (arith, sum)) ∙ t.middle k (omega arith) (omega arith);
+      }
+    where
+      fronts : (k : ℕ) → k < i + 1 → k < length simples → Dec (k ≡ i) → get_or {A = ℕ} next k 0 ≡ moved side (get_or {A = ℕ} simples (length simples - suc k) 0)
+      fronts k l m (yes e) =
+          let at : j ≡ length simples - suc k = omega (arith, sum) in
+          ap (λ (n : ℕ). get_or {A = ℕ} next n 0) e ∙ at_front ∙ ap (λ (n : ℕ). moved side (get_or {A = ℕ} simples n 0)) at
+      fronts k l m (no d) = other k d (omega (arith, d, sum)) ∙ t.front k (omega (arith, d)) m
+
+      backs : (k : ℕ) → length simples ≤ k + (i + 1) → k < length simples → Dec (k ≡ j) → get_or {A = ℕ} next k 0 ≡ moved side (get_or {A = ℕ} simples (length simples - suc k) 0)
+      backs k l m (yes e) =
+          let at : i ≡ length simples - suc k = omega (arith, sum) in
+          ap (λ (n : ℕ). get_or {A = ℕ} next n 0) e ∙ at_back ∙ ap (λ (n : ℕ). moved side (get_or {A = ℕ} simples n 0)) at
+      backs k l m (no d) = other k (omega (arith, d, sum)) d ∙ t.back k (omega (arith, d, sum)) m
+
+pub turning_end : {side : Side} {simples simples' : List ℕ} {i : ℕ} → Turning side simples simples' i → length simples ≤ i + i → Turned side simples simples'
+turning_end {side} {simples} {simples'} {i} t h = record { turned = λ k l. go k l (dec_lt k i) }
+  where
+    go : (k : ℕ) → k < length simples → Dec (k < i) → get_or {A = ℕ} simples' k 0 ≡ moved side (get_or {A = ℕ} simples (length simples - suc k) 0)
+    go k l (yes before) = t.front k before l
+    go k l (no on) = t.back k (omega (arith, on)) l
+
+-- What can still be moved.
+pub turning_movable :
+    {side : Side} {simples simples' : List ℕ} {i : ℕ} → Turnable simples → Turning side simples simples' i → (k : ℕ) → i ≤ k → k + i < length simples
+    → Movable (get_or {A = ℕ} simples' k 0)
+turning_movable able t k h l = rw (t.middle k h l) (able.movable k (omega arith))
 
 -- The simple types of a joined string behind its first part.
 pub simple_behind : (X Y : PregroupType) (k : ℕ) → get_or (X ++ Y) (length X + k) (plain 0) ≡ get_or Y k (plain 0)

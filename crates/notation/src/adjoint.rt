@@ -32,8 +32,13 @@ pub fn turn(simples: &mut [u16], side: Side)
         *simple = shift(*simple, side);
         return;
     }
-    simples.reverse();
-    for simple in simples.iter_mut() {
-        *simple = shift(*simple, side);
+    // Both ends are turned, until they meet: `reverse` and a pass that shifts take twice the time of a short type.
+    let count = simples.len();
+    for i in 0..(count + 1) / 2 {
+        let j = count - 1 - i;
+        let x = shift(simples[i], side);
+        let y = shift(simples[j], side);
+        simples[i] = y;
+        simples[j] = x;
     }
 }

@@ -1,5 +1,5 @@
-use Rattle.notation.proofs.TurnLaws.{Shifted}
+use Rattle.notation.proofs.TurnLaws.{Turning}
 use Rattle.notation.proofs.adjoint.turn.Given as goal
 
-abbrev pub invariant-loop-simple : goal.invariant-loop-simple
-invariant-loop-simple l = Shifted l.side l.initial.simples l.simples l.simple-index
+abbrev pub invariant-loop-i : goal.invariant-loop-i
+invariant-loop-i l = Turning l.side l.initial.simples l.simples l.i
