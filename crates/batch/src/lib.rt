@@ -23,14 +23,21 @@ pub fn read_batch(book: &[u8], lines: &[u8], answers: &mut [u16]) -> Result<usiz
     let Some(number_of_lines) = count_lines(lines) else {
         return Err(Cause::BadBatch.with(0));
     };
-    let opening = open_book(book)?;
-    let mut same = [0u16; MAX_ENTRIES];
-    let mut chart = [0u64; CHART_WORDS];
-    let mut store = [0u16; MAX_BATCH_VALUES];
-    let used = read_parts(opening.lend(), &mut same, &mut chart, lines, &mut store);
-    if answers.len() < used {
-        return Err(Cause::AnswersTooLong.with(used));
+    // The lists stand in the arm that uses them: a list of the whole function is cleared at its start, for a refused batch too, and once more where it
+    // is made.
+    let opened = open_book(book);
+    match &opened {
+        Ok(opening) => {
+            let mut same = [0u16; MAX_ENTRIES];
+            let mut chart = [0u64; CHART_WORDS];
+            let mut store = [0u16; MAX_BATCH_VALUES];
+            let used = read_parts(opening.lend(book), &mut same, &mut chart, lines, &mut store);
+            if answers.len() < used {
+                return Err(Cause::AnswersTooLong.with(used));
+            }
+            copy_front(&store[..used], answers);
+            Ok(number_of_lines)
+        }
+        Err(bad_book) => Err(*bad_book),
     }
-    copy_front(&store[..used], answers);
-    Ok(number_of_lines)
 }

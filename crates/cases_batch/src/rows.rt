@@ -74,15 +74,16 @@ impl fmt::Display for Shown<'_> {
     }
 }
 
-// Writes the row of a batch, with so many values lent, or none where there are not so many.
+// Writes the row of a batch, with so many values lent, or none where there are not so many. The values stand where they are lent: a list of the whole
+// function is cleared for each number that is passed over.
 fn row(rt: &impl Print, batch: Case<'_>, lent: usize) -> io::Result<()> {
-    let mut values = [MARK; VALUES];
-    let Some(answers) = values.get_mut(..lent) else {
-        return Ok(());
-    };
-    let outcome = Outcome(batch::read_batch(batch.book, batch.text, answers));
-    io::writer(rt).write_all(batch.name)?;
-    println!(rt; " lent {lent} {outcome}{}", Shown(changed(&values)))
+    if lent <= VALUES {
+        let mut values = [MARK; VALUES];
+        let outcome = Outcome(batch::read_batch(batch.book, batch.text, &mut values[..lent]));
+        io::writer(rt).write_all(batch.name)?;
+        println!(rt; " lent {lent} {outcome}{}", Shown(changed(&values)))?;
+    }
+    Ok(())
 }
 
 // The book of the cases that come next, and the batch of the last one.

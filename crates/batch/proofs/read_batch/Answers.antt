@@ -2,11 +2,10 @@
 -- definition answers.
 use native.Mathlib.Omega.{arith}
 use Prim.Native.Nat.{ℕ}
-use mathlib.Core.Path.{sym, ◌∙◌}
+use mathlib.Core.Path.{sym}
 use lib.ListN.{length-take, length-replicate}
 use lib.Seq.{length-take-le}
 use Rattle.figures.specs.Limits.{chart_words}
-use Rattle.std.proofs.lemmas.Result.{err_from_is_err_and}
 use Rattle.opening.proofs.OpeningLaws.{none_threaded}
 use Rattle.batch.proofs.BatchPromises.{gives_batch_promised}
 use Rattle.batch.proofs.BatchLaws.{gives_bad_batch, gives_bad_book, can_store, gives_too_long, gives_answers}
@@ -29,7 +28,7 @@ pub returns-then-answers-used : goal.returns-then-answers-used
 returns-then-answers-used c =
     let split = c.in-Some.ensures in
     let a = c.args in
-    let same = c.lend.ensures.bytes ∙ c.in_ok-opening.ensures.0 in
+    let same = c.lend.ensures.bytes in
     let parsed = rw same at c.lend.ensures.fact.1.parsed in
     let stored = rw same at c.read_parts-used.ensures in
     let g = gives_too_long a.book.now a.lines.now a.answers.now split.0 split.1 parsed c.read_parts-used.result _ stored (omega arith) in
@@ -44,19 +43,18 @@ slice_bounds-copy_front-end c = sym (length-take-le _ _ c.read_parts-used.ensure
 pub copy_front-requires : goal.copy_front-requires
 copy_front-requires c = simp length-take (omega arith)
 
-pub returns-in_err-opening : goal.returns-in_err-opening
-returns-in_err-opening c =
+pub returns-in-Err : goal.returns-in-Err
+returns-in-Err c =
     let split = c.in-Some.ensures in
     let a = c.args in
-    let g = gives_bad_book a.book.now a.lines.now a.answers.now split.0 split.1 c.in_err-opening.ensures in
-    let p = err_from_is_err_and c.from_residual.result c.from_residual.ensures.1 in
-    rw (p.1, p.2) (record { gives = g; batch_promised = gives_batch_promised _ _ _ g })
+    let g = gives_bad_book a.book.now a.lines.now a.answers.now split.0 split.1 (rw c.in-Err.is at c.open_book-opened.ensures) in
+    record { gives = g; batch_promised = gives_batch_promised _ _ _ g }
 
-pub returns : goal.returns
-returns c =
+pub returns-else-answers-used : goal.returns-else-answers-used
+returns-else-answers-used c =
     let split = c.in-Some.ensures in
     let a = c.args in
-    let same = c.lend.ensures.bytes ∙ c.in_ok-opening.ensures.0 in
+    let same = c.lend.ensures.bytes in
     let parsed = rw same at c.lend.ensures.fact.1.parsed in
     let stored = rw same at c.read_parts-used.ensures in
     let g = gives_answers a.book.now a.lines.now a.answers.now split.0 split.1 parsed c.read_parts-used.result _ stored _ split.2 (omega arith) in
