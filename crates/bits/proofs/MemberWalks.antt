@@ -1,5 +1,5 @@
 -- A walk over the members of a row by `rows::members`: each turn joins the part of the member that it gives to the row that is gathered.
-use Prim.Native.Nat.{ℕ, ◌≤◌}
+use Prim.Native.Nat.{ℕ, ◌+◌, ◌≤◌}
 use native.Mathlib.Omega.{arith}
 use mathlib.Core.Path.{◌≡◌, ◌∙◌}
 use mathlib.Core.Logic.{◌⊎◌}
@@ -35,6 +35,19 @@ module _ {rows : List ℕ} {u from : ℕ} {Start : ℕ → Type 0} {Part : ℕ �
     from_on = omega arith;
     gathered = gather_starts Start Part row it.from says (λ m v h p. omega (arith, parts.from_on m v p));
   }
+
+  -- The part of the first number is joined beforehand, and the walk begins behind it.
+  pub walks_behind :
+      {only : List ℕ} → RowSays only 0 Start → RowSays row 0 (λ v. InRow only 0 v ⊎ Part from v)
+      → (it.rows.now ≡ rows) × (it.u ≡ u) × (it.from ≡ from + 1) → Walks rows u from Start Part row it
+  walks_behind {only} says joins made =
+      let start : GatheredTo only Start Part from = gather_starts Start Part only from says (λ m v h p. omega (arith, parts.from_on m v p)) in
+      record {
+        same_rows = made.0;
+        same_row = made.1;
+        from_on = omega (arith, made.2);
+        gathered = rw made.2 (gather_one Start Part only row from start joins);
+      }
 
   module _ (walks : Walks rows u from Start Part row it) where
     next_is : (v : ℕ) → NextMember it.rows.now it.u it.from v → NextMember rows u it.from v

@@ -46,7 +46,8 @@ fn join_row(order: &[u64], nodes: &[u64], chart: &[u64], row: Row, x: u16, y: us
     }
 }
 
-// The row of the simple node u: itself, and what it can be linked past. The first member of the row behind u is the node behind u.
+// The row of the simple node u: itself, and what it can be linked past. The first member of the row behind u is the node behind u, so it is not
+// searched for.
 fn simple_row(order: &[u64], nodes: &[u64], chart: &[u64], u: usize) -> Row
     requires u_lt_row_bits { u < row_bits }
     requires links_there { LinksThere nodes.now chart.now u }
@@ -55,8 +56,9 @@ fn simple_row(order: &[u64], nodes: &[u64], chart: &[u64], u: usize) -> Row
 {
     let behind = next_at(nodes, u);
     let x = simple_at(nodes, u);
-    let mut row = rows::put(rows::empty(), u);
-    for y in rows::members(chart, behind, behind) {
+    let only = rows::put(rows::empty(), u);
+    let mut row = join_row(order, nodes, chart, only, x, behind);
+    for y in rows::members(chart, behind, behind + 1) {
         row = join_row(order, nodes, chart, row, x, y);
     }
     row
