@@ -23,8 +23,8 @@ pub fn read_batch(book: &[u8], lines: &[u8], answers: &mut [u16]) -> Result<usiz
     let Some(number_of_lines) = count_lines(lines) else {
         return Err(Cause::BadBatch.with(0));
     };
-    // The lists stand in the arm that uses them: a list of the whole function is cleared at its start, for a refused batch too, and once more where it
-    // is made.
+    // The lists stand in the arm that uses them. A list of the whole function is cleared at its start, for a refused batch too, and again where it is
+    // made.
     let opened = open_book(book);
     match &opened {
         Ok(opening) => {

@@ -10,7 +10,7 @@ use figures::limits::{MAX_BATCH, MAX_LINES};
 // The byte that closes a line.
 pub const LINE_BREAK: u8 = b'\n';
 
-// How many bytes close a line. `filter` and `count` take three times the instructions, since the compiler then takes byte by byte.
+// How many bytes close a line. `filter` and `count` take three times the instructions, since the compiler then takes one byte at a time.
 fn count_breaks(batch: &[u8]) -> usize
     ensures { result ≡ count_by (λ byte. byte == line_break) batch.now }
 {

@@ -2,8 +2,8 @@
 ghost use Rattle.std.specs.Prelude.{◌≡◌, true, ◌+◌, ◌≤◌, ◌<◌, length};
 ghost use Rattle.bytewise.specs.Compare.{ReadsNumber, FirstOther};
 
-// Whether a and b hold the same bytes: the first eight that are not equal tell, or the last eight. The library's `==` is a call, and a search for a
-// name makes one for each name: it takes 1.5 times the instructions of a book with 64 types, and twice those of equal lists of 9 to 15 bytes.
+// Whether a and b hold the same bytes: the first eight that are not equal tell, or the last eight. The library's `==` is a call, which a search for a
+// name makes for each name. For equal lists of 9 to 15 bytes it takes twice the instructions.
 #[tactic(auto, using(crate::proofs::Comparing::first_other_tells, crate::proofs::Comparing::other_length))]
 pub fn same(a: &[u8], b: &[u8]) -> bool
     ensures { (result ≡ true → a.now ≡ b.now) × (a.now ≡ b.now → result ≡ true) }

@@ -74,7 +74,7 @@ impl fmt::Display for Shown<'_> {
     }
 }
 
-// Writes the row of a batch, with so many values lent, or none where there are not so many. The values stand where they are lent: a list of the whole
+// Writes the row of a batch, with so many values lent, or none where there are not so many. The array is made behind the test. An array of the whole
 // function is cleared for each number that is passed over.
 fn row(rt: &impl Print, batch: Case<'_>, lent: usize) -> io::Result<()> {
     if lent <= VALUES {

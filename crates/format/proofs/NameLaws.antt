@@ -62,6 +62,7 @@ module _ (bytes : Bytes) (offsets : List ℕ) (count : ℕ) where
       number_first (body_at bytes 0) (bodies_at bytes offsets count) name i (omega arith) (λ j l e. before j l (e ∙ bodies_at_lem j (omega arith)))
       (λ l. let k : i < count = omega arith in there k ∙ sym (bodies_at_lem i k))
 
+-- From the first letter on, a byte of a name goes up to the last.
 pub name_letter : (byte : ℕ) → (97 ≤ byte) × (byte ≤ 122) → true ≡ name_byte byte
 unfolding name_byte
 name_letter byte h = rw (inside 97 122 byte h)
@@ -70,7 +71,7 @@ pub name_byte_no : (byte : ℕ) → (97 ≤ byte → byte ≤ 122 → ⊥) → (
 unfolding name_byte
 name_byte_no byte h k = rw (outside 97 122 byte h, outside 48 57 byte k)
 
--- Below the letters a byte of a name is a digit, and from the first letter on it goes up to the last.
+-- Below the letters a byte of a name is a digit.
 pub name_below : (byte : ℕ) → byte < 97 → name_byte byte ≡ between 48 57 byte
 unfolding name_byte
 name_below byte h = rw (outside 97 122 byte (omega arith))

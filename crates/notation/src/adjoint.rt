@@ -32,7 +32,7 @@ pub fn turn(simples: &mut [u16], side: Side)
         *simple = shift(*simple, side);
         return;
     }
-    // Both ends are turned, until they meet: `reverse` and a pass that shifts take twice the time of a short type.
+    // Both ends are turned until they meet. `reverse` and a second pass that shifts take longer for a short type.
     let count = simples.len();
     for i in 0..(count + 1) / 2 {
         let j = count - 1 - i;
