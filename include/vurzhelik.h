@@ -6,7 +6,7 @@
  * pairs, answer, words, answers) overlaps nothing else that is passed. Nothing tests this.
  * Threads. Nothing is kept between calls and nothing is allocated: several threads may call at once.
  * Stack. Reading a line takes up to 132 KiB of the caller's stack where it was measured, also with the words in its way, reading a batch
- * 152 KiB, checking a book 7 KiB. This was measured on code that an older kit built; by its code, reading takes 6 KiB more today.
+ * 152 KiB, checking a book 7 KiB. This was measured on code that an older kit built; on code of rattle-kit-13f it was 116, 135 and 6 KiB.
  * WARNING: a thread with a small stack overflows. Give one that reads lines 256 KiB or more (pthread_attr_setstacksize). With glibc 132 KiB
  * are too few; its default, the limit on the stack, commonly 8 MiB, is ample. musl's default of 128 KiB is too small for either. */
 #ifndef VURZHELIK_H
