@@ -25,8 +25,7 @@ pub fn read_batch(book: &[u8], lines: &[u8], answers: &mut [u16]) -> Result<usiz
     };
     // The lists stand in the arm that uses them. A list of the whole function is cleared at its start, for a refused batch too, and again where it is
     // made.
-    let opened = open_book(book);
-    match &opened {
+    match open_book(book) {
         Ok(opening) => {
             let mut same = [0u16; MAX_ENTRIES];
             let mut chart = [0u64; CHART_WORDS];
@@ -38,6 +37,6 @@ pub fn read_batch(book: &[u8], lines: &[u8], answers: &mut [u16]) -> Result<usiz
             copy_front(&store[..used], answers);
             Ok(number_of_lines)
         }
-        Err(bad_book) => Err(*bad_book),
+        Err(bad_book) => Err(bad_book),
     }
 }

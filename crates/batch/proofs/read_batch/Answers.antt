@@ -28,9 +28,8 @@ pub returns-then-answers-used : goal.returns-then-answers-used
 returns-then-answers-used c =
     let split = c.in-Some.ensures in
     let a = c.args in
-    let same = c.lend.ensures.bytes in
-    let parsed = rw same at c.lend.ensures.fact.1.parsed in
-    let stored = rw same at c.read_parts-used.ensures in
+    let parsed = rw c.lend.ensures.bytes at c.lend.ensures.fact.1.parsed in
+    let stored = rw c.lend.ensures.bytes at c.read_parts-used.ensures in
     let g = gives_too_long a.book.now a.lines.now a.answers.now split.0 split.1 parsed c.read_parts-used.result _ stored (omega arith) in
     rw c.with-then-answers-used.ensures (record { gives = g; batch_promised = gives_batch_promised _ _ _ g })
 
@@ -47,15 +46,14 @@ pub returns-in-Err : goal.returns-in-Err
 returns-in-Err c =
     let split = c.in-Some.ensures in
     let a = c.args in
-    let g = gives_bad_book a.book.now a.lines.now a.answers.now split.0 split.1 (rw c.in-Err.is at c.open_book-opened.ensures) in
+    let g = gives_bad_book a.book.now a.lines.now a.answers.now split.0 split.1 c.in-Err.ensures in
     record { gives = g; batch_promised = gives_batch_promised _ _ _ g }
 
 pub returns-else-answers-used : goal.returns-else-answers-used
 returns-else-answers-used c =
     let split = c.in-Some.ensures in
     let a = c.args in
-    let same = c.lend.ensures.bytes in
-    let parsed = rw same at c.lend.ensures.fact.1.parsed in
-    let stored = rw same at c.read_parts-used.ensures in
+    let parsed = rw c.lend.ensures.bytes at c.lend.ensures.fact.1.parsed in
+    let stored = rw c.lend.ensures.bytes at c.read_parts-used.ensures in
     let g = gives_answers a.book.now a.lines.now a.answers.now split.0 split.1 parsed c.read_parts-used.result _ stored _ split.2 (omega arith) in
     record { gives = rw c.copy_front.ensures g; batch_promised = rw c.copy_front.ensures (gives_batch_promised _ _ _ g) }
